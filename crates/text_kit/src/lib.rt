@@ -1,0 +1,14 @@
+//! Text, lists and boxed values that contracts see as what they hold: a text as its bytes, a list
+//! as its elements, a boxed value as the value. No pointer or capacity stands in a value of these
+//! types, so a contract can say that one value equals what a definition gives.
+#![tactic(auto)]
+
+mod boxed;
+mod memory;
+mod seq;
+mod text;
+
+pub use boxed::Boxed;
+pub use memory::OutOfMemory;
+pub use seq::Seq;
+pub use text::Text;
