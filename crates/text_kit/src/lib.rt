@@ -6,6 +6,8 @@
 mod boxed;
 mod memory;
 mod seq;
+#[cfg(test)]
+mod tests;
 mod text;
 
 pub use boxed::Boxed;
