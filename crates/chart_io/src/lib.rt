@@ -4,8 +4,17 @@
 //! failures are chosen, and adapters round the runtime's files, readers and writers.
 #![tactic(auto)]
 
+mod calls;
+mod counting;
+mod list;
 mod outside;
+mod sink;
+mod sure;
 mod writing;
 
+pub use counting::CountSink;
+pub use list::{ListFolder, ListSource};
 pub use outside::{Failed, Folder, Got, Sink, Source};
+pub use sink::{ListSink, SINK_ROOM};
+pub use sure::{SureFolder, SureSource};
 pub use writing::{WriteFault, write_all};
