@@ -1,5 +1,5 @@
 ghost use Rattle.std.specs.Prelude.{◌≡◌, ◌≤◌};
-ghost use Rattle.chart_io.specs.Memory.{next_fails, after_call};
+ghost use Rattle.chart_io.specs.Counts.{no_calls, next_fails, after_call};
 
 use std::marker::Model;
 
@@ -13,7 +13,7 @@ pub struct Calls {
 }
 
 impl Model for Calls {
-    ghost use Rattle.chart_io.specs.Memory.{CallCounts};
+    ghost use Rattle.chart_io.specs.Counts.{CallCounts};
 
     ghost Value = { CallCounts };
 
@@ -23,7 +23,7 @@ impl Model for Calls {
 impl Calls {
     /// None was made yet.
     pub fn of(fails: Vec<u64>) -> Calls
-        ensures { result ≡ record { fails = fails.items; made = 0; failed = 0 } }
+        ensures { result ≡ no_calls fails.items }
     {
         Calls {
             fails,

@@ -6,15 +6,22 @@
 
 mod calls;
 mod counting;
+mod dir;
 mod list;
 mod outside;
 mod sink;
+mod stream;
 mod sure;
 mod writing;
 
 pub use counting::CountSink;
+pub use dir::DirFolder;
 pub use list::{ListFolder, ListSource};
 pub use outside::{Failed, Folder, Got, Sink, Source};
 pub use sink::{ListSink, SINK_ROOM};
+pub use stream::{StreamSink, StreamSource};
 pub use sure::{SureFolder, SureSource};
 pub use writing::{WriteFault, write_all};
+
+#[cfg(test)]
+mod tests;

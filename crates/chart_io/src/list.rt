@@ -1,6 +1,7 @@
 ghost use Rattle.std.specs.Prelude.{◌≡◌, [], ◌+◌, ◌<◌, ◌≤◌, Some, min, length, take, drop, IfOk, OnErr, is_err};
 ghost use Rattle.chart_io.specs.Outside.{Rose, file_of, IsGot, IsWithin, Kept, Moved};
-ghost use Rattle.chart_io.specs.Memory.{listed, next_fails, after_call};
+ghost use Rattle.chart_io.specs.Counts.{no_calls, next_fails, after_call};
+ghost use Rattle.chart_io.specs.Memory.{listed};
 
 use crate::calls::Calls;
 use crate::{Failed, Folder, Got, Source, SureFolder, SureSource};
@@ -26,7 +27,7 @@ impl ListFolder {
     /// in `fails` will fail.
     pub fn of(files: Vec<(String, Vec<u8>)>, fails: Vec<u64>) -> ListFolder
         ensures files { result.files ≡ listed files.items }
-        ensures fails { result.calls ≡ record { fails = fails.items; made = 0; failed = 0 } }
+        ensures fails { result.calls ≡ no_calls fails.items }
     {
         ListFolder {
             files: SureFolder::of(files),
@@ -84,7 +85,7 @@ impl ListSource {
         requires { 1 ≤ most }
         ensures left { result.left ≡ bytes.items }
         ensures most { result.most ≡ most }
-        ensures fails { result.calls ≡ record { fails = fails.items; made = 0; failed = 0 } }
+        ensures fails { result.calls ≡ no_calls fails.items }
     {
         ListSource {
             source: SureSource::of(bytes),

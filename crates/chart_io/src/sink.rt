@@ -1,6 +1,6 @@
 ghost use Rattle.std.specs.Prelude.{◌≡◌, [], ◌++◌, ◌+◌, ◌-◌, ◌<◌, ◌≤◌, ◌||◌, nat_le, Some, min, length, take, IfOk, OnErr, is_err};
 ghost use Rattle.chart_io.specs.Outside.{Rose, Appended, Kept};
-ghost use Rattle.chart_io.specs.Memory.{next_fails, after_call};
+ghost use Rattle.chart_io.specs.Counts.{no_calls, next_fails, after_call};
 
 use crate::calls::Calls;
 use crate::{Failed, Sink};
@@ -40,7 +40,7 @@ impl ListSink {
         ensures { IfOk result (λ sink. sink ≡ record {
           held = [];
           most = most;
-          calls = record { fails = fails.items; made = 0; failed = 0 };
+          calls = no_calls fails.items;
         }) }
     {
         Ok(ListSink {
