@@ -29,7 +29,7 @@ abbrev pub after_call : CallCounts → Bool → CallCounts
 after_call calls has_failed = record {
   fails = calls.fails;
   made = one_more calls.made;
-  failed = faults_after calls.failed has_failed
+  failed = faults_after calls.failed has_failed;
 }
 
 -- The rules at work.

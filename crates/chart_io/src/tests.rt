@@ -1,5 +1,6 @@
 use super::*;
 use std::alloc::{AllocError, Global};
+use std::fs;
 use std::test::Fail;
 
 fn files(alloc: Global) -> Result<Vec<(String, Vec<u8>)>, AllocError> {
@@ -18,7 +19,11 @@ fn a_sure_folder_gives_the_first_file_of_a_name(rt: HostRuntime) -> Result<(), F
     assert_eq!(rt; buf.as_slice(), b"fir".as_slice());
     assert_eq!(rt; folder.read("a", 3, &mut buf), Ok(Got::Bytes(2)));
     assert_eq!(rt; buf.as_slice(), b"str".as_slice());
-    for (name, at, want) in [("a", 5, Got::End), ("b", 0, Got::End), ("c", 0, Got::Missing)] {
+    for (name, at, want) in [
+        ("a", 5, Got::End),
+        ("b", 0, Got::End),
+        ("c", 0, Got::Missing),
+    ] {
         assert_eq!(rt; folder.read(name, at, &mut buf), Ok(want), "{name} at {at}");
     }
     Ok(())
@@ -107,6 +112,7 @@ fn the_adapters_pass_bytes_on(rt: HostRuntime) -> Result<(), Fail> {
 
 #[test]
 fn a_file_of_the_working_folder_is_read(rt: HostRuntime) -> Result<(), Fail> {
+    fs::write(&rt, "twelve.txt", "twelve bytes")?;
     let mut folder = DirFolder::of(&rt);
     let mut buf = [0u8; 6];
     assert_eq!(rt; folder.read("no such file", 0, &mut buf), Ok(Got::Missing));
@@ -114,5 +120,6 @@ fn a_file_of_the_working_folder_is_read(rt: HostRuntime) -> Result<(), Fail> {
     assert_eq!(rt; &buf[..5], b"bytes".as_slice());
     assert_eq!(rt; folder.read("twelve.txt", 12, &mut buf), Ok(Got::End));
     assert_eq!(rt; folder.read(".", 0, &mut buf), Err(Failed));
+    fs::remove_file(&rt, "twelve.txt")?;
     Ok(())
 }
