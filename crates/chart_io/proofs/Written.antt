@@ -1,8 +1,8 @@
 -- Steps of a write in pieces.
-use Rattle.std.proofs.Common.{◌≡◌, ◌≤◌, ℕ, ◌+◌, List, ◌++◌, length, take, drop, Option, Some, None, arith, sym, ap, ◌∙◌, append_assoc, take-append-drop, refl}
+use Rattle.std.proofs.Common.{length-take, length-append, ◌-◌, ◌≡◌, ◌≤◌, ℕ, ◌+◌, List, ◌++◌, length, take, drop, Option, Some, None, arith, sym, ap, ◌∙◌, append_assoc, take-append-drop, refl}
 use Rattle.std.proofs.lemmas.Grind.{common_steps}
 use Rattle.std.proofs.lemmas.List.{take-take, take_at}
-use lib.Seq.{take-add}
+use lib.Seq.{take-add, take-append-add}
 use Rattle.chart_io.specs.Outside.{Kept, Appended, AppendedPrefix}
 
 pieces_joined : (held bytes : List ℕ) (at room n : ℕ) → n ≤ room → (held ++ take at bytes) ++ take n (take room (drop at bytes)) ≡ held ++ take (at + n) bytes
@@ -38,3 +38,17 @@ prefix_within None mid now done piece rest whole e before after = tt
 prefix_within (Some held) mid None done piece rest whole e before after = absurd (rw before at after)
 prefix_within (Some held) mid (Some all) done piece rest whole e before after =
     let (more, begun) = rw before at after in rw e (longer held done piece rest all more begun)
+
+split : (held bytes all : List ℕ) → length held ≤ length all → all ≡ take (length all) (held ++ bytes) → (n : ℕ) × (n ≤ length bytes) × (all ≡ held ++ take n bytes)
+split held bytes all more begun =
+    let n = length all - length held in
+    let whole : length all ≡ length held + n = omega arith in
+    let short = simp (length-take, length-append) at (ap length begun) in
+    (n, omega arith, begun ∙ ap (λ k. take k (held ++ bytes)) whole ∙ take-append-add held bytes n)
+
+-- the same in other words: some number of the bytes was appended
+pub appended_count : (old now : Option (List ℕ)) (bytes : List ℕ) → AppendedPrefix old now bytes → (n : ℕ) × (n ≤ length bytes) × Appended old now (take n bytes)
+appended_count None now bytes h = (0, omega arith, tt)
+appended_count (Some held) None bytes h = absurd h
+appended_count (Some held) (Some all) bytes h =
+    let (n, within, same) = split held bytes all h.0 h.1 in (n, within, ap (λ xs. Some xs) same)
