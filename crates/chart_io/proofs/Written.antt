@@ -1,7 +1,8 @@
 -- Steps of a write in pieces.
-use Rattle.std.proofs.Common.{length-take, length-append, ◌-◌, ◌≡◌, ◌≤◌, ℕ, ◌+◌, List, ◌++◌, length, take, drop, Option, Some, None, arith, sym, ap, ◌∙◌, append_assoc, take-append-drop, refl}
-use Rattle.std.proofs.lemmas.Grind.{common_steps}
-use Rattle.std.proofs.lemmas.List.{take-take, take_at}
+use Rattle.std.proofs.Common.{◌<◌, get_or, length-take, length-append, ◌-◌, ◌≡◌, ◌≤◌, ℕ, ◌+◌, List, ◌++◌, length, take, drop, Option, Some, None, arith, sym, ap, ◌∙◌, append_assoc, take-append-drop, refl}
+use Rattle.std.proofs.lemmas.Grind.{common_steps, flat_map-append}
+use Rattle.std.proofs.lemmas.List.{take-take, take_at, drop_more}
+use Rattle.std.specs.List.{flat_map}
 use lib.Seq.{take-add, take-append-add}
 use Rattle.chart_io.specs.Outside.{Kept, Appended, AppendedPrefix}
 
@@ -52,3 +53,8 @@ appended_count None now bytes h = (0, omega arith, tt)
 appended_count (Some held) None bytes h = absurd h
 appended_count (Some held) (Some all) bytes h =
     let (n, within, same) = split held bytes all h.0 h.1 in (n, within, ap (λ xs. Some xs) same)
+
+-- what is written item by item: the items before i, the one at i, and those after it
+pub flat_map_split : {X : Type 0} (f : X → List ℕ) (xs : List X) (i : ℕ) (d : X) → i < length xs → flat_map f xs ≡ (flat_map f (take i xs) ++ f (get_or xs i d)) ++ flat_map f (drop (i + 1) xs)
+flat_map_split f xs i d lt =
+    ap (flat_map f) (sym (take-append-drop i xs)) ∙ flat_map-append f (take i xs) (drop i xs) ∙ ap (λ ys. flat_map f (take i xs) ++ flat_map f ys) (drop_more xs i d lt) ∙ sym (append_assoc (flat_map f (take i xs)) (f (get_or xs i d)) (flat_map f (drop (i + 1) xs)))
