@@ -1,6 +1,5 @@
--- What the adapters tell and count.
+-- What the adapters of readers and writers tell and count.
 use Rattle.std.specs.Prelude.{ℕ, List, Option}
-use Rattle.chart_io.specs.declared.dir.DirFolder.{DirFolder}
 use Rattle.chart_io.specs.declared.stream.StreamSource.{StreamSource}
 use Rattle.chart_io.specs.declared.stream.StreamSink.{StreamSink}
 
@@ -19,7 +18,3 @@ source_faults source = source.failed
 -- how many calls of a sink have failed
 abbrev pub sink_faults : {W : Type 0} → StreamSink W → ℕ
 sink_faults sink = sink.failed
-
--- how many calls of a folder have failed
-abbrev pub folder_faults : {R : Type 0} → DirFolder R → ℕ
-folder_faults folder = folder.failed

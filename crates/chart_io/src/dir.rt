@@ -1,7 +1,7 @@
 ghost use Rattle.std.specs.Prelude.{◌≡◌, ◌<◌, ◌≤◌, None, length, IfOk, OnErr, is_err};
 ghost use Rattle.chart_io.specs.Outside.{IsWithin};
 ghost use Rattle.chart_io.specs.Counts.{faults_after};
-ghost use Rattle.chart_io.specs.Stream.{folder_faults};
+ghost use Rattle.chart_io.specs.Dir.{folder_faults};
 
 use crate::{Failed, Folder, Got};
 use std::fs::File;

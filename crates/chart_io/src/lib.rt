@@ -4,10 +4,10 @@
 //! failures are chosen, and adapters round the runtime's files, readers and writers.
 #![tactic(auto)]
 
-mod calls;
 mod counting;
+mod counts;
 mod dir;
-mod list;
+mod memory;
 mod outside;
 mod sink;
 mod stream;
@@ -16,7 +16,7 @@ mod writing;
 
 pub use counting::CountSink;
 pub use dir::DirFolder;
-pub use list::{ListFolder, ListSource};
+pub use memory::{ListFolder, ListSource};
 pub use outside::{Failed, Folder, Got, Sink, Source};
 pub use sink::{ListSink, SINK_ROOM};
 pub use stream::{StreamSink, StreamSource};

@@ -2,7 +2,7 @@ ghost use Rattle.std.specs.Prelude.{◌≡◌, [], ◌++◌, ◌+◌, ◌-◌, �
 ghost use Rattle.chart_io.specs.Outside.{Rose, Appended, Kept};
 ghost use Rattle.chart_io.specs.Counts.{no_calls, next_fails, after_call};
 
-use crate::calls::Calls;
+use crate::counts::Calls;
 use crate::{Failed, Sink};
 use std::alloc::Global;
 use std::marker::Model;

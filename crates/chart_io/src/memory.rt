@@ -3,7 +3,7 @@ ghost use Rattle.chart_io.specs.Outside.{Rose, file_of, IsGot, IsWithin, Kept, M
 ghost use Rattle.chart_io.specs.Counts.{no_calls, next_fails, after_call};
 ghost use Rattle.chart_io.specs.Memory.{listed};
 
-use crate::calls::Calls;
+use crate::counts::Calls;
 use crate::{Failed, Folder, Got, Source, SureFolder, SureSource};
 use std::marker::Model;
 
