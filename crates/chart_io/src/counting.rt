@@ -3,8 +3,8 @@ ghost use Rattle.std.specs.Prelude.{◌≡◌, ◌+◌, ◌-◌, ◌^◌, ◌<�
 use crate::{Failed, Sink};
 use std::marker::Model;
 
-/// Takes all bytes and keeps only their number, which stands still at `u64::MAX`. It tells no bytes, and no
-/// call on it fails.
+/// Takes all bytes and keeps only their number, which stands still at `u64::MAX`. It tells no bytes,
+/// and no call on it fails.
 #[derive(Debug, Drop)]
 pub struct CountSink {
     total: u64,

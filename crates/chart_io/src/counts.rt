@@ -3,8 +3,8 @@ ghost use Rattle.chart_io.specs.Counts.{no_calls, next_fails, after_call};
 
 use std::marker::Model;
 
-/// The calls of an object: the numbers of those that fail, from 1, and how many were made and have failed.
-/// Both counts stand still at `u64::MAX`.
+/// The calls of an object: the numbers of those that fail, from 1, and how many were made and have
+/// failed. Both counts stand still at `u64::MAX`.
 #[derive(Drop)]
 pub struct Calls {
     fails: Vec<u64>,

@@ -9,7 +9,8 @@ use std::io;
 use std::io::{ErrorKind, Read, Seek, SeekFrom};
 use std::rt::Files;
 
-/// The files of the system, by their names as seen from the working folder. It tells nothing of them.
+/// The files of the system, by their names as seen from the working folder. It tells nothing of
+/// them. Each read opens its file anew, so it sees what stands there at that time.
 #[derive(Drop)]
 pub struct DirFolder<R> {
     rt: R,
@@ -48,7 +49,8 @@ impl<R: Files> Folder for DirFolder<R> {
 
     fn read(&mut self, name: &str, at: u64, buf: &mut [u8]) -> Result<Got, Failed>
         requires { 0 < length buf.old }
-        ensures raised { folder_faults self.new ≡ faults_after (folder_faults self.old) (is_err result) }
+        ensures raised { folder_faults self.new ≡
+            faults_after (folder_faults self.old) (is_err result) }
         ensures counted { folder_faults self.old ≤ folder_faults self.new }
         ensures within { IfOk result (IsWithin (length buf.new)) }
     {

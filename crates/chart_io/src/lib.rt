@@ -1,7 +1,7 @@
-//! The outside, as traits: a folder of files, a source that is read once and a sink that is written to.
-//! Each object may tell the bytes that it holds, and counts its faults, so that contracts say which bytes
-//! came and went, and that a call fails only where a count rose. With implementations in memory, whose
-//! failures are chosen, and adapters round the runtime's files, readers and writers.
+//! The outside, as traits: a folder of files, a source that is read once and a sink that is written
+//! to. Each object may tell the bytes that it holds, and counts its faults, so that contracts say
+//! which bytes came and went, and that a call fails only where a count rose. With implementations in
+//! memory, whose failures are chosen, and adapters round the runtime's files, readers and writers.
 #![tactic(auto)]
 
 mod counting;

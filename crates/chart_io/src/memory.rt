@@ -23,8 +23,8 @@ impl Model for ListFolder {
 }
 
 impl ListFolder {
-    /// A folder of these files, each with its name and its bytes. The calls whose number, from 1, stands
-    /// in `fails` will fail.
+    /// A folder of these files, each with its name and its bytes. The calls whose number, from 1,
+    /// stands in `fails` will fail.
     pub fn of(files: Vec<(String, Vec<u8>)>, fails: Vec<u64>) -> ListFolder
         ensures files { result.files ≡ listed files.items }
         ensures fails { result.calls ≡ no_calls fails.items }
@@ -79,8 +79,8 @@ impl Model for ListSource {
 }
 
 impl ListSource {
-    /// A source of these bytes. A call gives at most `most` of them. The calls whose number, from 1, stands
-    /// in `fails` will fail.
+    /// A source of these bytes. A call gives at most `most` of them. The calls whose number, from 1,
+    /// stands in `fails` will fail.
     pub fn of(bytes: Vec<u8>, most: usize, fails: Vec<u64>) -> ListSource
         requires { 1 ≤ most }
         ensures left { result.left ≡ bytes.items }

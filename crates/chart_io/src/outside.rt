@@ -29,7 +29,8 @@ pub trait Folder {
         ensures counted { faults self.old ≤ faults self.new }
         ensures cause { OnErr result (Rose (faults self.old) (faults self.new)) }
         ensures within { IfOk result (IsWithin (length buf.new)) }
-        ensures got { IfSome (files self.old) (λ told. IfOk result (IsGot (file_of told name.now) at buf.new)) }
+        ensures got { IfSome (files self.old)
+            (λ told. IfOk result (IsGot (file_of told name.now) at buf.new)) }
         ensures stays { Kept (files self.old) (files self.new) };
 }
 
@@ -40,7 +41,8 @@ pub trait Source {
 
     ghost faults: { Self → ℕ };
 
-    /// Moves the next bytes into the front of `buf`, and says how many. After `Failed`, `buf` may hold anything.
+    /// Moves the next bytes into the front of `buf`, and says how many. After `Failed`, `buf` may
+    /// hold anything.
     fn read(&mut self, buf: &mut [u8]) -> Result<usize, Failed>
         requires { 0 < length buf.old }
         ensures counted { faults self.old ≤ faults self.new }
@@ -50,7 +52,8 @@ pub trait Source {
         ensures stays { OnErr result (Kept (left self.old) (left self.new)) };
 }
 
-/// Takes bytes in order. `held` is what it tells of those that it took, and `faults` counts its failed calls.
+/// Takes bytes in order. `held` is what it tells of those that it took, and `faults` counts its
+/// failed calls.
 pub trait Sink {
     ghost held: { Self → Option (List ℕ) };
 
@@ -62,6 +65,7 @@ pub trait Sink {
         ensures counted { faults self.old ≤ faults self.new }
         ensures cause { OnErr result (Rose (faults self.old) (faults self.new)) }
         ensures within { IfOk result (λ n. (1 ≤ n) × (n ≤ length piece.now)) }
-        ensures appended { IfOk result (λ n. Appended (held self.old) (held self.new) (take n piece.now)) }
+        ensures appended { IfOk result
+            (λ n. Appended (held self.old) (held self.new) (take n piece.now)) }
         ensures stays { OnErr result (Kept (held self.old) (held self.new)) };
 }

@@ -11,7 +11,8 @@ use text_kit::OutOfMemory;
 /// How many bytes a `ListSink` has room for.
 pub const SINK_ROOM: usize = 4_194_304;
 
-/// Takes bytes into memory, up to `SINK_ROOM` of them, with calls that fail. A write takes no memory.
+/// Takes bytes into memory, up to `SINK_ROOM` of them, with calls that fail. A write takes no
+/// memory: it uses the room that `of` made, and fails where that is full.
 #[derive(Drop)]
 pub struct ListSink {
     bytes: Vec<u8>,
@@ -33,8 +34,8 @@ impl Model for ListSink {
 }
 
 impl ListSink {
-    /// An empty sink. A call takes at most `most` bytes. The calls whose number, from 1, stands in `fails`
-    /// will fail.
+    /// An empty sink. A call takes at most `most` bytes. The calls whose number, from 1, stands in
+    /// `fails` will fail.
     pub fn of(alloc: Global, most: usize, fails: Vec<u64>) -> Result<ListSink, OutOfMemory>
         requires { 1 ≤ most }
         ensures { IfOk result (λ sink. sink ≡ record {
@@ -65,7 +66,8 @@ impl Sink for ListSink {
 
     fn write(&mut self, piece: &[u8]) -> Result<usize, Failed>
         requires { 0 < length piece.now }
-        ensures fails { is_err result ≡ next_fails self.old.calls || nat_le SINK_ROOM (length self.old.held) }
+        ensures fails { is_err result ≡
+            (next_fails self.old.calls || nat_le SINK_ROOM (length self.old.held)) }
         ensures calls { self.new.calls ≡ after_call self.old.calls (is_err result) }
         ensures counted { self.old.calls.failed ≤ self.new.calls.failed }
         ensures count { IfOk result (λ n. n ≡

@@ -30,11 +30,14 @@ impl<R: Read> Source for StreamSource<R> {
 
     fn read(&mut self, buf: &mut [u8]) -> Result<usize, Failed>
         requires { 0 < length buf.old }
-        ensures raised { source_faults self.new ≡ faults_after (source_faults self.old) (is_err result) }
+        ensures raised { source_faults self.new ≡
+            faults_after (source_faults self.old) (is_err result) }
         ensures counted { source_faults self.old ≤ source_faults self.new }
         ensures within { IfOk result (λ n. n ≤ length buf.new) }
-        ensures moved { IfOk result (Moved (source_left R.remaining self.old) (source_left R.remaining self.new) buf.new) }
-        ensures stays { OnErr result (Kept (source_left R.remaining self.old) (source_left R.remaining self.new)) }
+        ensures moved { let left = source_left R.remaining in
+            IfOk result (Moved (left self.old) (left self.new) buf.new) }
+        ensures stays { let left = source_left R.remaining in
+            OnErr result (Kept (left self.old) (left self.new)) }
     {
         match self.inner.read(buf) {
             Ok(n) => Ok(n),
@@ -46,8 +49,8 @@ impl<R: Read> Source for StreamSource<R> {
     }
 }
 
-/// A writer, with a count of its failed calls, those that take nothing among them. It tells what the
-/// writer tells.
+/// A writer, with a count of its failed calls, those that take nothing among them. It tells what
+/// the writer tells.
 #[derive(Drop)]
 pub struct StreamSink<W> {
     inner: W,
@@ -71,11 +74,14 @@ impl<W: Write> Sink for StreamSink<W> {
 
     fn write(&mut self, piece: &[u8]) -> Result<usize, Failed>
         requires { 0 < length piece.now }
-        ensures raised { sink_faults self.new ≡ faults_after (sink_faults self.old) (is_err result) }
+        ensures raised { sink_faults self.new ≡
+            faults_after (sink_faults self.old) (is_err result) }
         ensures counted { sink_faults self.old ≤ sink_faults self.new }
         ensures within { IfOk result (λ n. (1 ≤ n) × (n ≤ length piece.now)) }
-        ensures appended { IfOk result (λ n. Appended (sink_held W.contents self.old) (sink_held W.contents self.new) (take n piece.now)) }
-        ensures stays { OnErr result (Kept (sink_held W.contents self.old) (sink_held W.contents self.new)) }
+        ensures appended { let held = sink_held W.contents in
+            IfOk result (λ n. Appended (held self.old) (held self.new) (take n piece.now)) }
+        ensures stays { let held = sink_held W.contents in
+            OnErr result (Kept (held self.old) (held self.new)) }
     {
         match self.inner.write(piece) {
             Ok(n) if n > 0 => Ok(n),
