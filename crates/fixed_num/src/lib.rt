@@ -2,6 +2,16 @@
 //! and decimals both ways. No call takes memory.
 #![tactic(auto)]
 
+mod decimal;
+mod json_number;
+mod json_value;
+mod laws;
 mod num;
+mod ratio;
+mod reading;
+#[cfg(test)]
+mod tests;
 
+pub use laws::{laws_of_decimals, laws_of_numbers};
 pub use num::Num;
+pub use reading::NumFault;

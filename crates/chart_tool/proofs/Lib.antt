@@ -1,0 +1,14 @@
+pub mod DomainLemmas
+pub mod RangeLemmas
+pub mod StepLemmas
+pub mod IndexLemmas
+pub mod BandLemmas
+pub mod BarLemmas
+pub mod NiceLemmas
+pub mod PlaceLemmas
+pub mod DrawableLemmas
+pub mod Fronts
+pub mod Lacking
+pub mod Charts
+pub mod Rendered
+pub mod Answered

@@ -1,0 +1,16 @@
+pub mod Ranges
+pub mod Domains
+pub mod Steps
+pub mod Scales
+pub mod ScaleViews
+pub mod SceneText
+pub mod FirstForm
+pub mod Bars
+pub mod Texts
+pub mod Drawable
+pub mod Examples
+pub mod Words
+pub mod Statuses
+pub mod Files
+pub mod Rendering
+pub mod Answers

@@ -1,0 +1,74 @@
+-- What rendering a file answers and writes.
+use Rattle.std.specs.Prelude.{◌≡◌, ℕ, Option, Some, None, List, Result, Ok, Err}
+use Rattle.std.specs.declared.vec.Vec.{Vec}
+use Rattle.json_exact.specs.declared.json.Json.{Json}
+use Rattle.json_exact.specs.Reading.{Reads}
+use Rattle.chart_io.specs.Outside.{Appended, AppendedPrefix}
+use Rattle.chart_tool.specs.declared.form.FirstForm.{FirstForm}
+use Rattle.chart_tool.specs.declared.stop.Stop.{Stop}
+use Rattle.chart_tool.specs.declared.stop.Stop.TheVariants as stop
+use Rattle.chart_tool.specs.meaning.FirstForm.{IsFirstForm}
+use Rattle.chart_tool.specs.meaning.Bars.{chart_of}
+use Rattle.chart_tool.specs.meaning.Files.{IsWithinSize, IsTooLong}
+
+-- the bytes are a specification of the first form, and the text is its chart
+pub record IsChart (bytes text : List ℕ) : Type 0 where
+  pub tree : Json
+  pub form : FirstForm
+  pub reads : Reads bytes tree
+  pub is : IsFirstForm tree form
+  pub chart : chart_of form ≡ Some text
+
+-- the bytes are no specification of the first form
+abbrev pub HasNoForm : List ℕ → Type 0
+HasNoForm bytes = (tree : Json) (form : FirstForm) → Reads bytes tree → IsFirstForm tree form → ⊥
+
+-- the file is within its size, and the text is its chart
+abbrev pub IsDrawn : Option (List ℕ) → List ℕ → Type 0
+IsDrawn file text = (bytes : List ℕ) × IsWithinSize file bytes × IsChart bytes text
+
+-- the file is within its size, and no specification of the first form
+abbrev pub IsUnsupported : Option (List ℕ) → Type 0
+IsUnsupported file = (bytes : List ℕ) × IsWithinSize file bytes × HasNoForm bytes
+
+-- this is the chart of the file, and there is no other
+pub record IsTheChart (file : Option (List ℕ)) (text : List ℕ) : Type 0 where
+  pub drawn : IsDrawn file text
+  pub only : (other : List ℕ) → IsDrawn file other → other ≡ text
+
+-- the bytes are read as this tree and no other, which has this form
+pub record IsTheForm (bytes : List ℕ) (form : FirstForm) : Type 0 where
+  pub tree : Json
+  pub reads : Reads bytes tree
+  pub is : IsFirstForm tree form
+  pub only : (other : Json) → Reads bytes other → other ≡ tree
+
+-- what reading bytes answers
+abbrev pub IsFormOf : List ℕ → Result FirstForm Stop → Type 0
+IsFormOf bytes (Ok form) = IsTheForm bytes form
+IsFormOf bytes (Err stop.Unsupported) = HasNoForm bytes
+IsFormOf bytes (Err stop.Memory) = Unit {0}
+IsFormOf bytes (Err cause) = ⊥
+
+-- what drawing bytes answers
+abbrev pub IsPictureOf : {A : Type 0} → List ℕ → Result (Vec ℕ A) Stop → Type 0
+IsPictureOf bytes (Ok text) = IsChart bytes text.items × ((other : List ℕ) → IsChart bytes other → other ≡ text.items)
+IsPictureOf bytes (Err stop.Unsupported) = HasNoForm bytes
+IsPictureOf bytes (Err stop.Memory) = Unit {0}
+IsPictureOf bytes (Err cause) = ⊥
+
+-- what rendering a file answers, and what it writes
+abbrev pub IsRenderedOf : {A : Type 0} → Option (List ℕ) → Option (List ℕ) → Option (List ℕ) → Result A Stop → Type 0
+IsRenderedOf file old now (Ok done) = (text : List ℕ) × IsTheChart file text × Appended old now text
+IsRenderedOf file old now (Err stop.Write) = (text : List ℕ) × IsTheChart file text × AppendedPrefix old now text
+IsRenderedOf file old now (Err stop.Missing) = file ≡ None
+IsRenderedOf file old now (Err stop.Size) = IsTooLong file
+IsRenderedOf file old now (Err stop.Unsupported) = IsUnsupported file
+IsRenderedOf file old now (Err stop.Read) = Unit {0}
+IsRenderedOf file old now (Err stop.Memory) = Unit {0}
+IsRenderedOf file old now (Err stop.Words) = ⊥
+
+-- nothing is written where a command stops so
+abbrev pub IsSilent : Stop → Type 0
+IsSilent stop.Write = ⊥
+IsSilent cause = Unit {0}
