@@ -33,6 +33,7 @@ told_write A (Some files) name bytes old now text whole is written = (text, the_
 
 undrawn : (A B : Type 0) (file : Option (List ℕ)) (bytes : List ℕ) (old now : Option (List ℕ)) (cause : Stop) → IsWithinSize file bytes → IsPictureOf {A = B} bytes (Err cause) → IsRenderedOf {A = A} file old now (Err cause)
 undrawn A B file bytes old now stop.Unsupported whole is = (bytes, whole, is)
+undrawn A B file bytes old now (stop.Unreadable place) whole is = ((bytes, whole, is.0), (bytes, whole, is.1))
 undrawn A B file bytes old now stop.Memory whole is = tt
 undrawn A B file bytes old now stop.Words whole is = absurd is
 undrawn A B file bytes old now stop.Missing whole is = absurd is

@@ -11,13 +11,14 @@ use chart_io::{Folder, Sink, WriteFault, write_all};
 use json_exact::JsonError;
 use std::alloc::Global;
 
-// The chart that the bytes specify; `Unsupported` comes exactly where they specify none of the first form.
+// The chart that the bytes specify; `Unreadable` comes exactly where they are no JSON text, `Unsupported` exactly
+// where they are one and specify no chart of the first form.
 fn form_of(alloc: Global, bytes: &[u8]) -> Result<FirstForm, Stop>
     ensures { IsFormOf bytes.now result }
 {
     let tree = match json_exact::read(alloc, bytes) {
         Ok(tree) => tree,
-        Err(JsonError::Fault { at: _ }) => return Err(Stop::Unsupported),
+        Err(JsonError::Fault { at }) => return Err(Stop::Unreadable { at }),
         Err(JsonError::Memory) => return Err(Stop::Memory),
     };
     let Some(form) = first_form(alloc, &tree)? else {
@@ -36,7 +37,8 @@ fn picture_of_bytes(alloc: Global, bytes: &[u8]) -> Result<Vec<u8>, Stop>
 }
 
 /// Writes the picture of the file of this name, or says why not: `Missing` and `Size` as `read_file` does,
-/// `Unsupported` exactly where the file is no specification of the first form, `Read` and `Write` only where
+/// `Unreadable` exactly where the file is no JSON text, `Unsupported` exactly where it is one and no specification of
+/// the first form, `Read` and `Write` only where
 /// the folder's or the output's count of faults rose, `Memory`. Only with Ok and `Write` is anything written.
 pub fn render<F: Folder, K: Sink>(
     alloc: Global,

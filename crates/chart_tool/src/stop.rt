@@ -1,5 +1,5 @@
 //! Why a command ends without its whole output.
-ghost use Rattle.std.specs.Prelude.{◌≡◌, ◌≤◌, [], ◌∷◌, ◌++◌, OnOk, OnErr};
+ghost use Rattle.std.specs.Prelude.{◌≡◌, ◌≤◌, [], ◌∷◌, ◌++◌, codes, OnOk, OnErr};
 ghost use Rattle.chart_io.specs.Outside.{Rose, Appended, AppendedPrefix};
 ghost use Rattle.chart_tool.specs.declared.stop.Stop.TheVariants.{Memory};
 ghost use Rattle.chart_tool.specs.meaning.Statuses.{status_of, note_of};
@@ -15,7 +15,12 @@ pub enum Stop {
     Words,
     /// The folder has no file of the name.
     Missing,
-    /// The file's bytes are no chart that is drawn.
+    /// The file's bytes are no JSON text.
+    Unreadable {
+        /// The length of the longest prefix of the bytes that begins a JSON text.
+        at: u64,
+    },
+    /// The file is no chart that is drawn.
     Unsupported,
     /// A read failed.
     Read,
@@ -63,6 +68,23 @@ fn write_line<N: Sink>(notes: &mut N, cause: &[u8], name: &str) -> Result<(), Wr
     write_all(notes, b"\n")
 }
 
+// Writes a cause, the name of a file, and the place of a fault in it, by its digits.
+fn write_place<N: Sink>(
+    notes: &mut N,
+    cause: &[u8],
+    name: &str,
+    digits: &str,
+) -> Result<(), WriteFault>
+    ensures counted { N.faults notes.old ≤ N.faults notes.new }
+    ensures cause { OnErr result (Rose (N.faults notes.old) (N.faults notes.new)) }
+    ensures ok { OnOk result (Appended (N.held notes.old) (N.held notes.new) (cause.now ++ name.now ++ (codes " at " ++ digits.now ++ 10 ∷ []))) }
+    ensures prefix { AppendedPrefix (N.held notes.old) (N.held notes.new) (cause.now ++ name.now ++ (codes " at " ++ digits.now ++ 10 ∷ [])) }
+{
+    write_all(notes, cause)?;
+    write_all(notes, name.as_bytes())?;
+    write_line(notes, b" at ", digits)
+}
+
 impl Stop {
     /// The status that the program ends with.
     pub fn status(self) -> u8
@@ -71,6 +93,7 @@ impl Stop {
         match self {
             Stop::Words => 1,
             Stop::Missing => 2,
+            Stop::Unreadable { at: _ } => 3,
             Stop::Unsupported => 4,
             Stop::Read => 7,
             Stop::Write => 8,
@@ -89,6 +112,10 @@ impl Stop {
         match self {
             Stop::Words => write_all(notes, b"chart: words\n"),
             Stop::Missing => write_line(notes, b"chart: missing ", name),
+            Stop::Unreadable { at } => {
+                let mut digits = itoa::Buffer::new();
+                write_place(notes, b"chart: json ", name, digits.format(at))
+            }
             Stop::Unsupported => write_all(notes, b"chart: spec unsupported \n"),
             Stop::Read => write_all(notes, b"chart: read\n"),
             Stop::Write => write_all(notes, b"chart: write\n"),

@@ -3,7 +3,7 @@ ghost use Rattle.std.specs.Prelude.{◌≡◌, ◌≤◌, ◌↔◌, None, List,
 ghost use Rattle.chart_io.specs.Outside.{Rose, Kept, Appended, AppendedPrefix, Files};
 ghost use Rattle.chart_tool.specs.meaning.Words.{specification_of as asked_of};
 ghost use Rattle.chart_tool.specs.meaning.Files.{IsTooLong};
-ghost use Rattle.chart_tool.specs.meaning.Rendering.{IsDrawn, IsUnsupported};
+ghost use Rattle.chart_tool.specs.meaning.Rendering.{IsDrawn, IsUnreadable, FileFaultsAt, IsUnsupported};
 ghost use Rattle.chart_tool.specs.meaning.Answers.{Told, ComesWhere, IsStatus, IsSilentStatus, Draws, note_text};
 ghost use Rattle.chart_tool.specs.meaning.Statuses.{status_of, note_of};
 
@@ -25,7 +25,7 @@ fn stopped<N: Sink>(stop: Stop, name: &str, notes: &mut N) -> u8
 }
 
 /// Does what the words after the program's name ask, and gives the status that the program ends with:
-/// 0 done, 1 no form of words, 2 no such file, 4 no chart that is drawn, 7 a read failed, 8 a write failed,
+/// 0 done, 1 no form of words, 2 no such file, 3 no JSON text, 4 no chart that is drawn, 7 a read failed, 8 a write failed,
 /// 9 memory was refused, 10 a file is longer than files may be.
 pub fn chart_main<F: Folder, S: Source, K: Sink, N: Sink>(
     alloc: Global,
@@ -40,9 +40,10 @@ pub fn chart_main<F: Folder, S: Source, K: Sink, N: Sink>(
     // No form of words.
     ensures words { (result ≡ 1) ↔ (asked_of (map string_bytes words.now.items) ≡ None) }
 
-    // No such file, a file that is too long, a file that is no chart of the first form.
+    // No such file, a file that is too long, one that is no JSON text, one that is no chart of the first form.
     ensures missing { Told (asked_of (map string_bytes words.now.items)) (F.files folder.old) (λ file. ComesWhere 2 result (file ≡ None)) }
     ensures size { Told (asked_of (map string_bytes words.now.items)) (F.files folder.old) (λ file. ComesWhere 10 result (IsTooLong file)) }
+    ensures unreadable { Told (asked_of (map string_bytes words.now.items)) (F.files folder.old) (λ file. ComesWhere 3 result (IsUnreadable file)) }
     ensures unsupported { Told (asked_of (map string_bytes words.now.items)) (F.files folder.old) (λ file. ComesWhere 4 result (IsUnsupported file)) }
 
     // A fault of reading or writing is one of this call.
@@ -66,10 +67,10 @@ pub fn chart_main<F: Folder, S: Source, K: Sink, N: Sink>(
         → Kept (K.held out.old) (K.held out.new)) }
 
     // The notes get the line of the status and nothing else, or a beginning of it where a write fails.
-    ensures noted { (Rose (N.faults notes.old) (N.faults notes.new) → ⊥)
-        → Appended (N.held notes.old) (N.held notes.new) (note_text result (asked_of (map string_bytes words.now.items))) }
-
-    ensures begun { AppendedPrefix (N.held notes.old) (N.held notes.new) (note_text result (asked_of (map string_bytes words.now.items))) }
+    ensures noted { (Rose (N.faults notes.old) (N.faults notes.new) → ⊥) → (place : ℕ)
+        × Told (asked_of (map string_bytes words.now.items)) (F.files folder.old) (λ file. result ≡ 3 → FileFaultsAt file place)
+        × Appended (N.held notes.old) (N.held notes.new) (note_text result place (asked_of (map string_bytes words.now.items))) }
+    ensures begun { (place : ℕ) × AppendedPrefix (N.held notes.old) (N.held notes.new) (note_text result place (asked_of (map string_bytes words.now.items))) }
 
     // The folder tells what it told, the script is not read, and no count falls.
     ensures folder { Kept (F.files folder.old) (F.files folder.new) }

@@ -1,11 +1,21 @@
 pub mod Depth
-pub mod Parts
-pub mod Runs
-pub mod Apart
 pub mod Front
-pub mod Loop
+pub mod Apart
+pub mod Parts
+pub mod Steps
+pub mod Numerals
+pub mod Letters
+pub mod Escapes
+pub mod Quotes
+pub mod Runs
 pub mod Complete
+pub mod Loop
 pub mod Sound
-pub mod Start
 pub mod Whole
-mod Examples
+pub mod Causal
+pub mod Reach
+pub mod Behind
+pub mod Opens
+pub mod OpenTexts
+pub mod OpenValues
+pub mod Paths

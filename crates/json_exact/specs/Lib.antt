@@ -1,2 +1,4 @@
 pub mod Reading
 pub mod Reader
+pub mod Path
+pub mod Along

@@ -1,18 +1,18 @@
 -- Reading from left to right, as a function of the bytes. Only private contracts cite it.
-use Rattle.std.specs.Prelude.{ℕ, zero, suc, ◌+◌, ◌*◌, ◌<◌, List, [], ◌∷◌, length, drop, codes, slice_index, slice_index_or, ℤ, pos, Bool, true, false, ◌&&◌, ◌||◌, not, ◌==◌, nat_lt, if◌then◌else◌, Result, Ok, Err, Option, Some, None, map}
-use Rattle.std.specs.List.{starts_with, list_any}
-use Rattle.std.specs.Str.Parse.{digits_value}
-use Rattle.std.proofs.Common.{neg_ℤ, nat_eq}
-use Rattle.std.specs.Char.{is_ascii_digit}
+use Rattle.std.specs.Prelude.{ℕ, zero, suc, ◌+◌, ◌-◌, ◌*◌, List, [], ◌∷◌, ◌++◌, length, drop, codes, slice_index, ℤ, pos, negsuc, Bool, true, false, ◌&&◌, ◌||◌, ◌==◌, nat_lt, nat_le, if◌then◌else◌, Result, Ok, Err, Option, Some, None, map, encode_utf8}
+use Rattle.std.specs.List.{list_any}
+use Rattle.std.specs.Char.{is_ascii_digit, is_ascii_hexdigit}
 use Rattle.std.specs.Str.{bytes_eq}
-use Rattle.json_exact.specs.declared.error.JsonError.{JsonError}
-use Rattle.json_exact.specs.declared.error.JsonError.TheVariants as errors
+use Rattle.fixed_num.specs.Number.{signed, limit}
+use Rattle.fixed_num.specs.JsonNumber.{Parts, number_of, value_of}
+use Rattle.json_exact.specs.declared.error.Stop.{Stop}
+use Rattle.json_exact.specs.declared.error.Stop.TheVariants as errors
 use Rattle.json_exact.specs.declared.json.Json.{Json}
 use Rattle.json_exact.specs.declared.json.Json.TheVariants as json
 use Rattle.json_exact.specs.declared.json.Member.{Member}
-use Rattle.json_exact.specs.Reading.{is_white, is_plain}
+use Rattle.json_exact.specs.Reading.{is_white, short_escape, hex_value, of_pair}
 
--- what is read from the front, and the bytes after it; or the place of a fault
+-- what is read from the front, and the bytes after it; or how many bytes are left at a fault
 abbrev pub Read : Type 0 → Type 0
 Read A = Result (A × List ℕ) ℕ
 
@@ -21,8 +21,12 @@ abbrev pub ◌>>=◌ : {A B : Type 0} → Result A ℕ → (A → Result B ℕ) 
 (Ok x) >>= f = f x
 (Err e) >>= f = Err e
 
+-- a fault at the front of the bytes
+abbrev pub stop : {A : Type 0} → List ℕ → Result A ℕ
+stop bytes = Err (length bytes)
+
 -- which fault an error stands for
-abbrev pub cause : JsonError → Option ℕ
+abbrev pub cause : Stop → Option ℕ
 cause (errors.Fault place) = Some place
 cause errors.Memory = None
 
@@ -40,81 +44,215 @@ padded_at element bytes = do
   Ok (x.0, skip_white x.1)
 
 -- the bytes after a word
-abbrev pub after_word : List ℕ → List ℕ → Result (List ℕ) ℕ
-after_word word bytes = if starts_with nat_eq bytes word then Ok (drop (length word) bytes) else Err 0
+unfoldable pub after_word : List ℕ → List ℕ → Result (List ℕ) ℕ
+after_word [] bytes = Ok bytes
+after_word (b ∷ word) bytes = if first bytes == b then after_word word (drop 1 bytes) else stop bytes
 
 -- a word that is written so, which stands for a tree
 abbrev pub word_at : List ℕ → Json → List ℕ → Read Json
 word_at word tree bytes = after_word word bytes >>= λ rest. Ok (tree, rest)
 
--- what stands up to the closing quote
-unfoldable pub plain_at : List ℕ → Read (List ℕ)
-plain_at [] = Err 0
-plain_at (b ∷ rest) = if b == 34 then Ok ([], rest) else (if is_plain b then (plain_at rest >>= λ x. Ok (b ∷ x.0, x.1)) else Err 0)
+-- ---- characters
 
-abbrev pub quoted_at : List ℕ → Read (List ℕ)
-quoted_at bytes = if first bytes == 34 then plain_at (drop 1 bytes) else Err 0
+-- a digit to the base sixteen, from low to high
+unfoldable pub hex_at : ℕ → ℕ → List ℕ → Read ℕ
+hex_at low high bytes =
+    if is_ascii_hexdigit (first bytes) && nat_le low (hex_value (first bytes)) && nat_le (hex_value (first bytes)) high
+    then Ok (hex_value (first bytes), drop 1 bytes) else stop bytes
 
--- the digits at the front
-unfoldable pub digits_at : List ℕ → List ℕ
-digits_at [] = []
-digits_at (b ∷ rest) = if is_ascii_digit b then b ∷ digits_at rest else []
+-- two more digits after a number
+unfoldable pub hex_pair_at : ℕ → List ℕ → Read ℕ
+hex_pair_at n bytes = do
+  c ← hex_at 0 15 bytes
+  d ← hex_at 0 15 c.1
+  Ok ((n * 16 + c.0) * 16 + d.0, d.1)
 
--- there is none, there are too many, or the first of several is `0`
-abbrev pub write_no_number : List ℕ → Bool
-write_no_number digits = length digits == 0 || nat_lt 15 (length digits) || (first digits == 48 && nat_lt 1 (length digits))
+-- four digits that write the second half of a pair of surrogates
+unfoldable pub low_at : List ℕ → Read ℕ
+low_at bytes = do
+  a ← hex_at 13 13 bytes
+  b ← hex_at 12 15 a.1
+  hex_pair_at (a.0 * 16 + b.0) b.1
 
-unfoldable pub whole_at : List ℕ → Read ℕ
-whole_at bytes =
-    let digits = digits_at bytes in
-    if write_no_number digits then Err 0
-    else Ok (digits_value 10 digits, drop (length digits) bytes)
+-- what follows the first half of a pair of surrogates
+unfoldable pub after_high_at : ℕ → List ℕ → Read ℕ
+after_high_at high bytes = do
+  rest ← after_word (92 ∷ 117 ∷ []) bytes
+  low ← low_at rest
+  Ok (of_pair high low.0, low.1)
 
-unfoldable pub number_at : List ℕ → Read ℤ
-number_at bytes =
-    if first bytes == 45 then (whole_at (drop 1 bytes) >>= λ x. Ok (neg_ℤ (pos (x.0 * 1000000)), x.1))
-    else (whole_at bytes >>= λ x. Ok (pos (x.0 * 1000000), x.1))
+-- four digits, and what follows them where they write the first half of a pair of surrogates
+unfoldable pub long_at : List ℕ → Read ℕ
+long_at bytes = do
+  a ← hex_at 0 15 bytes
+  b ← hex_at 0 (if a.0 == 13 then 11 else 15) a.1
+  n ← hex_pair_at (a.0 * 16 + b.0) b.1
+  if nat_le 0xD800 n.0 && nat_lt n.0 0xDC00 then after_high_at n.0 n.1 else Ok n
 
--- elements up to the closing byte, with a comma between any two, no more than fuel
-unfoldable pub run_at : {A : Type 0} → ℕ → (List ℕ → Read A) → ℕ → List ℕ → Read (List A)
-run_at close element zero bytes = Err 0
-run_at close element (suc fuel) bytes = do
-  x ← element bytes
-  if first x.1 == 44
-      then (run_at close element fuel (drop 1 x.1) >>= λ y. Ok (x.0 ∷ y.0, y.1))
-      else (if first x.1 == close then Ok (x.0 ∷ [], drop 1 x.1) else Err 0)
+-- the character that an escape of two bytes stands for, from its second byte on
+abbrev pub escape_of : Option ℕ → List ℕ → Read ℕ
+escape_of None bytes = stop bytes
+escape_of (Some c) bytes = Ok (c, drop 1 bytes)
 
-unfoldable pub sequence_at : {A : Type 0} → ℕ → (List ℕ → Read A) → List ℕ → Read (List A)
+-- the character of an escape, without its first byte
+unfoldable pub escape_at : List ℕ → Read ℕ
+escape_at bytes =
+    if first bytes == 117 then long_at (drop 1 bytes)
+    else escape_of (short_escape (first bytes)) bytes
+
+-- one more byte of a character, from low to high
+unfoldable pub tail_at : ℕ → ℕ → ℕ → List ℕ → Read ℕ
+tail_at low high n bytes =
+    if nat_le low (first bytes) && nat_le (first bytes) high
+    then Ok (n * 64 + (first bytes - 128), drop 1 bytes) else stop bytes
+
+-- the rest of a character of three bytes, by its first byte
+unfoldable pub three_at : ℕ → List ℕ → Read ℕ
+three_at b bytes = do
+  x ← tail_at (if b == 224 then 160 else 128) (if b == 237 then 159 else 191) (b - 224) bytes
+  tail_at 128 191 x.0 x.1
+
+-- the rest of a character of four bytes, by its first byte
+unfoldable pub four_at : ℕ → List ℕ → Read ℕ
+four_at b bytes = do
+  x ← tail_at (if b == 240 then 144 else 128) (if b == 244 then 143 else 191) (b - 240) bytes
+  y ← tail_at 128 191 x.0 x.1
+  tail_at 128 191 y.0 y.1
+
+-- a character that stands for itself, by its first byte
+unfoldable pub plain_at : ℕ → List ℕ → Read ℕ
+plain_at b bytes =
+    if nat_lt b 32 || b == 34 then stop bytes
+    else (if nat_lt b 128 then Ok (b, drop 1 bytes)
+    else (if nat_le 194 b && nat_le b 223 then tail_at 128 191 (b - 192) (drop 1 bytes)
+    else (if nat_le 224 b && nat_le b 239 then three_at b (drop 1 bytes)
+    else (if nat_le 240 b && nat_le b 244 then four_at b (drop 1 bytes)
+    else stop bytes))))
+
+unfoldable pub char_at : List ℕ → Read ℕ
+char_at bytes = if first bytes == 92 then escape_at (drop 1 bytes) else plain_at (first bytes) bytes
+
+-- the characters up to a quote after those that are done, no more than fuel
+unfoldable pub chars_at : ℕ → List ℕ → List ℕ → Read (List ℕ)
+chars_at zero done bytes = stop bytes
+chars_at (suc fuel) done bytes =
+    if first bytes == 34 then Ok (done, bytes)
+    else (char_at bytes >>= λ x. chars_at fuel (done ++ encode_utf8 x.0) x.1)
+
+-- a text between quotes that is none of the names
+unfoldable pub quoted_at : List (List ℕ) → List ℕ → Read (List ℕ)
+quoted_at names bytes =
+    if first bytes == 34 then (chars_at (length (drop 1 bytes)) [] (drop 1 bytes) >>= λ x.
+    if list_any (bytes_eq x.0) names then stop x.1 else Ok (x.0, drop 1 x.1))
+    else stop bytes
+
+-- ---- numbers
+
+-- the digits at the front, and the bytes after them
+unfoldable pub leading_digits : List ℕ → List ℕ
+leading_digits [] = []
+leading_digits (b ∷ rest) = if is_ascii_digit b then b ∷ leading_digits rest else []
+
+unfoldable pub after_digits : List ℕ → List ℕ
+after_digits [] = []
+after_digits (b ∷ rest) = if is_ascii_digit b then after_digits rest else b ∷ rest
+
+unfoldable pub digits_at : List ℕ → Read (List ℕ)
+digits_at bytes = if is_ascii_digit (first bytes) then Ok (leading_digits bytes, after_digits bytes) else stop bytes
+
+unfoldable pub whole_at : List ℕ → Read (List ℕ)
+whole_at bytes = if first bytes == 48 then Ok (48 ∷ [], drop 1 bytes) else digits_at bytes
+
+unfoldable pub fraction_at : List ℕ → Read (List ℕ)
+fraction_at bytes = if first bytes == 46 then digits_at (drop 1 bytes) else Ok ([], bytes)
+
+abbrev pub is_sign : ℕ → Bool
+is_sign b = (b == 43) || (b == 45)
+
+abbrev pub is_mark : ℕ → Bool
+is_mark b = (b == 101) || (b == 69)
+
+-- the bytes after a sign or none
+abbrev pub after_sign : List ℕ → List ℕ
+after_sign bytes = if is_sign (first bytes) then drop 1 bytes else bytes
+
+unfoldable pub exponent_at : List ℕ → Read ℤ
+exponent_at bytes =
+    if is_mark (first bytes) then (digits_at (after_sign (drop 1 bytes)) >>= λ x. Ok (signed (first (drop 1 bytes) == 45) (number_of x.0), x.1))
+    else Ok (pos 0, bytes)
+
+abbrev pub after_minus : List ℕ → List ℕ
+after_minus bytes = if first bytes == 45 then drop 1 bytes else bytes
+
+unfoldable pub numeral_at : List ℕ → Read Parts
+numeral_at bytes = do
+  whole ← whole_at (after_minus bytes)
+  fraction ← fraction_at whole.1
+  exponent ← exponent_at fraction.1
+  Ok (record { minus = first bytes == 45; whole = whole.0; fraction = fraction.0; exponent = exponent.0 }, exponent.1)
+
+-- the same, and only the bytes that are left
+
+abbrev pub digits_rest : List ℕ → Result (List ℕ) ℕ
+digits_rest bytes = if is_ascii_digit (first bytes) then Ok (after_digits bytes) else stop bytes
+
+abbrev pub whole_rest : List ℕ → Result (List ℕ) ℕ
+whole_rest bytes = if first bytes == 48 then Ok (drop 1 bytes) else digits_rest bytes
+
+abbrev pub fraction_rest : List ℕ → Result (List ℕ) ℕ
+fraction_rest bytes = if first bytes == 46 then digits_rest (drop 1 bytes) else Ok bytes
+
+abbrev pub exponent_rest : List ℕ → Result (List ℕ) ℕ
+exponent_rest bytes = if is_mark (first bytes) then digits_rest (after_sign (drop 1 bytes)) else Ok bytes
+
+unfoldable pub numeral_rest : List ℕ → Result (List ℕ) ℕ
+numeral_rest bytes = whole_rest (after_minus bytes) >>= fraction_rest >>= exponent_rest
+
+-- the millionths are in range
+abbrev pub in_range : ℤ → Bool
+in_range (pos n) = nat_le n limit
+in_range (negsuc n) = nat_lt n limit
+
+-- the tree of a number of so many millionths
+abbrev pub number_tree : ℤ → Json
+number_tree m = if in_range m then json.Number m else json.Huge
+
+unfoldable pub number_at : List ℕ → Read Json
+number_at bytes = numeral_at bytes >>= λ x. Ok (number_tree (value_of x.0), x.1)
+
+-- ---- lists and objects
+
+-- elements up to the closing byte after those that are done, with a comma between any two, no more than fuel
+unfoldable pub run_at : {A : Type 0} → ℕ → (List A → List ℕ → Read A) → ℕ → List A → List ℕ → Read (List A)
+run_at close element zero done bytes = stop bytes
+run_at close element (suc fuel) done bytes = do
+  x ← element done bytes
+  if first x.1 == 44 then run_at close element fuel (done ++ x.0 ∷ []) (drop 1 x.1)
+      else (if first x.1 == close then Ok (done ++ x.0 ∷ [], drop 1 x.1) else stop x.1)
+
+unfoldable pub sequence_at : {A : Type 0} → ℕ → (List A → List ℕ → Read A) → List ℕ → Read (List A)
 sequence_at close element bytes =
     let rest = skip_white bytes in
-    if first rest == close then Ok ([], drop 1 rest) else run_at close element (length bytes) rest
-
-unfoldable pub member_at : (List ℕ → Read Json) → List ℕ → Read Member
-member_at value bytes = do
-  name ← padded_at quoted_at bytes
-  if first name.1 == 58 then (padded_at value (drop 1 name.1) >>= λ x. Ok (record { name = name.0; value = x.0 }, x.1)) else Err 0
-
--- the names differ from one another
-abbrev pub are_distinct : List (List ℕ) → Bool
-are_distinct [] = true
-are_distinct (name ∷ names) = not (list_any (bytes_eq name) names) && are_distinct names
-
--- R holds of an element and the next
-abbrev pub SomeAdjacent : {X : Type 0} → (X → X → Type 0) → List X → Type 0
-SomeAdjacent {X} R xs = (k : ℕ) × (k + 1 < length xs) × ((d : X) → R (slice_index_or xs k d) (slice_index_or xs (k + 1) d))
+    if first rest == close then Ok ([], drop 1 rest) else run_at close element (length bytes) [] rest
 
 abbrev pub names_of : List Member → List (List ℕ)
 names_of members = map (λ m. m.name) members
 
+-- a member of an object that has these members
+unfoldable pub member_at : (List ℕ → Read Json) → List Member → List ℕ → Read Member
+member_at value done bytes = do
+  name ← padded_at (quoted_at (names_of done)) bytes
+  if first name.1 == 58 then (padded_at value (drop 1 name.1) >>= λ x. Ok (record { name = name.0; value = x.0 }, x.1)) else stop name.1
+
 unfoldable pub list_at : (List ℕ → Read Json) → List ℕ → Read Json
 list_at value bytes = do
-  items ← sequence_at 93 (padded_at value) bytes
+  items ← sequence_at 93 (λ done. padded_at value) bytes
   Ok (json.List items.0, items.1)
 
 unfoldable pub object_at : (List ℕ → Read Json) → List ℕ → Read Json
 object_at value bytes = do
   members ← sequence_at 125 (member_at value) bytes
-  if are_distinct (names_of members.0) then Ok (json.Object members.0, members.1) else Err 0
+  Ok (json.Object members.0, members.1)
 
 unfoldable pub nested_at : (List ℕ → Read Json) → List ℕ → Read Json
 nested_at value bytes = if first bytes == 91 then list_at value (drop 1 bytes) else object_at value (drop 1 bytes)
@@ -123,11 +261,11 @@ nested_at value bytes = if first bytes == 91 then list_at value (drop 1 bytes) e
 unfoldable pub flat_at : List ℕ → Read Json
 flat_at bytes =
     let b = first bytes in
-    if b == 34 then (quoted_at bytes >>= λ x. Ok (json.Text x.0, x.1))
+    if b == 34 then (quoted_at [] bytes >>= λ x. Ok (json.Text x.0, x.1))
     else (if b == 110 then word_at (codes "null") json.Null bytes
     else (if b == 116 then word_at (codes "true") (json.Flag true) bytes
     else (if b == 102 then word_at (codes "false") (json.Flag false) bytes
-    else (number_at bytes >>= λ x. Ok (json.Number x.0, x.1)))))
+    else number_at bytes)))
 
 -- a value without white space before it, where nested reads lists and objects
 unfoldable pub value_from : (List ℕ → Read Json) → List ℕ → Read Json
@@ -135,10 +273,10 @@ value_from nested bytes = if first bytes == 91 || first bytes == 123 then nested
 
 -- the same, in which level lists and objects may stand in one another
 unfoldable pub value_at : ℕ → List ℕ → Read Json
-value_at zero bytes = value_from (λ _. Err 0) bytes
+value_at zero bytes = value_from (λ rest. stop rest) bytes
 value_at (suc level) bytes = value_from (nested_at (value_at level)) bytes
 
 unfoldable pub text_at : List ℕ → Result Json ℕ
 text_at bytes = do
   x ← padded_at (value_at 128) bytes
-  if length x.1 == 0 then Ok x.0 else Err 0
+  if length x.1 == 0 then Ok x.0 else stop x.1

@@ -1,5 +1,5 @@
-ghost use Rattle.std.specs.Prelude.{◌≡◌};
-ghost use Rattle.json_exact.specs.declared.error.JsonError.TheVariants.{Memory};
+ghost use Rattle.std.specs.Prelude.{◌≡◌, length};
+ghost use Rattle.json_exact.specs.declared.error.Stop.TheVariants.{Memory, Fault};
 
 use std::alloc::{AllocError, AllocFailed};
 use text_kit::OutOfMemory;
@@ -9,33 +9,52 @@ use text_kit::OutOfMemory;
 pub enum JsonError {
     /// The bytes are no JSON text.
     Fault {
-        /// Where the fault is, as an offset in the bytes; 0 so far.
+        /// How many bytes begin a JSON text.
         at: u64,
     },
     /// Memory was refused.
     Memory,
 }
 
-impl From<OutOfMemory> for JsonError {
+/// Why reading stopped.
+#[derive(Clone, Copy, Debug)]
+pub enum Stop {
+    /// The next byte fits nothing, or there is none.
+    Fault {
+        /// How many bytes were left.
+        left: usize,
+    },
+    /// Memory was refused.
+    Memory,
+}
+
+/// A fault at the front of the bytes.
+pub fn fault_at(bytes: &[u8]) -> Stop
+    ensures { result ≡ Fault (length bytes.now) }
+{
+    Stop::Fault { left: bytes.len() }
+}
+
+impl From<OutOfMemory> for Stop {
     ghost from_gives = { λ _ e. e ≡ Memory };
 
-    fn from(_: OutOfMemory) -> JsonError {
-        JsonError::Memory
+    fn from(_: OutOfMemory) -> Stop {
+        Stop::Memory
     }
 }
 
-impl From<AllocError> for JsonError {
+impl From<AllocError> for Stop {
     ghost from_gives = { λ _ e. e ≡ Memory };
 
-    fn from(_: AllocError) -> JsonError {
-        JsonError::Memory
+    fn from(_: AllocError) -> Stop {
+        Stop::Memory
     }
 }
 
-impl<T: Drop> From<AllocFailed<T>> for JsonError {
+impl<T: Drop> From<AllocFailed<T>> for Stop {
     ghost from_gives = { λ _ e. e ≡ Memory };
 
-    fn from(_: AllocFailed<T>) -> JsonError {
-        JsonError::Memory
+    fn from(_: AllocFailed<T>) -> Stop {
+        Stop::Memory
     }
 }

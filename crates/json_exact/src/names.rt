@@ -1,41 +1,81 @@
-//! The test for names that stand twice in one object.
+//! The members of an object so far, with what finds a name among them.
 
-ghost use Rattle.std.specs.Prelude.{◌≡◌, ◌≢◌, IfOk, map, length, IsTrue, IsFalse};
-ghost use Rattle.std.specs.List.{AllAdjacentBelow};
-ghost use Rattle.json_exact.specs.Reader.{are_distinct, names_of, SomeAdjacent};
+ghost use Rattle.std.specs.Prelude.{◌≡◌, [], ◌∷◌, ◌++◌, drop, List, ℕ, IfOk};
+ghost use Rattle.std.specs.List.{list_any};
+ghost use Rattle.std.specs.Str.{bytes_eq};
+ghost use Rattle.std.specs.BTreeSet.{contains_text};
+ghost use Rattle.json_exact.specs.Reader.{names_of};
 
 use crate::json::Member;
-use std::alloc::{AllocError, Global};
+use std::alloc::Global;
+use std::collections::BTreeSet;
+use text_kit::{OutOfMemory, Seq};
 
-/// The names of the members, in their order.
-fn names_of(alloc: Global, members: &[Member]) -> Result<Vec<&str>, AllocError>
-    ensures { IfOk result (λ names. map (λ name. name.now) names.items ≡ names_of members.now) }
-{
-    let mut names = Vec::with_capacity(alloc, members.len())?;
-    for member in members {
-        names.push(member.name.as_str())?;
-    }
-    Ok(names)
+/// How many names are looked through one by one. The others stand in a tree.
+const FEW: usize = 8;
+
+/// The members of an object so far.
+#[derive(Drop)]
+pub struct Members {
+    members: Seq<Member>,
+    later: BTreeSet<String>,
+    ghost found: { (q : List ℕ) → contains_text later q ≡ list_any (bytes_eq q) (drop 8 (names_of members)) },
 }
 
-/// Whether each name differs from the one before it.
-fn neighbours_differ(names: &[&str]) -> bool
-    ensures differ { IsTrue result → AllAdjacentBelow (λ x y. x.now ≢ y.now) names.now (length names.now) }
-    ensures same { IsFalse result → SomeAdjacent (λ x y. x.now ≡ y.now) names.now }
+/// Whether one of the members has the name.
+fn have(members: &[Member], name: &str) -> bool
+    ensures { result ≡ list_any (bytes_eq name.now) (names_of members.now) }
 {
-    for i in 1..names.len() {
-        if names[i - 1] == names[i] {
-            return false;
+    for member in members {
+        if member.name.as_str() == name {
+            return true;
         }
     }
-    true
+    false
 }
 
-/// Whether no two members have one name.
-pub fn are_distinct(alloc: Global, members: &[Member]) -> Result<bool, AllocError>
-    ensures { IfOk result (λ yes. yes ≡ are_distinct (names_of members.now)) }
-{
-    let mut names = names_of(alloc, members)?;
-    names.sort_unstable();
-    Ok(neighbours_differ(&names))
+impl Members {
+    /// No members, with room for one, since most objects in a nest have few.
+    pub fn new(alloc: Global) -> Result<Members, OutOfMemory>
+        ensures { IfOk result (λ m. m.members ≡ []) }
+    {
+        Ok(Members {
+            members: Seq::with_capacity(alloc, 1)?,
+            later: BTreeSet::new(alloc),
+        })
+    }
+
+    /// Whether one of the members has the name.
+    pub fn have(&self, name: &str) -> bool
+        ensures { result ≡ list_any (bytes_eq name.now) (names_of self.now.members) }
+    {
+        let all = self.members.as_slice();
+        if all.len() <= FEW {
+            return have(all, name);
+        }
+        have(&all[..FEW], name) || self.later.contains(name)
+    }
+
+    /// The members with one more at the end.
+    pub fn with(self, alloc: Global, member: Member) -> Result<Members, OutOfMemory>
+        ensures { IfOk result (λ m. m.members ≡ self.members ++ member ∷ []) }
+    {
+        let Members {
+            mut members,
+            mut later,
+        } = self;
+        if members.len() >= FEW {
+            later.insert(String::from_str(alloc, member.name.as_str())?)?;
+        }
+        members.push(member)?;
+        Ok(Members { members, later })
+    }
+
+    /// The members as a list.
+    pub fn into_seq(self) -> Seq<Member>
+        ensures { result ≡ self.members }
+    {
+        let Members { members, later: _ } = self;
+        members
+    }
 }

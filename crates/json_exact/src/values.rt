@@ -3,20 +3,22 @@
 ghost use Rattle.text_kit.specs.Answer.{GivesAs};
 ghost use Rattle.json_exact.specs.Reader.{cause, padded_at, value_at, flat_at, list_at, object_at, member_at, sequence_at};
 
-use crate::error::JsonError;
+use crate::error::{Stop, fault_at};
 use crate::json::{Json, Member};
-use crate::names::are_distinct;
-use crate::words::{after_first, after_word, first_of, number_of, quoted_of, skip_white};
+use crate::names::Members;
+use crate::numbers::number_of;
+use crate::texts::{name_of, quoted_of};
+use crate::words::{after_first, after_word, first_of, skip_white};
 use std::alloc::Global;
 use text_kit::{Seq, Text};
 
 /// The value at the front, in which at most `level` lists and objects stand in one another, and the bytes after it.
 #[cycle(values)]
-fn value_of(alloc: Global, level: u32, bytes: &[u8]) -> Result<(Json, &[u8]), JsonError>
+fn value_of(alloc: Global, level: u32, bytes: &[u8]) -> Result<(Json, &[u8]), Stop>
     ensures { GivesAs (λ x. (x.0, x.1.now)) cause result (value_at level bytes.now) }
 {
     match first_of(bytes) {
-        b'[' | b'{' if level == 0 => Err(JsonError::Fault { at: 0 }),
+        b'[' | b'{' if level == 0 => Err(fault_at(bytes)),
         b'[' => list_of(alloc, level - 1, after_first(bytes)),
         b'{' => object_of(alloc, level - 1, after_first(bytes)),
         _ => flat_of(alloc, bytes),
@@ -25,7 +27,7 @@ fn value_of(alloc: Global, level: u32, bytes: &[u8]) -> Result<(Json, &[u8]), Js
 
 /// The value at the front that is neither a list nor an object, and the bytes after it.
 #[tactic(auto, unfolding(crate::specs::Reader::flat_at))]
-fn flat_of(alloc: Global, bytes: &[u8]) -> Result<(Json, &[u8]), JsonError>
+fn flat_of(alloc: Global, bytes: &[u8]) -> Result<(Json, &[u8]), Stop>
     ensures { GivesAs (λ x. (x.0, x.1.now)) cause result (flat_at bytes.now) }
 {
     match first_of(bytes) {
@@ -45,16 +47,13 @@ fn flat_of(alloc: Global, bytes: &[u8]) -> Result<(Json, &[u8]), JsonError>
             let rest = after_word(bytes, b"false")?;
             Ok((Json::Flag(false), rest))
         }
-        _ => match number_of(bytes) {
-            Ok((number, rest)) => Ok((Json::Number(number), rest)),
-            Err(error) => Err(error),
-        },
+        _ => number_of(bytes),
     }
 }
 
-/// The value at the front with white space on both sides, and the bytes after it.
+/// The same with white space on both sides.
 #[cycle(values)]
-pub fn padded_of(alloc: Global, level: u32, bytes: &[u8]) -> Result<(Json, &[u8]), JsonError>
+pub fn padded_of(alloc: Global, level: u32, bytes: &[u8]) -> Result<(Json, &[u8]), Stop>
     ensures { GivesAs (λ x. (x.0, x.1.now)) cause result (padded_at (value_at level) bytes.now) }
 {
     match value_of(alloc, level, skip_white(bytes)) {
@@ -66,7 +65,7 @@ pub fn padded_of(alloc: Global, level: u32, bytes: &[u8]) -> Result<(Json, &[u8]
 /// The list whose opening bracket stands before the bytes, and the bytes after it.
 #[cycle(values)]
 #[tactic(auto, unfolding(crate::specs::Reader::list_at))]
-fn list_of(alloc: Global, level: u32, bytes: &[u8]) -> Result<(Json, &[u8]), JsonError>
+fn list_of(alloc: Global, level: u32, bytes: &[u8]) -> Result<(Json, &[u8]), Stop>
     ensures { GivesAs (λ x. (x.0, x.1.now)) cause result (list_at (value_at level) bytes.now) }
 {
     match items_of(alloc, level, bytes) {
@@ -77,14 +76,14 @@ fn list_of(alloc: Global, level: u32, bytes: &[u8]) -> Result<(Json, &[u8]), Jso
 
 /// The items up to the closing bracket, and the bytes after it.
 #[cycle(values)]
-fn items_of(alloc: Global, level: u32, bytes: &[u8]) -> Result<(Seq<Json>, &[u8]), JsonError>
-    ensures { GivesAs (λ x. (x.0, x.1.now)) cause result (sequence_at 93 (padded_at (value_at level)) bytes.now) }
+fn items_of(alloc: Global, level: u32, bytes: &[u8]) -> Result<(Seq<Json>, &[u8]), Stop>
+    ensures { GivesAs (λ x. (x.0, x.1.now)) cause result (sequence_at 93 (λ done. padded_at (value_at level)) bytes.now) }
 {
     let mut rest = skip_white(bytes);
     if first_of(rest) == b']' {
         return Ok((Seq::new(alloc), after_first(rest)));
     }
-    // Room for one, since many lists are short: lists of one item each would else take four times as much.
+    // Room for one, since most have few: a nest of lists of one each would else take four times as much.
     let mut items = Seq::with_capacity(alloc, 1)?;
     for _ in 0..bytes.len() {
         let (item, after) = match padded_of(alloc, level, rest) {
@@ -95,25 +94,30 @@ fn items_of(alloc: Global, level: u32, bytes: &[u8]) -> Result<(Seq<Json>, &[u8]
         match first_of(after) {
             b',' => rest = after_first(after),
             b']' => return Ok((items, after_first(after))),
-            _ => break,
+            _ => return Err(fault_at(after)),
         }
     }
-    Err(JsonError::Fault { at: 0 })
+    Err(fault_at(rest))
 }
 
-/// A name, a colon and a value, and the bytes after them.
+/// A name that none of the members has, a colon and a value, and the bytes after them.
 #[cycle(values)]
 #[tactic(auto, unfolding(crate::specs::Reader::member_at))]
-fn member_of(alloc: Global, level: u32, bytes: &[u8]) -> Result<(Member, &[u8]), JsonError>
-    ensures { GivesAs (λ x. (x.0, x.1.now)) cause result (member_at (value_at level) bytes.now) }
+fn member_of<'a>(
+    alloc: Global,
+    level: u32,
+    members: &Members,
+    bytes: &'a [u8],
+) -> Result<(Member, &'a [u8]), Stop>
+    ensures { GivesAs (λ x. (x.0, x.1.now)) cause result (member_at (value_at level) members.now.members bytes.now) }
 {
-    let (name, rest) = match quoted_of(alloc, skip_white(bytes)) {
+    let (name, rest) = match name_of(alloc, members, skip_white(bytes)) {
         Ok(read) => read,
         Err(error) => return Err(error),
     };
     let rest = skip_white(rest);
     if first_of(rest) != b':' {
-        return Err(JsonError::Fault { at: 0 });
+        return Err(fault_at(rest));
     }
     match padded_of(alloc, level, after_first(rest)) {
         Ok((value, rest)) => Ok((Member { name, value }, rest)),
@@ -124,41 +128,36 @@ fn member_of(alloc: Global, level: u32, bytes: &[u8]) -> Result<(Member, &[u8]),
 /// The object whose opening brace stands before the bytes, and the bytes after it.
 #[cycle(values)]
 #[tactic(auto, unfolding(crate::specs::Reader::object_at))]
-fn object_of(alloc: Global, level: u32, bytes: &[u8]) -> Result<(Json, &[u8]), JsonError>
+fn object_of(alloc: Global, level: u32, bytes: &[u8]) -> Result<(Json, &[u8]), Stop>
     ensures { GivesAs (λ x. (x.0, x.1.now)) cause result (object_at (value_at level) bytes.now) }
 {
-    let (members, rest) = match members_of(alloc, level, bytes) {
-        Ok(read) => read,
-        Err(error) => return Err(error),
-    };
-    if !are_distinct(alloc, members.as_slice())? {
-        return Err(JsonError::Fault { at: 0 });
+    match members_of(alloc, level, bytes) {
+        Ok((members, rest)) => Ok((Json::Object(members), rest)),
+        Err(error) => Err(error),
     }
-    Ok((Json::Object(members), rest))
 }
 
 /// The members up to the closing brace, and the bytes after it.
 #[cycle(values)]
-fn members_of(alloc: Global, level: u32, bytes: &[u8]) -> Result<(Seq<Member>, &[u8]), JsonError>
+fn members_of(alloc: Global, level: u32, bytes: &[u8]) -> Result<(Seq<Member>, &[u8]), Stop>
     ensures { GivesAs (λ x. (x.0, x.1.now)) cause result (sequence_at 125 (member_at (value_at level)) bytes.now) }
 {
     let mut rest = skip_white(bytes);
     if first_of(rest) == b'}' {
         return Ok((Seq::new(alloc), after_first(rest)));
     }
-    // Room for one, as in a list.
-    let mut members = Seq::with_capacity(alloc, 1)?;
+    let mut members = Members::new(alloc)?;
     for _ in 0..bytes.len() {
-        let (member, after) = match member_of(alloc, level, rest) {
+        let (member, after) = match member_of(alloc, level, &members, rest) {
             Ok(read) => read,
             Err(error) => return Err(error),
         };
-        members.push(member)?;
+        members = members.with(alloc, member)?;
         match first_of(after) {
             b',' => rest = after_first(after),
-            b'}' => return Ok((members, after_first(after))),
-            _ => break,
+            b'}' => return Ok((members.into_seq(), after_first(after))),
+            _ => return Err(fault_at(after)),
         }
     }
-    Err(JsonError::Fault { at: 0 })
+    Err(fault_at(rest))
 }

@@ -2,7 +2,7 @@
 use Rattle.std.specs.Prelude.{◌≡◌, ℕ, Option, Some, None, List, Result, Ok, Err}
 use Rattle.std.specs.declared.vec.Vec.{Vec}
 use Rattle.json_exact.specs.declared.json.Json.{Json}
-use Rattle.json_exact.specs.Reading.{Reads}
+use Rattle.json_exact.specs.Reading.{Reads, FaultsAt}
 use Rattle.chart_io.specs.Outside.{Appended, AppendedPrefix}
 use Rattle.chart_tool.specs.declared.form.FirstForm.{FirstForm}
 use Rattle.chart_tool.specs.declared.stop.Stop.{Stop}
@@ -19,15 +19,29 @@ pub record IsChart (bytes text : List ℕ) : Type 0 where
   pub is : IsFirstForm tree form
   pub chart : chart_of form ≡ Some text
 
--- the bytes are no specification of the first form
-abbrev pub HasNoForm : List ℕ → Type 0
-HasNoForm bytes = (tree : Json) (form : FirstForm) → Reads bytes tree → IsFirstForm tree form → ⊥
+-- the bytes are no JSON text
+abbrev pub HasNoReading : List ℕ → Type 0
+HasNoReading bytes = (tree : Json) → Reads bytes tree → ⊥
+
+-- the bytes are a JSON text, and no specification of the first form
+pub record HasNoForm (bytes : List ℕ) : Type 0 where
+  pub tree : Json
+  pub reads : Reads bytes tree
+  pub none : (other : Json) (form : FirstForm) → Reads bytes other → IsFirstForm other form → ⊥
 
 -- the file is within its size, and the text is its chart
 abbrev pub IsDrawn : Option (List ℕ) → List ℕ → Type 0
 IsDrawn file text = (bytes : List ℕ) × IsWithinSize file bytes × IsChart bytes text
 
--- the file is within its size, and no specification of the first form
+-- the file is within its size, and no JSON text
+abbrev pub IsUnreadable : Option (List ℕ) → Type 0
+IsUnreadable file = (bytes : List ℕ) × IsWithinSize file bytes × HasNoReading bytes
+
+-- so many of the file's bytes begin a JSON text, and no greater number of them does
+abbrev pub FileFaultsAt : Option (List ℕ) → ℕ → Type 0
+FileFaultsAt file place = (bytes : List ℕ) × IsWithinSize file bytes × FaultsAt bytes place
+
+-- the file is within its size, and a JSON text, and no specification of the first form
 abbrev pub IsUnsupported : Option (List ℕ) → Type 0
 IsUnsupported file = (bytes : List ℕ) × IsWithinSize file bytes × HasNoForm bytes
 
@@ -47,6 +61,7 @@ pub record IsTheForm (bytes : List ℕ) (form : FirstForm) : Type 0 where
 abbrev pub IsFormOf : List ℕ → Result FirstForm Stop → Type 0
 IsFormOf bytes (Ok form) = IsTheForm bytes form
 IsFormOf bytes (Err stop.Unsupported) = HasNoForm bytes
+IsFormOf bytes (Err (stop.Unreadable place)) = HasNoReading bytes × FaultsAt bytes place
 IsFormOf bytes (Err stop.Memory) = Unit {0}
 IsFormOf bytes (Err cause) = ⊥
 
@@ -54,6 +69,7 @@ IsFormOf bytes (Err cause) = ⊥
 abbrev pub IsPictureOf : {A : Type 0} → List ℕ → Result (Vec ℕ A) Stop → Type 0
 IsPictureOf bytes (Ok text) = IsChart bytes text.items × ((other : List ℕ) → IsChart bytes other → other ≡ text.items)
 IsPictureOf bytes (Err stop.Unsupported) = HasNoForm bytes
+IsPictureOf bytes (Err (stop.Unreadable place)) = HasNoReading bytes × FaultsAt bytes place
 IsPictureOf bytes (Err stop.Memory) = Unit {0}
 IsPictureOf bytes (Err cause) = ⊥
 
@@ -64,6 +80,7 @@ IsRenderedOf file old now (Err stop.Write) = (text : List ℕ) × IsTheChart fil
 IsRenderedOf file old now (Err stop.Missing) = file ≡ None
 IsRenderedOf file old now (Err stop.Size) = IsTooLong file
 IsRenderedOf file old now (Err stop.Unsupported) = IsUnsupported file
+IsRenderedOf file old now (Err (stop.Unreadable place)) = IsUnreadable file × FileFaultsAt file place
 IsRenderedOf file old now (Err stop.Read) = Unit {0}
 IsRenderedOf file old now (Err stop.Memory) = Unit {0}
 IsRenderedOf file old now (Err stop.Words) = ⊥

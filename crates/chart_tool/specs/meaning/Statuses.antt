@@ -1,5 +1,6 @@
 -- The statuses that the program ends with, and their texts.
 use Rattle.std.specs.Prelude.{ℕ, List, [], ◌∷◌, ◌++◌, codes}
+use Rattle.std.specs.Fmt.{decimal}
 use Rattle.chart_tool.specs.declared.stop.Stop.{Stop}
 use Rattle.chart_tool.specs.declared.stop.Stop.TheVariants as stop
 
@@ -7,6 +8,7 @@ use Rattle.chart_tool.specs.declared.stop.Stop.TheVariants as stop
 abbrev pub status_of : Stop → ℕ
 status_of stop.Words = 1
 status_of stop.Missing = 2
+status_of (stop.Unreadable place) = 3
 status_of stop.Unsupported = 4
 status_of stop.Read = 7
 status_of stop.Write = 8
@@ -17,6 +19,7 @@ status_of stop.Size = 10
 abbrev pub cause_of : Stop → List ℕ → List ℕ
 cause_of stop.Words name = codes "chart: words"
 cause_of stop.Missing name = codes "chart: missing " ++ name
+cause_of (stop.Unreadable place) name = codes "chart: json " ++ name ++ codes " at " ++ decimal place
 cause_of stop.Unsupported name = codes "chart: spec unsupported "
 cause_of stop.Read name = codes "chart: read"
 cause_of stop.Write name = codes "chart: write"

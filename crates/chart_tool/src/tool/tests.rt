@@ -91,6 +91,15 @@ fn refused(rt: &impl Abort, alloc: Global, changes: &[(&str, &str)]) -> Result<(
     Ok(())
 }
 
+// The specification is no JSON text, and its fault is at this place.
+fn faulty(rt: &impl Abort, alloc: Global, specification: &[u8], at: usize) -> Result<(), Fail> {
+    let (status, text) = rendered(alloc, specification)?;
+    let note = format!(in alloc; "chart: json s.json at {at}\n")?;
+    assert_eq!(rt; status, 3);
+    assert_eq!(rt; text.as_str(), note.as_str());
+    Ok(())
+}
+
 #[test]
 fn the_first_picture_is_exact(rt: HostRuntime) -> Result<(), Fail> {
     let (status, text) = rendered(rt.alloc(), THREE_BARS.as_bytes())?;
@@ -178,80 +187,193 @@ fn members_may_stand_in_any_order(rt: HostRuntime) -> Result<(), Fail> {
     Ok(())
 }
 
+// Each member taken away.
+const TAKEN_AWAY: [(&str, &str); 15] = [
+    ("\"mark\":\"bar\",", ""),
+    ("\"name\":\"t\",", ""),
+    (",\"b\":28}", "}"),
+    ("\"a\":\"A\",", ""),
+    ("\"field\":\"a\",", ""),
+    ("\"type\":\"nominal\",", ""),
+    ("\"type\":\"nominal\",\"axis\":null", "\"type\":\"nominal\""),
+    ("\"field\":\"b\",", ""),
+    ("\"type\":\"quantitative\",", ""),
+    (
+        "\"type\":\"quantitative\",\"axis\":null",
+        "\"type\":\"quantitative\"",
+    ),
+    (
+        ",\"values\":[{\"a\":\"A\",\"b\":28},{\"a\":\"B\",\"b\":55},{\"a\":\"C\",\"b\":43}]",
+        "",
+    ),
+    (
+        "\"x\":{\"field\":\"a\",\"type\":\"nominal\",\"axis\":null},",
+        "",
+    ),
+    (
+        ",\"y\":{\"field\":\"b\",\"type\":\"quantitative\",\"axis\":null}",
+        "",
+    ),
+    (
+        ",\"encoding\":{\"x\":{\"field\":\"a\",\"type\":\"nominal\",\"axis\":null},\"y\":{\"field\":\"b\",\"type\":\"quantitative\",\"axis\":null}}",
+        "",
+    ),
+    (
+        "\"data\":{\"name\":\"t\",\"values\":[{\"a\":\"A\",\"b\":28},{\"a\":\"B\",\"b\":55},{\"a\":\"C\",\"b\":43}]},",
+        "",
+    ),
+];
+
 #[test]
 fn a_member_that_is_taken_away_is_refused(rt: HostRuntime) -> Result<(), Fail> {
-    refused(
-        &rt,
-        rt.alloc(),
-        &[
-            ("\"mark\":\"bar\",", ""),
-            ("\"name\":\"t\",", ""),
-            ("{\"a\":\"A\",\"b\":28}", "{\"a\":\"A\"}"),
-            ("{\"a\":\"A\",\"b\":28}", "{\"b\":28}"),
-            ("\"field\":\"a\",", ""),
-            ("\"type\":\"nominal\",", ""),
-            ("\"type\":\"nominal\",\"axis\":null", "\"type\":\"nominal\""),
-            ("\"type\":\"quantitative\",", ""),
-        ],
-    )
+    refused(&rt, rt.alloc(), &TAKEN_AWAY)
 }
 
-#[test]
-fn a_member_too_many_is_refused(rt: HostRuntime) -> Result<(), Fail> {
-    refused(
-        &rt,
-        rt.alloc(),
-        &[
-            ("\"mark\":\"bar\",", "\"mark\":\"bar\",\"mark\":\"bar\","),
-            ("\"mark\":\"bar\",", "\"mark\":\"bar\",\"title\":\"bar\","),
-            ("\"name\":\"t\",", "\"name\":\"t\",\"format\":{},"),
-            ("\"b\":28}", "\"b\":28,\"c\":1}"),
-            ("\"b\":28}", "\"b\":28,\"b\":28}"),
-            ("\"axis\":null}", "\"axis\":null,\"scale\":{\"typo\":1}}"),
-            ("\"encoding\":{", "\"encoding\":{\"color\":null,"),
-            ("\"field\":\"a\",", "\"field\":\"a\",\"field\":\"a\","),
-        ],
-    )
-}
+// Each member twice, and the place of the second name's closing quote.
+const DOUBLED: [(&str, &str, usize); 15] = [
+    (
+        "\"mark\":\"bar\",",
+        "\"mark\":\"bar\",\"mark\":\"bar\",",
+        101,
+    ),
+    ("\"name\":\"t\",", "\"name\":\"t\",\"name\":\"t\",", 25),
+    ("\"values\":[", "\"values\":[],\"values\":[", 39),
+    ("\"a\":\"A\",", "\"a\":\"A\",\"a\":\"A\",", 41),
+    ("\"b\":28}", "\"b\":28,\"b\":28}", 48),
+    ("\"x\":{", "\"x\":{},\"x\":{", 117),
+    ("\"y\":{", "\"y\":{},\"y\":{", 164),
+    ("\"field\":\"a\",", "\"field\":\"a\",\"field\":\"a\",", 131),
+    (
+        "\"type\":\"nominal\",",
+        "\"type\":\"nominal\",\"type\":\"nominal\",",
+        147,
+    ),
+    (
+        "\"type\":\"nominal\",\"axis\":null",
+        "\"type\":\"nominal\",\"axis\":null,\"axis\":null",
+        159,
+    ),
+    ("\"field\":\"b\",", "\"field\":\"b\",\"field\":\"b\",", 178),
+    (
+        "\"type\":\"quantitative\",",
+        "\"type\":\"quantitative\",\"type\":\"quantitative\",",
+        199,
+    ),
+    (
+        "\"type\":\"quantitative\",\"axis\":null",
+        "\"type\":\"quantitative\",\"axis\":null,\"axis\":null",
+        211,
+    ),
+    ("\"data\":{", "\"data\":{},\"data\":{", 16),
+    ("\"encoding\":{", "\"encoding\":{},\"encoding\":{", 119),
+];
 
 #[test]
-fn a_member_of_another_name_or_kind_is_refused(rt: HostRuntime) -> Result<(), Fail> {
-    refused(
-        &rt,
-        rt.alloc(),
-        &[
-            ("\"mark\"", "\"marks\""),
-            ("\"mark\":\"bar\"", "\"mark\":\"line\""),
-            ("\"mark\":\"bar\"", "\"mark\":null"),
-            ("\"name\":\"t\"", "\"name\":7"),
-            ("\"name\":\"t\"", "\"title\":\"t\""),
-            ("\"values\":[", "\"rows\":["),
-            ("\"A\"", "true"),
-            ("\"b\":28", "\"b\":\"28\""),
-            ("{\"a\":\"A\",\"b\":28}", "[\"A\",28]"),
-            ("{\"a\":\"A\",\"b\":28}", "null"),
-            ("\"x\":{", "\"x2\":{"),
-            ("\"type\":\"nominal\"", "\"type\":\"ordinal\""),
-        ],
-    )
+fn a_repeated_member_is_refused_at_its_closing_quote(rt: HostRuntime) -> Result<(), Fail> {
+    for (old, new, at) in &DOUBLED {
+        let specification = changed(&rt, rt.alloc(), old, new)?;
+        faulty(&rt, rt.alloc(), specification.as_bytes(), *at)?;
+    }
+    Ok(())
 }
+
+// Each member by another name.
+const RENAMED: [(&str, &str); 15] = [
+    ("\"mark\"", "\"marks\""),
+    ("\"name\"", "\"names\""),
+    ("\"values\"", "\"rows\""),
+    ("\"a\":\"A\"", "\"c\":\"A\""),
+    ("\"b\":28", "\"c\":28"),
+    ("\"x\":{", "\"x2\":{"),
+    ("\"y\":{", "\"y2\":{"),
+    ("\"field\":\"a\"", "\"fields\":\"a\""),
+    ("\"type\":\"nominal\"", "\"kind\":\"nominal\""),
+    ("\"nominal\",\"axis\"", "\"nominal\",\"scale\""),
+    ("\"field\":\"b\"", "\"Field\":\"b\""),
+    ("\"type\":\"quantitative\"", "\"\":\"quantitative\""),
+    ("\"quantitative\",\"axis\"", "\"quantitative\",\"axes\""),
+    ("\"data\"", "\"datum\""),
+    ("\"encoding\"", "\"encode\""),
+];
+
+#[test]
+fn a_member_of_another_name_is_refused(rt: HostRuntime) -> Result<(), Fail> {
+    refused(&rt, rt.alloc(), &RENAMED)
+}
+
+// Each member with another kind of value.
+const OF_ANOTHER_KIND: [(&str, &str); 19] = [
+    ("\"mark\":\"bar\"", "\"mark\":\"line\""),
+    ("\"mark\":\"bar\"", "\"mark\":null"),
+    ("\"name\":\"t\"", "\"name\":7"),
+    (
+        "\"values\":[{\"a\":\"A\",\"b\":28},{\"a\":\"B\",\"b\":55},{\"a\":\"C\",\"b\":43}]",
+        "\"values\":{}",
+    ),
+    ("\"A\"", "true"),
+    ("\"b\":28", "\"b\":\"28\""),
+    ("{\"a\":\"A\",\"b\":28}", "[\"A\",28]"),
+    ("{\"a\":\"A\",\"b\":28}", "null"),
+    (
+        "\"x\":{\"field\":\"a\",\"type\":\"nominal\",\"axis\":null}",
+        "\"x\":[]",
+    ),
+    (
+        "\"y\":{\"field\":\"b\",\"type\":\"quantitative\",\"axis\":null}",
+        "\"y\":null",
+    ),
+    ("\"field\":\"a\"", "\"field\":null"),
+    ("\"type\":\"nominal\"", "\"type\":\"ordinal\""),
+    ("\"type\":\"nominal\"", "\"type\":{}"),
+    ("\"nominal\",\"axis\":null", "\"nominal\",\"axis\":{}"),
+    ("\"field\":\"b\"", "\"field\":[\"b\"]"),
+    ("\"type\":\"quantitative\"", "\"type\":0"),
+    (
+        "\"quantitative\",\"axis\":null",
+        "\"quantitative\",\"axis\":false",
+    ),
+    (
+        "\"data\":{\"name\":\"t\",\"values\":[{\"a\":\"A\",\"b\":28},{\"a\":\"B\",\"b\":55},{\"a\":\"C\",\"b\":43}]}",
+        "\"data\":\"t\"",
+    ),
+    (
+        "\"encoding\":{\"x\":{\"field\":\"a\",\"type\":\"nominal\",\"axis\":null},\"y\":{\"field\":\"b\",\"type\":\"quantitative\",\"axis\":null}}",
+        "\"encoding\":true",
+    ),
+];
+
+#[test]
+fn a_value_of_another_kind_is_refused(rt: HostRuntime) -> Result<(), Fail> {
+    refused(&rt, rt.alloc(), &OF_ANOTHER_KIND)
+}
+
+// A member too many, at each level.
+const UNKNOWN: [(&str, &str); 5] = [
+    ("\"mark\":\"bar\",", "\"mark\":\"bar\",\"title\":\"bar\","),
+    ("\"name\":\"t\",", "\"name\":\"t\",\"format\":{},"),
+    ("\"b\":28}", "\"b\":28,\"c\":1}"),
+    ("\"axis\":null}", "\"axis\":null,\"scale\":{\"typo\":1}}"),
+    ("\"encoding\":{", "\"encoding\":{\"color\":null,"),
+];
+
+#[test]
+fn an_unknown_member_is_refused(rt: HostRuntime) -> Result<(), Fail> {
+    refused(&rt, rt.alloc(), &UNKNOWN)
+}
+
+// Amounts and fields that are not of the form.
+const OUT_OF_THE_FORM: [(&str, &str); 6] = [
+    ("\"b\":28", "\"b\":0.5"),
+    ("\"b\":28", "\"b\":-1"),
+    ("\"b\":28", "\"b\":1000000001"),
+    ("\"b\":28", "\"b\":28000000000000000000"),
+    ("\"field\":\"b\"", "\"field\":\"a\""),
+    ("\"field\":\"a\"", "\"field\":\"c\""),
+];
 
 #[test]
 fn an_amount_out_of_the_form_is_refused(rt: HostRuntime) -> Result<(), Fail> {
-    refused(
-        &rt,
-        rt.alloc(),
-        &[
-            ("\"b\":28", "\"b\":0.5"),
-            ("\"b\":28", "\"b\":-1"),
-            ("\"b\":28", "\"b\":1000000001"),
-            ("\"field\":\"b\"", "\"field\":\"a\""),
-            ("\"axis\":null", "\"axis\":{}"),
-            ("\"axis\":null", "\"axis\":false"),
-            ("\"field\":\"a\"", "\"field\":\"c\""),
-            ("{\"data\"", "[{\"data\""),
-        ],
-    )
+    refused(&rt, rt.alloc(), &OUT_OF_THE_FORM)
 }
 
 #[test]
@@ -263,6 +385,7 @@ fn the_greatest_amount_and_odd_names_are_drawn(rt: HostRuntime) -> Result<(), Fa
         "\"a\":\"B\",\"b\":-0",
         "\"a\":\"<&>'\",\"b\":1",
         "\"a\":\"CC\",\"b\":1",
+        "\"a\":\"\\u00e9\\n\\ud83d\\ude00é\",\"b\":1e3",
     ] {
         let specification = changed(&rt, rt.alloc(), first, new)?;
         let (status, _) = rendered(rt.alloc(), specification.as_bytes())?;
@@ -272,12 +395,30 @@ fn the_greatest_amount_and_odd_names_are_drawn(rt: HostRuntime) -> Result<(), Fa
 }
 
 #[test]
-fn each_beginning_is_refused(rt: HostRuntime) -> Result<(), Fail> {
+fn each_beginning_is_refused_at_its_end(rt: HostRuntime) -> Result<(), Fail> {
     let bytes = THREE_BARS.as_bytes();
     for (k, _) in bytes.iter().enumerate() {
-        let (status, text) = rendered(rt.alloc(), &bytes[..k])?;
-        assert_eq!(rt; status, 4, "the first {k} bytes");
-        assert_eq!(rt; text.as_str(), UNSUPPORTED);
+        faulty(&rt, rt.alloc(), &bytes[..k], k)?;
+    }
+    Ok(())
+}
+
+// Texts that are not JSON, and how many of their bytes begin one.
+const FAULTY: [(&str, usize); 8] = [
+    ("{\"a\":1,\"a\":2}", 9),
+    ("{\"mark\":\"bar\"", 13),
+    ("\"\\ud800\"", 7),
+    ("[1,]", 3),
+    ("nul", 3),
+    ("truex", 4),
+    ("{} {}", 3),
+    (" 01", 2),
+];
+
+#[test]
+fn the_place_of_a_fault_is_told(rt: HostRuntime) -> Result<(), Fail> {
+    for (text, at) in &FAULTY {
+        faulty(&rt, rt.alloc(), text.as_bytes(), *at)?;
     }
     Ok(())
 }
@@ -308,17 +449,17 @@ fn a_thousand_values_are_drawn_and_no_more(rt: HostRuntime) -> Result<(), Fail> 
     Ok(())
 }
 
-// Nesting is refused past 128, and a list is no chart either way.
 #[test]
-fn deep_lists_are_refused(rt: HostRuntime) -> Result<(), Fail> {
-    for depth in [128usize, 129] {
-        let mut bytes = vec![in rt.alloc(); b'['; depth]?;
-        for _ in 0..depth {
-            bytes.push(b']')?;
-        }
-        let (status, _) = rendered(rt.alloc(), &bytes)?;
-        assert_eq!(rt; status, 4);
+fn nesting_past_128_is_a_fault(rt: HostRuntime) -> Result<(), Fail> {
+    let mut bytes = vec![in rt.alloc(); b'['; 129]?;
+    faulty(&rt, rt.alloc(), &bytes, 128)?;
+    bytes.truncate(128);
+    for _ in 0..128u32 {
+        bytes.push(b']')?;
     }
+    let (status, text) = rendered(rt.alloc(), &bytes)?;
+    assert_eq!(rt; status, 4);
+    assert_eq!(rt; text.as_str(), UNSUPPORTED);
     Ok(())
 }
 
@@ -374,9 +515,7 @@ fn a_file_past_its_size_is_named(rt: HostRuntime) -> Result<(), Fail> {
     let (status, text) = rendered(alloc, &spaces)?;
     assert_eq!(rt; status, 10);
     assert_eq!(rt; text.as_str(), "chart: size s.json\n");
-    let (status, _) = rendered(alloc, &spaces[1..])?;
-    assert_eq!(rt; status, 4);
-    Ok(())
+    faulty(&rt, alloc, &spaces[1..], 16_777_216)
 }
 
 #[test]

@@ -5,11 +5,15 @@ use Rattle.chart_tool.proofs.Charts.{same_tree}
 use Rattle.chart_tool.proofs.render.form_of.Goals as goal
 
 pub returns-in_default : goal.returns-in_default
-returns-in_default c = λ tree form reads is.
-    let same = same_tree c.in-Ok.tree tree (c.in-Ok.ensures.complete tree reads) in
-    let at : Json → Type 0 = λ t. IsFirstForm t form in
-    let none = rw c.in_default.is at c.in_ok-form.ensures.none in
-    none form (subst at (sym same) is)
+returns-in_default c = record {
+  tree = c.in-Ok.tree;
+  reads = c.in-Ok.ensures.sound;
+  none = λ tree form reads is.
+      let same = same_tree c.in-Ok.tree tree (c.in-Ok.ensures.complete tree reads) in
+      let at : Json → Type 0 = λ t. IsFirstForm t form in
+      let none = rw c.in_default.is at c.in_ok-form.ensures.none in
+      none form (subst at (sym same) is);
+}
 
 pub returns : goal.returns
 returns c = record {

@@ -1,8 +1,8 @@
-use Rattle.std.proofs.Common.{List, ℕ, Option, Ok, Err, inl, inr, refl, ap, sym, ◌∙◌}
-use Rattle.chart_io.specs.Outside.{Rose, Kept, AppendedPrefix}
-use Rattle.chart_tool.specs.meaning.Rendering.{IsRenderedOf, IsUnsupported, IsDrawn}
+use Rattle.std.proofs.Common.{◌≡◌, List, ℕ, Option, Ok, Err, inl, inr, refl, ap, sym, subst, ◌∙◌}
+use Rattle.chart_io.specs.Outside.{Rose, Kept, Appended, AppendedPrefix}
+use Rattle.chart_tool.specs.meaning.Rendering.{IsRenderedOf, IsUnreadable, FileFaultsAt, IsUnsupported, IsDrawn}
 use Rattle.chart_tool.specs.meaning.Answers.{ComesWhere, Draws}
-use Rattle.chart_tool.proofs.Answered.{told_of, ok_unsupported, ok_drawn, ok_prefix, err_unsupported, err_drawn, err_prefix, only_words, ok_undrawn, err_undrawn}
+use Rattle.chart_tool.proofs.Answered.{told_of, ok_unsupported, ok_drawn, ok_prefix, err_unsupported, err_drawn, err_prefix, only_words, ok_undrawn, err_undrawn, ok_unreadable, err_unreadable, place_of, note_is, err_place}
 use Rattle.chart_tool.proofs.tool.chart_main.Goals as goal
 
 pub returns-in-Ok-clause-unsupported : goal.returns-in-Ok-clause-unsupported
@@ -80,3 +80,39 @@ returns-in-Err-clause-undrawn g c =
     let is : Option (List ℕ) → Type 0 = λ file. IsRenderedOf {A = Unit {0}} file old now (Err c.in-Err.stop) in
     told_of is (λ file. ((text : List ℕ) → IsDrawn file text → ⊥) → Kept old now) _ _ c.in-Some.name.now (sym c.in-Some.ensures) c.in-Err.ensures.told
     (λ file rendered none. err_undrawn (Unit {0}) old now c.in-Err.stop file c.in-Err.ensures.silent rendered none)
+
+pub returns-in-Ok-clause-unreadable : goal.returns-in-Ok-clause-unreadable
+returns-in-Ok-clause-unreadable g c =
+    let old = g.K.Sink.held c.args.out.now in
+    let now = g.K.Sink.held c.render.new.out in
+    let done : Unit {0} = c.in-Ok.field-0 in
+    let is : Option (List ℕ) → Type 0 = λ file. IsRenderedOf {A = Unit {0}} file old now (Ok done) in
+    told_of is (λ file. ComesWhere 3 0 (IsUnreadable file)) _ _ c.in-Some.name.now (sym c.in-Some.ensures) c.in-Ok.ensures.told (ok_unreadable old now done)
+
+pub returns-in-Err-clause-unreadable : goal.returns-in-Err-clause-unreadable
+returns-in-Err-clause-unreadable g c =
+    let old = g.K.Sink.held c.args.out.now in
+    let now = g.K.Sink.held c.render.new.out in
+    let is : Option (List ℕ) → Type 0 = λ file. IsRenderedOf {A = Unit {0}} file old now (Err c.in-Err.stop) in
+    told_of is (λ file. ComesWhere 3 c.stopped-in-Err.result (IsUnreadable file)) _ _ c.in-Some.name.now (sym c.in-Some.ensures) c.in-Err.ensures.told
+    (λ file rendered. err_unreadable (Unit {0}) old now c.in-Err.stop c.stopped-in-Err.result file c.stopped-in-Err.ensures.status rendered)
+
+pub returns-in-Err-clause-noted : goal.returns-in-Err-clause-noted
+returns-in-Err-clause-noted g c =
+    let old = g.K.Sink.held c.args.out.now in
+    let now = g.K.Sink.held c.render.new.out in
+    let is : Option (List ℕ) → Type 0 = λ file. IsRenderedOf {A = Unit {0}} file old now (Err c.in-Err.stop) in
+    let same = note_is c.in-Err.stop c.stopped-in-Err.result _ c.in-Some.name.now c.stopped-in-Err.ensures.status (sym c.in-Some.ensures) in
+    let at : List ℕ → Type 0 = λ text. Appended (g.N.Sink.held c.args.notes.now) (g.N.Sink.held c.stopped-in-Err.new.notes) text in
+    λ no_rise. (
+      place_of c.in-Err.stop,
+      told_of is (λ file. c.stopped-in-Err.result ≡ 3 → FileFaultsAt file (place_of c.in-Err.stop)) _ _ c.in-Some.name.now (sym c.in-Some.ensures) c.in-Err.ensures.told
+          (λ file rendered. err_place (Unit {0}) old now c.in-Err.stop c.stopped-in-Err.result file c.stopped-in-Err.ensures.status rendered),
+      subst at same (c.stopped-in-Err.ensures.noted no_rise),
+    )
+
+pub returns-in-Err-clause-begun : goal.returns-in-Err-clause-begun
+returns-in-Err-clause-begun g c =
+    let same = note_is c.in-Err.stop c.stopped-in-Err.result _ c.in-Some.name.now c.stopped-in-Err.ensures.status (sym c.in-Some.ensures) in
+    let at : List ℕ → Type 0 = λ text. AppendedPrefix (g.N.Sink.held c.args.notes.now) (g.N.Sink.held c.stopped-in-Err.new.notes) text in
+    (place_of c.in-Err.stop, subst at same c.stopped-in-Err.ensures.begun)

@@ -1,0 +1,10 @@
+use Rattle.std.proofs.Common.{◌≡◌, length}
+use Rattle.json_exact.specs.Path.{led_by}
+use Rattle.json_exact.specs.Along.{words_after}
+use Rattle.json_exact.proofs.path.led_by.Given as goal
+
+abbrev pub invariant-loop-rest : goal.invariant-loop-rest
+invariant-loop-rest l = led_by (words_after l.rest) l.here ≡ led_by (words_after l.path) l.tree
+
+abbrev pub decreases-loop-rest : goal.decreases-loop-rest
+decreases-loop-rest l = length l.rest
