@@ -1,0 +1,4 @@
+mod Spelling
+mod Place
+mod GatherLemmas
+mod LawLemmas

@@ -1,0 +1,22 @@
+//! Cells, the values that expressions compute and that rows hold under names; rows; and the state of a
+//! chart: its sources of keyed rows, the values of its parameters and the stores of its selections.
+#![tactic(auto)]
+
+mod cell;
+mod copies;
+mod display;
+mod gather;
+mod laws;
+mod order;
+mod row;
+mod state;
+mod steps;
+#[cfg(test)]
+mod tests;
+
+pub use cell::Cell;
+pub use copies::{Copies, copy_list};
+pub use laws::{laws_of_cells, laws_of_rows};
+pub use row::Row;
+pub use state::{ChartState, Extent, Key, Keyed, Named, Params, Rows, StoreOf};
+pub use steps::Steps;
