@@ -367,7 +367,7 @@ short_small letter c e =
     small_if (eqb letter 34) 34 c _ (omega arith) (small_if (eqb letter 92) 92 c _ (omega arith) (small_if (eqb letter 47) 47 c _ (omega arith) (small_if (eqb letter 98) 8 c _ (omega arith)
     (small_if (eqb letter 102) 12 c _ (omega arith) (small_if (eqb letter 110) 10 c _ (omega arith) (small_if (eqb letter 114) 13 c _ (omega arith) (small_if (eqb letter 116) 9 c None (omega arith) (λ none. absurd cc)))))))) e
 
-char_scalar : {word : List ℕ} {c : ℕ} → IsChar word c → IsScalar c
+pub char_scalar : {word : List ℕ} {c : ℕ} → IsChar word c → IsScalar c
 char_scalar (itself c s l q e) = s
 char_scalar (short letter c e) = scalar_from c (inl (omega (arith, short_small letter c e)))
 char_scalar (long word c u s) = s

@@ -19,3 +19,6 @@ pub mod Opens
 pub mod OpenTexts
 pub mod OpenValues
 pub mod Paths
+pub mod Spelling
+pub mod Written
+pub mod Rewritten

@@ -2,3 +2,4 @@ pub mod Reading
 pub mod Reader
 pub mod Path
 pub mod Along
+pub mod Writing

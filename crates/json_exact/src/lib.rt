@@ -11,13 +11,17 @@ mod reading;
 mod texts;
 mod values;
 mod words;
+mod writing;
 
 pub use error::JsonError;
 pub use json::{Json, Member};
 pub use path::at_path;
 pub use reading::{one_reading, read};
+pub use writing::{what_was_written_is_read, write};
 
 #[cfg(test)]
 mod path_tests;
 #[cfg(test)]
 mod tests;
+#[cfg(test)]
+mod writing_tests;

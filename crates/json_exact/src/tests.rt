@@ -270,15 +270,27 @@ fn object(alloc: Global, count: u32, last: &str) -> Result<String, AllocError> {
 
 #[test]
 fn many_members_are_read(rt: HostRuntime) -> Result<(), Fail> {
-    let text = object(rt.alloc(), 20_000, "k")?;
+    let text = object(rt.alloc(), 1_048_575, "k")?;
     match read(rt.alloc(), text.as_bytes()) {
-        Ok(Json::Object(members)) => assert_eq!(rt; members.len(), 20_001),
+        Ok(Json::Object(members)) => assert_eq!(rt; members.len(), 1_048_576),
         _ => panic!(rt; "the bytes are an object"),
     }
     let text = object(rt.alloc(), 20_000, "k19999")?;
     assert_eq!(rt;
         said(rt.alloc(), text.as_bytes())?.as_str(),
         "fault at 317788"
+    );
+    Ok(())
+}
+
+#[test]
+fn sixteen_mebibytes_of_digits_are_read(rt: HostRuntime) -> Result<(), Fail> {
+    let digits = nested(rt.alloc(), "7777777777777777", "", "", 1_048_576)?;
+    assert_eq!(rt; said(rt.alloc(), digits.as_bytes())?.as_str(), "huge;huge");
+    let fraction = nested(rt.alloc(), "0.", digits.as_str(), "", 1)?;
+    assert_eq!(rt;
+        said(rt.alloc(), fraction.as_bytes())?.as_str(),
+        "777778;777778"
     );
     Ok(())
 }
