@@ -1,0 +1,74 @@
+-- Rows that are given as JSON.
+use Rattle.std.specs.Prelude.{◌≡◌, refl, ℕ, suc, not, Bool, true, false, Option, Some, None, List, [], ◌∷◌, map, find, codes}
+use Rattle.std.specs.Option.{option_map}
+use Rattle.std.specs.List.{filter}
+use Rattle.std.specs.Str.{bytes_eq}
+use Rattle.json_exact.specs.declared.json.Json.{Json, Json-F, out-Json}
+use Rattle.json_exact.specs.declared.json.Json.TheOpen as level
+use Rattle.json_exact.specs.declared.json.Json.TheVariants as json
+use Rattle.json_exact.specs.declared.json.Member.{Member}
+use Rattle.cell_value.specs.declared.cell.Cell.{Cell}
+use Rattle.cell_value.specs.declared.cell.Cell.TheVariants as cell
+use Rattle.cell_value.specs.Row.{Cells, row_of}
+
+-- the cell of a value; a list or an object in a row is read as null, whatever it holds
+abbrev pub cell_in : Json-F Json Member → Cell
+cell_in (level.Flag b) = cell.Flag b
+cell_in (level.Number n) = cell.Number n
+cell_in (level.Text t) = cell.Text t
+cell_in other = cell.Null
+
+-- whether a value is a number out of range
+abbrev pub is_huge : Json-F Json Member → Bool
+is_huge level.Huge = true
+is_huge other = false
+
+-- the name under which every row has its id; a member of this name is dropped
+abbrev pub id_name : List ℕ
+id_name = codes "_vgsid_"
+
+-- the cells that an object gives to its row
+abbrev pub cells_of : List Member → List (List ℕ × Cell)
+cells_of members = map (λ (m : Member). (m.name, cell_in (out-Json m.value))) (filter (λ (m : Member). not (bytes_eq m.name id_name)) members)
+
+-- the row of a value: an object's cells; any other value stands under `data`
+abbrev pub row_in : Json-F Json Member → Cells
+row_in (level.Object members) = row_of (cells_of members)
+row_in other = row_of ((codes "data", cell_in other) ∷ [])
+
+abbrev pub row_of_json : Json → Cells
+row_of_json tree = row_in (out-Json tree)
+
+-- The first field that can't be read, None where all can be: a number out of range; a list is no row at all.
+abbrev pub bad_field_in : Json-F Json Member → Option (List ℕ)
+bad_field_in (level.List items) = Some []
+bad_field_in level.Huge = Some (codes "data")
+bad_field_in (level.Object members) = option_map (λ (m : Member). m.name) (find (λ (m : Member). is_huge (out-Json m.value)) members)
+bad_field_in other = None
+
+abbrev pub bad_field : Json → Option (List ℕ)
+bad_field tree = bad_field_in (out-Json tree)
+
+-- a bad row, if this is one; else what comes later
+abbrev pub bad_or : ℕ → Option (List ℕ) → Option (ℕ × List ℕ) → Option (ℕ × List ℕ)
+bad_or n (Some field) later = Some (n, field)
+bad_or n None later = later
+
+-- the first row that can't be read, by its number counted from n, with its first such field
+abbrev pub first_bad : ℕ → List Json → Option (ℕ × List ℕ)
+first_bad n [] = None
+first_bad n (tree ∷ trees) = bad_or n (bad_field tree) (first_bad (suc n) trees)
+
+-- The rules at work.
+
+a_list_is_no_row : bad_field (json.List []) ≡ Some []
+unfolding out-Json denote.Hole.Carrier.out
+a_list_is_no_row = refl
+
+a_number_out_of_range : bad_field_in (level.Object (record { name = codes "a"; value = json.Null } ∷ record { name = codes "b"; value = json.Huge } ∷ [])) ≡ Some (codes "b")
+unfolding out-Json denote.Hole.Carrier.out
+a_number_out_of_range = refl
+
+a_nested_member : cells_of (record { name = codes "a"; value = json.List (json.Huge ∷ []) } ∷ record { name = codes "_vgsid_"; value = json.Flag true } ∷ []) ≡ (codes "a", cell.Null) ∷ []
+unfolding out-Json denote.Hole.Carrier.out
+a_nested_member = refl

@@ -1,0 +1,9 @@
+pub mod RangeLemmas
+pub mod StepLemmas
+pub mod DomainLemmas
+pub mod IndexLemmas
+pub mod BandLemmas
+pub mod BarLemmas
+pub mod OneSource
+pub mod Opened
+pub mod Replies

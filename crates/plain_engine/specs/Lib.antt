@@ -1,0 +1,4 @@
+pub mod ScaleViews
+pub mod RowViews
+pub mod Engine
+pub mod JsonRows

@@ -1,0 +1,40 @@
+// Why lines are not read, pictures not printed and scripts not played.
+
+use thiserror::Error;
+
+/// Why a line is not read.
+#[derive(Clone, Copy, Debug, PartialEq, Eq)]
+pub enum LineError {
+    /// It is no command.
+    Fault,
+    /// Memory was refused.
+    Memory,
+}
+
+/// Why a picture is not printed.
+#[derive(Clone, Copy, Debug, PartialEq, Eq, Error)]
+pub enum PrintError {
+    /// The sink failed.
+    #[error("the picture could not be written")]
+    Write,
+    /// Memory was refused.
+    #[error("memory was refused")]
+    Memory,
+}
+
+/// Why a script is not played to its end.
+#[derive(Clone, Copy, Debug, PartialEq, Eq, Error)]
+pub enum PlayError {
+    /// The script could not be read.
+    #[error("the script could not be read")]
+    Read,
+    /// The output could not be written.
+    #[error("the output could not be written")]
+    Write,
+    /// The script is longer than scripts may be.
+    #[error("the script is too long")]
+    Size,
+    /// Memory was refused.
+    #[error("memory was refused")]
+    Memory,
+}

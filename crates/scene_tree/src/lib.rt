@@ -1,0 +1,11 @@
+//! A scene: the panels of a picture with what is drawn in them. Places and sizes are numbers of pixels.
+#![tactic(auto)]
+
+mod copies;
+mod scene;
+mod shape;
+#[cfg(test)]
+mod tests;
+
+pub use scene::{Item, Panel, Scene};
+pub use shape::{Anchor, Point, Shape};

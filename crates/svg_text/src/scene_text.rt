@@ -1,0 +1,305 @@
+// Scenes, printed by way of a page.
+ghost use Rattle.std.specs.Prelude.{◌≡◌, ◌++◌, ◌≤◌, codes, OnOk, OnErr};
+ghost use Rattle.std.specs.List.{flat_map};
+ghost use Rattle.chart_io.specs.Outside.{Rose, Appended, AppendedPrefix};
+ghost use Rattle.svg_text.specs.Pieces.{piece_text};
+ghost use Rattle.svg_text.specs.Printing.{printed, Grown, Begins};
+ghost use Rattle.svg_text.specs.SceneText.{escaped, attribute, numeric_attribute, pair_text, shape_text, fill_text, stroke_text, opacity_text, end_text, item_text, panel_text, head_text, svg_of};
+
+use crate::page::{Page, hand_on};
+use crate::pieces::{Attribute, Piece, numeric, put_attributes, put_pieces, put_text};
+use crate::shapes::put_shape;
+use chart_io::{Sink, WriteFault};
+use fixed_num::Num;
+use scene_tree::{Item, Panel, Scene, Shape};
+use text_kit::Text;
+
+// An attribute with this text.
+fn worded<'a>(name: &'a str, text: &'a Text) -> Attribute<'a>
+    ensures name { result.name.now ≡ name.now }
+    ensures value { piece_text result.value ≡ escaped text.now }
+{
+    Attribute {
+        name,
+        value: Piece::Escaped(text),
+    }
+}
+
+// A fill by a word that needs no escape.
+fn put_no_fill<K: Sink>(out: &mut K, page: &mut Page, none: &str) -> Result<(), WriteFault>
+    ensures counted { K.faults out.old ≤ K.faults out.new }
+    ensures cause { OnErr result (Rose (K.faults out.old) (K.faults out.new)) }
+    ensures ok { OnOk result (Appended (printed (K.held out.old) page.old) (printed (K.held out.new) page.new) (attribute (codes "fill") none.now)) }
+    ensures grown { Grown (K.held out.old) (K.held out.new) }
+    ensures prefix { Begins (printed (K.held out.old) page.old) (K.held out.new) (attribute (codes "fill") none.now) }
+{
+    let fill = Attribute {
+        name: "fill",
+        value: Piece::Plain(none),
+    };
+    put_attributes(out, page, &[fill])
+}
+
+// The fill of the item.
+#[tactic(auto, using(crate::proofs::Steps::holds, crate::proofs::Steps::nothing_printed, crate::proofs::Steps::grown_not))]
+fn put_fill<K: Sink>(out: &mut K, page: &mut Page, item: &Item) -> Result<(), WriteFault>
+    ensures counted { K.faults out.old ≤ K.faults out.new }
+    ensures cause { OnErr result (Rose (K.faults out.old) (K.faults out.new)) }
+    ensures ok { OnOk result (Appended (printed (K.held out.old) page.old) (printed (K.held out.new) page.new) (fill_text item.now.shape item.now.fill item.now.stroke)) }
+    ensures grown { Grown (K.held out.old) (K.held out.new) }
+    ensures prefix { Begins (printed (K.held out.old) page.old) (K.held out.new) (fill_text item.now.shape item.now.fill item.now.stroke) }
+{
+    match (&item.shape, &item.fill, &item.stroke) {
+        (Shape::Line { .. }, _, _) => Ok(()),
+        (_, Some(fill), _) => put_attributes(out, page, &[worded("fill", fill)]),
+        (_, None, Some(_)) => put_no_fill(out, page, "none"),
+        (_, None, None) => Ok(()),
+    }
+}
+
+// A stroke with its width.
+fn put_outline<K: Sink>(
+    out: &mut K,
+    page: &mut Page,
+    stroke: &Text,
+    width: Num,
+) -> Result<(), WriteFault>
+    ensures counted { K.faults out.old ≤ K.faults out.new }
+    ensures cause { OnErr result (Rose (K.faults out.old) (K.faults out.new)) }
+    ensures ok { OnOk result (Appended (printed (K.held out.old) page.old) (printed (K.held out.new) page.new) (attribute (codes "stroke") (escaped stroke.now) ++ numeric_attribute (codes "stroke-width") width)) }
+    ensures grown { Grown (K.held out.old) (K.held out.new) }
+    ensures prefix { Begins (printed (K.held out.old) page.old) (K.held out.new) (attribute (codes "stroke") (escaped stroke.now) ++ numeric_attribute (codes "stroke-width") width) }
+{
+    put_pieces(
+        out,
+        page,
+        &[
+            Piece::Plain(" stroke=\""),
+            Piece::Escaped(stroke),
+            Piece::Plain("\" stroke-width=\""),
+            Piece::Number(width),
+            Piece::Plain("\""),
+        ],
+    )?;
+    Ok(())
+}
+
+// The stroke of the item.
+#[tactic(auto, using(crate::proofs::Steps::holds, crate::proofs::Steps::nothing_printed, crate::proofs::Steps::grown_not))]
+fn put_stroke<K: Sink>(out: &mut K, page: &mut Page, item: &Item) -> Result<(), WriteFault>
+    ensures counted { K.faults out.old ≤ K.faults out.new }
+    ensures cause { OnErr result (Rose (K.faults out.old) (K.faults out.new)) }
+    ensures ok { OnOk result (Appended (printed (K.held out.old) page.old) (printed (K.held out.new) page.new) (stroke_text item.now.stroke item.now.stroke_width)) }
+    ensures grown { Grown (K.held out.old) (K.held out.new) }
+    ensures prefix { Begins (printed (K.held out.old) page.old) (K.held out.new) (stroke_text item.now.stroke item.now.stroke_width) }
+{
+    let Some(stroke) = &item.stroke else {
+        return Ok(());
+    };
+    put_outline(out, page, stroke, item.stroke_width)
+}
+
+// The opacity.
+#[tactic(auto, using(crate::proofs::Steps::holds, crate::proofs::Steps::nothing_printed, crate::proofs::Steps::grown_not))]
+fn put_opacity<K: Sink>(out: &mut K, page: &mut Page, opacity: Num) -> Result<(), WriteFault>
+    ensures counted { K.faults out.old ≤ K.faults out.new }
+    ensures cause { OnErr result (Rose (K.faults out.old) (K.faults out.new)) }
+    ensures ok { OnOk result (Appended (printed (K.held out.old) page.old) (printed (K.held out.new) page.new) (opacity_text opacity)) }
+    ensures grown { Grown (K.held out.old) (K.held out.new) }
+    ensures prefix { Begins (printed (K.held out.old) page.old) (K.held out.new) (opacity_text opacity) }
+{
+    if opacity.millionths() == 1_000_000 {
+        return Ok(());
+    }
+    put_attributes(out, page, &[numeric("opacity", opacity)])
+}
+
+// The colours of the item.
+fn put_paint<K: Sink>(out: &mut K, page: &mut Page, item: &Item) -> Result<(), WriteFault>
+    ensures counted { K.faults out.old ≤ K.faults out.new }
+    ensures cause { OnErr result (Rose (K.faults out.old) (K.faults out.new)) }
+    ensures ok { OnOk result (Appended (printed (K.held out.old) page.old) (printed (K.held out.new) page.new) (fill_text item.now.shape item.now.fill item.now.stroke ++ stroke_text item.now.stroke item.now.stroke_width ++ opacity_text item.now.opacity)) }
+    ensures grown { Grown (K.held out.old) (K.held out.new) }
+    ensures prefix { Begins (printed (K.held out.old) page.old) (K.held out.new) (fill_text item.now.shape item.now.fill item.now.stroke ++ stroke_text item.now.stroke item.now.stroke_width ++ opacity_text item.now.opacity) }
+{
+    put_fill(out, page, item)?;
+    put_stroke(out, page, item)?;
+    put_opacity(out, page, item.opacity)?;
+    Ok(())
+}
+
+// The end of an element.
+fn put_end<K: Sink>(out: &mut K, page: &mut Page, shape: &Shape) -> Result<(), WriteFault>
+    ensures counted { K.faults out.old ≤ K.faults out.new }
+    ensures cause { OnErr result (Rose (K.faults out.old) (K.faults out.new)) }
+    ensures ok { OnOk result (Appended (printed (K.held out.old) page.old) (printed (K.held out.new) page.new) (end_text shape.now)) }
+    ensures grown { Grown (K.held out.old) (K.held out.new) }
+    ensures prefix { Begins (printed (K.held out.old) page.old) (K.held out.new) (end_text shape.now) }
+{
+    match shape {
+        Shape::Words { text, .. } => put_pieces(
+            out,
+            page,
+            &[
+                Piece::Plain(">"),
+                Piece::Escaped(text),
+                Piece::Plain("</text>\n"),
+            ],
+        ),
+        Shape::Rect { .. } | Shape::Circle { .. } | Shape::Path { .. } | Shape::Line { .. } => {
+            put_text(out, page, "/>\n")
+        }
+    }
+}
+
+// The beginning of an element.
+fn put_element<K: Sink>(out: &mut K, page: &mut Page, shape: &Shape) -> Result<(), WriteFault>
+    ensures counted { K.faults out.old ≤ K.faults out.new }
+    ensures cause { OnErr result (Rose (K.faults out.old) (K.faults out.new)) }
+    ensures ok { OnOk result (Appended (printed (K.held out.old) page.old) (printed (K.held out.new) page.new) (codes "<" ++ shape_text shape.now)) }
+    ensures grown { Grown (K.held out.old) (K.held out.new) }
+    ensures prefix { Begins (printed (K.held out.old) page.old) (K.held out.new) (codes "<" ++ shape_text shape.now) }
+{
+    put_text(out, page, "<")?;
+    put_shape(out, page, shape)?;
+    Ok(())
+}
+
+// The item, as a line.
+fn put_item<K: Sink>(out: &mut K, page: &mut Page, item: &Item) -> Result<(), WriteFault>
+    ensures counted { K.faults out.old ≤ K.faults out.new }
+    ensures cause { OnErr result (Rose (K.faults out.old) (K.faults out.new)) }
+    ensures ok { OnOk result (Appended (printed (K.held out.old) page.old) (printed (K.held out.new) page.new) (item_text item.now)) }
+    ensures grown { Grown (K.held out.old) (K.held out.new) }
+    ensures prefix { Begins (printed (K.held out.old) page.old) (K.held out.new) (item_text item.now) }
+{
+    put_element(out, page, &item.shape)?;
+    put_paint(out, page, item)?;
+    put_end(out, page, &item.shape)?;
+    Ok(())
+}
+
+// The items in order.
+#[tactic(auto, using(crate::proofs::Steps::nothing_printed, crate::proofs::Steps::grown_not))]
+fn put_items<K: Sink>(out: &mut K, page: &mut Page, items: &[Item]) -> Result<(), WriteFault>
+    ensures counted { K.faults out.old ≤ K.faults out.new }
+    ensures cause { OnErr result (Rose (K.faults out.old) (K.faults out.new)) }
+    ensures ok { OnOk result (Appended (printed (K.held out.old) page.old) (printed (K.held out.new) page.new) (flat_map item_text items.now)) }
+    ensures grown { Grown (K.held out.old) (K.held out.new) }
+    ensures prefix { Begins (printed (K.held out.old) page.old) (K.held out.new) (flat_map item_text items.now) }
+{
+    for item in items {
+        put_item(out, page, item)?;
+    }
+    Ok(())
+}
+
+// The beginning of a group at this origin.
+fn put_origin<K: Sink>(out: &mut K, page: &mut Page, x: Num, y: Num) -> Result<(), WriteFault>
+    ensures counted { K.faults out.old ≤ K.faults out.new }
+    ensures cause { OnErr result (Rose (K.faults out.old) (K.faults out.new)) }
+    ensures ok { OnOk result (Appended (printed (K.held out.old) page.old) (printed (K.held out.new) page.new) (codes "<g transform=\"translate(" ++ pair_text x y ++ codes ")\">\n")) }
+    ensures grown { Grown (K.held out.old) (K.held out.new) }
+    ensures prefix { Begins (printed (K.held out.old) page.old) (K.held out.new) (codes "<g transform=\"translate(" ++ pair_text x y ++ codes ")\">\n") }
+{
+    put_pieces(
+        out,
+        page,
+        &[
+            Piece::Plain("<g transform=\"translate("),
+            Piece::Number(x),
+            Piece::Plain(","),
+            Piece::Number(y),
+            Piece::Plain(")\">\n"),
+        ],
+    )?;
+    Ok(())
+}
+
+// The panel, as a group.
+fn put_panel<K: Sink>(out: &mut K, page: &mut Page, panel: &Panel) -> Result<(), WriteFault>
+    ensures counted { K.faults out.old ≤ K.faults out.new }
+    ensures cause { OnErr result (Rose (K.faults out.old) (K.faults out.new)) }
+    ensures ok { OnOk result (Appended (printed (K.held out.old) page.old) (printed (K.held out.new) page.new) (panel_text panel.now)) }
+    ensures grown { Grown (K.held out.old) (K.held out.new) }
+    ensures prefix { Begins (printed (K.held out.old) page.old) (K.held out.new) (panel_text panel.now) }
+{
+    put_origin(out, page, panel.x, panel.y)?;
+    put_items(out, page, panel.items.as_slice())?;
+    put_text(out, page, "</g>\n")?;
+    Ok(())
+}
+
+// The panels in order.
+#[tactic(auto, using(crate::proofs::Steps::nothing_printed, crate::proofs::Steps::grown_not))]
+fn put_panels<K: Sink>(out: &mut K, page: &mut Page, panels: &[Panel]) -> Result<(), WriteFault>
+    ensures counted { K.faults out.old ≤ K.faults out.new }
+    ensures cause { OnErr result (Rose (K.faults out.old) (K.faults out.new)) }
+    ensures ok { OnOk result (Appended (printed (K.held out.old) page.old) (printed (K.held out.new) page.new) (flat_map panel_text panels.now)) }
+    ensures grown { Grown (K.held out.old) (K.held out.new) }
+    ensures prefix { Begins (printed (K.held out.old) page.old) (K.held out.new) (flat_map panel_text panels.now) }
+{
+    for panel in panels {
+        put_panel(out, page, panel)?;
+    }
+    Ok(())
+}
+
+// The first line.
+fn put_head<K: Sink>(
+    out: &mut K,
+    page: &mut Page,
+    width: Num,
+    height: Num,
+) -> Result<(), WriteFault>
+    ensures counted { K.faults out.old ≤ K.faults out.new }
+    ensures cause { OnErr result (Rose (K.faults out.old) (K.faults out.new)) }
+    ensures ok { OnOk result (Appended (printed (K.held out.old) page.old) (printed (K.held out.new) page.new) (head_text width height)) }
+    ensures grown { Grown (K.held out.old) (K.held out.new) }
+    ensures prefix { Begins (printed (K.held out.old) page.old) (K.held out.new) (head_text width height) }
+{
+    put_pieces(
+        out,
+        page,
+        &[
+            Piece::Plain("<svg xmlns=\"http://www.w3.org/2000/svg\" version=\"1.1\" width=\""),
+            Piece::Number(width),
+            Piece::Plain("\" height=\""),
+            Piece::Number(height),
+            Piece::Plain("\" viewBox=\"0 0 "),
+            Piece::Number(width),
+            Piece::Plain(" "),
+            Piece::Number(height),
+            Piece::Plain("\">\n"),
+        ],
+    )?;
+    Ok(())
+}
+
+// The scene.
+fn put_scene<K: Sink>(out: &mut K, page: &mut Page, scene: &Scene) -> Result<(), WriteFault>
+    ensures counted { K.faults out.old ≤ K.faults out.new }
+    ensures cause { OnErr result (Rose (K.faults out.old) (K.faults out.new)) }
+    ensures ok { OnOk result (Appended (printed (K.held out.old) page.old) (printed (K.held out.new) page.new) (svg_of scene.now)) }
+    ensures grown { Grown (K.held out.old) (K.held out.new) }
+    ensures prefix { Begins (printed (K.held out.old) page.old) (K.held out.new) (svg_of scene.now) }
+{
+    put_head(out, page, scene.width, scene.height)?;
+    put_panels(out, page, scene.panels.as_slice())?;
+    put_text(out, page, "</svg>\n")?;
+    Ok(())
+}
+
+/// Writes the scene as SVG text. It takes no memory. `WriteFault` comes only where the sink's count of faults rose;
+/// a beginning of the text was then written.
+pub fn print<K: Sink>(scene: &Scene, out: &mut K) -> Result<(), WriteFault>
+    ensures counted { K.faults out.old ≤ K.faults out.new }
+    ensures cause { OnErr result (Rose (K.faults out.old) (K.faults out.new)) }
+    ensures ok { OnOk result (Appended (K.held out.old) (K.held out.new) (svg_of scene.now)) }
+    ensures prefix { AppendedPrefix (K.held out.old) (K.held out.new) (svg_of scene.now) }
+{
+    let mut page = Page::new();
+    put_scene(out, &mut page, scene)?;
+    hand_on(out, &mut page)?;
+    Ok(())
+}

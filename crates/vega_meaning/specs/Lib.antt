@@ -1,0 +1,9 @@
+pub mod Ranges
+pub mod Domains
+pub mod Steps
+pub mod Scales
+pub mod Frames
+pub mod Bars
+pub mod States
+pub mod Answers
+pub mod Examples

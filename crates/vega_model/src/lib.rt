@@ -1,0 +1,8 @@
+//! Vega specifications. For now one is a bar for each row of one source, over two of its fields.
+#![tactic(auto)]
+
+mod spec;
+#[cfg(test)]
+mod tests;
+
+pub use spec::VgSpec;
