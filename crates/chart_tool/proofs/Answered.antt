@@ -1,14 +1,12 @@
 -- What the top call answers, from what rendering answered.
-use Rattle.std.proofs.Common.{◌≡◌, ℕ, ◌≤◌, Option, Some, None, List, ◌++◌, length, take, Ok, Err, IfSome, refl, sym, subst, inl, inr, ap, ◌∙◌, arith}
-use Rattle.std.proofs.Common.{length-append}
-use Rattle.std.proofs.Math.Seq.{take-length, take-append_seam}
-use Rattle.std.specs.Prelude.{IsSomeAnd}
+use Rattle.std.proofs.Common.{◌≡◌, ℕ, Option, Some, None, List, length, Ok, Err, IfSome, refl, sym, subst, inl, inr, ap, ◌∙◌, arith}
 use Rattle.chart_io.specs.Outside.{Files, file_of, Kept, Appended, AppendedPrefix}
 use Rattle.chart_tool.specs.declared.stop.Stop.{Stop}
 use Rattle.chart_tool.specs.declared.stop.Stop.TheVariants as stop
 use Rattle.chart_tool.specs.meaning.Files.{IsTooLong, IsWithinSize}
 use Rattle.chart_tool.specs.meaning.Statuses.{status_of, note_of}
 use Rattle.chart_tool.specs.meaning.Answers.{Told, ComesWhere, note_text}
+use Rattle.chart_tool.proofs.Prefixes.{appended_is_prefix, kept_is_prefix}
 use Rattle.chart_tool.specs.meaning.Rendering.{IsChart, IsDrawn, IsUnreadable, FileFaultsAt, IsUnsupported, IsRenderedOf, IsSilent}
 use Rattle.json_exact.specs.declared.json.Json.{Json}
 use Rattle.json_exact.specs.Reading.{Reads}
@@ -22,19 +20,6 @@ told_of P Q (Some asked) (Some files) name named is leads =
     let same : asked ≡ name = cc in
     let at : List ℕ → Type 0 = λ n. Q (file_of files n) in
     subst at (sym same) (leads (file_of files name) is)
-
-appended_is_prefix : (old now : Option (List ℕ)) (text : List ℕ) → Appended old now text → AppendedPrefix old now text
-appended_is_prefix None now text written = tt
-appended_is_prefix (Some held) now text written =
-    let at : Option (List ℕ) → Type 0 = λ o. IsSomeAnd o (λ all. (length held ≤ length all) × (all ≡ take (length all) (held ++ text))) in
-    let len = length-append held text in
-    subst at (sym written) (omega arith, sym (take-length (held ++ text)))
-
-kept_is_prefix : (old now : Option (List ℕ)) (text : List ℕ) → Kept old now → AppendedPrefix old now text
-kept_is_prefix None now text kept = tt
-kept_is_prefix (Some held) now text kept =
-    let at : Option (List ℕ) → Type 0 = λ o. IsSomeAnd o (λ all. (length held ≤ length all) × (all ≡ take (length all) (held ++ text))) in
-    subst at (sym kept) (omega arith, sym (take-append_seam held text))
 
 -- a file is drawn, unsupported, too long or missing, and no two of these
 not_both : (file : Option (List ℕ)) (text : List ℕ) → IsDrawn file text → IsUnsupported file → ⊥
@@ -102,7 +87,7 @@ err_prefix A old now stop.Missing file silent is text drawn = kept_is_prefix old
 err_prefix A old now (stop.Unreadable place) file silent is text drawn = kept_is_prefix old now text (silent tt)
 err_prefix A old now stop.Unsupported file silent is text drawn = kept_is_prefix old now text (silent tt)
 err_prefix A old now stop.Read file silent is text drawn = kept_is_prefix old now text (silent tt)
-err_prefix A old now stop.Memory file silent is text drawn = kept_is_prefix old now text (silent tt)
+err_prefix A old now stop.Memory file silent is text drawn = is.begun text drawn
 err_prefix A old now stop.Size file silent is text drawn = kept_is_prefix old now text (silent tt)
 
 -- without faults a file that is drawn stops only for want of memory
@@ -115,7 +100,7 @@ err_drawn A old now (stop.Unreadable place) result file status silent no_read no
 err_drawn A old now stop.Unsupported result file status silent no_read no_write is text drawn = absurd (not_both file text drawn is)
 err_drawn A old now stop.Read result file status silent no_read no_write is text drawn = absurd (no_read refl)
 err_drawn A old now stop.Write result file status silent no_read no_write is text drawn = absurd (no_write refl)
-err_drawn A old now stop.Memory result file status silent no_read no_write is text drawn = (status, kept_is_prefix old now text (silent tt))
+err_drawn A old now stop.Memory result file status silent no_read no_write is text drawn = (status, is.begun text drawn)
 err_drawn A old now stop.Size result file status silent no_read no_write is text drawn = absurd (not_long file drawn.0 drawn.1 is)
 
 -- only wrong words have the status 1
@@ -142,7 +127,7 @@ err_undrawn A old now stop.Missing file silent is none = silent tt
 err_undrawn A old now (stop.Unreadable place) file silent is none = silent tt
 err_undrawn A old now stop.Unsupported file silent is none = silent tt
 err_undrawn A old now stop.Read file silent is none = silent tt
-err_undrawn A old now stop.Memory file silent is none = silent tt
+err_undrawn A old now stop.Memory file silent is none = is.undrawn none
 err_undrawn A old now stop.Size file silent is none = silent tt
 
 pub ok_unreadable : {A : Type 0} (old now : Option (List ℕ)) (done : A) (file : Option (List ℕ)) → IsRenderedOf {A = A} file old now (Ok done) → ComesWhere 3 0 (IsUnreadable file)

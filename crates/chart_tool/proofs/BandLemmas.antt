@@ -4,8 +4,8 @@ use Rattle.std.proofs.lemmas.Int.{ints}
 use Rattle.std.proofs.lemmas.Nat.{div-mul-add}
 use Rattle.std.proofs.lemmas.Bool.Decides.{nat_tests}
 use Rattle.fixed_num.specs.Number.{million, IsNumber, rounded, floor_quotient}
-use Rattle.chart_tool.specs.meaning.Ranges.{in_range}
-use Rattle.chart_tool.specs.meaning.Scales.{space_of, band_place, band_width}
+use Rattle.vega_meaning.specs.Ranges.{in_range}
+use Rattle.vega_meaning.specs.Scales.{space_of, band_place, band_width}
 use Rattle.chart_tool.specs.meaning.Bars.{plot_width, x_scale}
 use Rattle.chart_tool.proofs.RangeLemmas.{in_range_at_number}
 

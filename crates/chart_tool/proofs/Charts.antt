@@ -1,5 +1,5 @@
 -- What is read of the bytes of a specification, and drawn.
-use Rattle.std.proofs.Common.{◌≡◌, ℕ, suc, ℤ, Some, List, [], ◌∷◌, length, ap, sym, subst, refl, ◌∙◌, Result, Ok, Err, ◌⊎◌, inl, inr, arith}
+use Rattle.std.proofs.Common.{◌≡◌, ◌≢◌, ℕ, suc, ℤ, Option, None, Some, List, [], ◌∷◌, length, ap, sym, subst, refl, ◌∙◌, Result, Ok, Err, ◌⊎◌, inl, inr, arith}
 use Rattle.json_exact.specs.declared.error.JsonError.{JsonError}
 use Rattle.json_exact.specs.declared.error.JsonError.TheVariants.{Memory}
 use Rattle.std.proofs.lemmas.Int.{ints}
@@ -11,9 +11,23 @@ use Rattle.chart_tool.specs.meaning.FirstForm.{IsValue, AreValues, IsFirstForm, 
 use Rattle.chart_tool.specs.meaning.Drawable.{IsDrawable, AreDrawable}
 use Rattle.std.specs.Option.{option_map}
 use Rattle.std.proofs.lemmas.List.Elements.{All-from_recursion, recursion_from_All}
-use Rattle.chart_tool.specs.meaning.SceneText.{svg_of}
+use Rattle.std.specs.Option.{IsSome}
+use Rattle.std.proofs.lemmas.Bool.{false≢true}
+use Rattle.scene_tree.specs.declared.scene.Scene.{Scene}
+use Rattle.scene_tree.specs.Outcome.{Outcome, Drawn, Overflow, Panels, in_reach, outcome_map}
+use Rattle.vega_model.specs.declared.spec.VgSpec.{VgSpec}
+use Rattle.cell_value.specs.declared.state.ChartState.{ChartState}
+use Rattle.vega_meaning.specs.declared.open.OpenError.{OpenError}
+use Rattle.vega_meaning.specs.declared.open.OpenError.TheVariants as error
+use Rattle.vega_meaning.specs.Answers.{Draws}
+use Rattle.vega_meaning.specs.Bars.{vega_chart_of}
+use Rattle.plain_engine.specs.Engine.{Meaning}
+use Rattle.chart_tool.specs.meaning.Opening.{bars_of, opening_of}
+use Rattle.chart_tool.proofs.DrawableLemmas.{scene_drawn}
+use Rattle.chart_tool.proofs.SameChart.{vega_chart_is}
+use Rattle.svg_text.specs.SceneText.{svg_of}
 use Rattle.chart_tool.specs.meaning.Bars.{chart_of, scene_of}
-use Rattle.chart_tool.specs.meaning.Rendering.{IsTheForm, IsChart}
+use Rattle.chart_tool.specs.meaning.Rendering.{IsTheForm, IsTheText, IsOpenedOf}
 use Rattle.chart_tool.proofs.Lacking.{first_of_two, second_of_two, text_is, are_of_outline}
 
 -- as many values as rows
@@ -64,7 +78,7 @@ values_are x y (r ∷ rs) (v ∷ vs) (w ∷ ws) are other =
 pub chart_is : (tree : Json) (form other : FirstForm) → IsFirstForm tree form → IsFirstForm tree other → chart_of form ≡ chart_of other
 chart_is tree form other is has =
     let same : form.values ≡ other.values = values_are form.x form.y is.rows form.values other.values is.values (are_of_outline tree _ _ _ _ other is.outline has) in
-    ap (λ (values : List Value). option_map svg_of (scene_of values)) same
+    ap (λ (values : List Value). in_reach (option_map svg_of (scene_of values))) same
 
 -- what was read is the tree
 pub same_tree : (read tree : Json) → (◌≡◌ {A = Result Json JsonError} (Ok read) (Ok tree)) ⊎ (◌≡◌ {A = Result Json JsonError} (Ok read) (Err Memory)) → read ≡ tree
@@ -72,13 +86,49 @@ same_tree read tree (inl e) = cc
 same_tree read tree (inr e) = absurd cc
 
 -- the picture of the form of some bytes is their chart, and there is no other
-pub is_the_picture : (bytes : List ℕ) (form : FirstForm) (text : List ℕ) → IsTheForm bytes form → chart_of form ≡ Some text
-    → IsChart bytes text × ((other : List ℕ) → IsChart bytes other → other ≡ text)
+pub is_the_picture : (bytes : List ℕ) (form : FirstForm) (text : List ℕ) → IsTheForm bytes form → chart_of form ≡ Drawn text → IsTheText bytes text
 is_the_picture bytes form text the drawn = (
   record { tree = the.tree; form = form; reads = the.reads; is = the.is; chart = drawn },
   λ other has.
       let at : Json → Type 0 = λ tree. IsFirstForm tree has.form in
       let same = chart_is the.tree form has.form the.is (subst at (the.only has.tree has.reads) has.is) in
-      let e : Some other ≡ Some text = sym has.chart ∙ sym same ∙ drawn in
+      let e : Drawn other ≡ Drawn text = sym has.chart ∙ sym same ∙ drawn in
       cc,
 )
+
+-- a form that can be drawn has its chart, and so has its Vega form
+drawn_by : (o : Option Scene) → IsSome o → (text : List ℕ) × (in_reach (option_map svg_of o) ≡ Drawn text)
+drawn_by None h = absurd (false≢true h)
+drawn_by (Some scene) h = (svg_of scene, refl)
+
+pub vega_chart_drawn : (form : FirstForm) → form.x ≢ form.y → AreDrawable form.values → (text : List ℕ) × (vega_chart_of (bars_of form) (opening_of form) ≡ Drawn text) × (chart_of form ≡ Drawn text)
+vega_chart_drawn form apart drawable =
+    let (text, drawn) = drawn_by (scene_of form.values) (scene_drawn form.values drawable) in
+    (text, vega_chart_is form apart ∙ drawn, drawn)
+
+-- what opening a form's Vega chart answers: it is not refused for a number out of range, or for its panels
+abbrev pub IsOpened : FirstForm → Result Meaning OpenError → Type 0
+IsOpened form (Ok engine) = engine ≡ record { spec = bars_of form; state = opening_of form }
+IsOpened form (Err error.Memory) = Unit {0}
+IsOpened form (Err cause) = ⊥
+
+drawn_alone : (form : FirstForm) (m : Meaning) (o : Outcome (List ℕ)) (text : List ℕ) (r : Result Meaning OpenError) → m ≡ record { spec = bars_of form; state = opening_of form } → o ≡ Drawn text → Draws (outcome_map (λ text. m) o) r → IsOpened form r
+drawn_alone form m o text (Ok engine) same drawn answer =
+    let e : Drawn m ≡ Drawn engine = subst (λ o. outcome_map (λ text. m) o ≡ Drawn engine) drawn answer in
+    let f : m ≡ engine = cc in sym f ∙ same
+drawn_alone form m o text (Err error.Memory) same drawn answer = tt
+drawn_alone form m o text (Err error.Overflow) same drawn answer = let e : Drawn m ≡ Overflow = subst (λ o. outcome_map (λ text. m) o ≡ Overflow) drawn answer in absurd cc
+drawn_alone form m o text (Err (error.Panels n)) same drawn answer = let e : Drawn m ≡ Panels n = subst (λ o. outcome_map (λ text. m) o ≡ Panels n) drawn answer in absurd cc
+
+pub open_answer : (form : FirstForm) (g : VgSpec) (st : ChartState) (r : Result Meaning OpenError) → form.x ≢ form.y → AreDrawable form.values → g ≡ bars_of form → st ≡ opening_of form
+    → Draws (outcome_map (λ text. record { spec = g; state = st }) (vega_chart_of g st)) r → IsOpened form r
+open_answer form g st r apart drawable spec state answer =
+    let (text, drawn, own) = vega_chart_drawn form apart drawable in
+    let same : vega_chart_of g st ≡ vega_chart_of (bars_of form) (opening_of form) = λ i. vega_chart_of (spec i) (state i) in
+    drawn_alone form (record { spec = g; state = st }) (vega_chart_of g st) text r (λ i. record { spec = spec i; state = state i }) (same ∙ drawn) answer
+
+-- what was opened is the chart of the bytes
+pub is_opened : (bytes : List ℕ) (form : FirstForm) (engine : Meaning) → IsTheForm bytes form → engine ≡ record { spec = bars_of form; state = opening_of form } → IsOpenedOf bytes (Ok engine)
+is_opened bytes form engine the same =
+    let (text, drawn, own) = vega_chart_drawn form the.is.outline.channels.differ (form_is_drawable the.tree form the.is) in
+    (text, ap (λ (m : Meaning). vega_chart_of m.spec m.state) same ∙ drawn, is_the_picture bytes form text the own)

@@ -1,6 +1,5 @@
 -- Why a set of texts holds the distinct categories, and why the running extremes give the extent.
-use Rattle.std.proofs.Common.{◌≡◌, ℕ, ℤ, pos, List, [], ◌∷◌, length, get_or, ◌<◌, ◌≤◌, ◌+◌, Bool, true, false, ◌||◌, Some, None, nat_lt, if◌then◌else◌, ⊎_elim, map, reverse, Bor, fold, arith, refl, sym, ap, ◌∙◌}
-use mathlib.Core.List.{reverse_aux}
+use Rattle.std.proofs.Common.{◌≡◌, ℕ, ℤ, pos, List, [], ◌∷◌, length, get_or, ◌<◌, ◌≤◌, ◌+◌, Bool, true, false, ◌||◌, Some, None, nat_lt, if◌then◌else◌, ⊎_elim, map, fold, arith, refl, sym, ap, ◌∙◌}
 use Rattle.std.specs.Int.{int_min, int_max}
 use Rattle.std.specs.Ordering.{nat_cmp}
 use Rattle.std.specs.declared.cmp.Ordering.{Ordering}
@@ -9,7 +8,6 @@ use Rattle.std.specs.Cmp.Lexicographic.{slice_cmp}
 use Rattle.std.specs.Ordering.{is_eq}
 use Rattle.std.specs.List.{position, position_or_len, list_any, Any}
 use Rattle.std.specs.Str.{bytes_eq}
-use Rattle.std.specs.BTreeSet.{insert_key}
 use Rattle.std.proofs.lemmas.List.Folds.{list_any_at, Any-from_list_any}
 use Rattle.std.proofs.lemmas.List.Sums.{fails_before_first}
 use Rattle.std.proofs.lemmas.Bool.{cases_lt, false≢true}
@@ -17,35 +15,12 @@ use Rattle.std.proofs.lemmas.Bool.Decides.{nat_tests}
 use Rattle.std.proofs.lemmas.Slice.Eq.{bytes_eq-Decides}
 use Rattle.std.proofs.lemmas.Map.Text.{is_eq-slice_cmp}
 use Rattle.std.proofs.lemmas.Int.{ints, clamps}
-use Rattle.std.proofs.lemmas.List.{reverse-reverse}
-use Rattle.chart_tool.specs.meaning.Texts.{by_bytes, texts_of}
-use Rattle.chart_tool.specs.meaning.Domains.{placed_in, ascending, least, greatest, extent_of, with_zero}
+use Rattle.vega_meaning.specs.Domains.{placed_in, ascending, least, greatest, extent_of, with_zero}
 
 ordering_cases : {P : Type 0} (o : Ordering) → (o ≡ Less → P) → (o ≡ Equal → P) → (o ≡ Greater → P) → P
 ordering_cases Less less same more = less refl
 ordering_cases Equal less same more = same refl
 ordering_cases Greater less same more = more refl
-
--- a text goes to its place in a set of texts
-pub texts-insert_key : (ks : List (Bor (List ℕ))) (k : Bor (List ℕ)) → texts_of (insert_key by_bytes ks k) ≡ placed_in (slice_cmp nat_cmp) k.now (texts_of ks)
-texts-insert_key [] k = refl
-texts-insert_key (x ∷ xs) k =
-    ordering_cases (slice_cmp nat_cmp k.now x.now) (λ h. rw h refl) (λ h. rw h refl) (λ h. rw h (ap (λ r. x.now ∷ r) (texts-insert_key xs k)))
-
-map-reverse_aux : {A B : Type 0} (f : A → B) (xs ys : List A) → map f (reverse_aux xs ys) ≡ reverse_aux (map f xs) (map f ys)
-map-reverse_aux f [] ys = refl
-map-reverse_aux f (x ∷ xs) ys = map-reverse_aux f xs (x ∷ ys)
-
-pub map-reverse : {A B : Type 0} (f : A → B) (xs : List A) → map f (reverse xs) ≡ reverse (map f xs)
-map-reverse f xs = map-reverse_aux f xs []
-
-pub map-map : {A B C : Type 0} (g : B → C) (f : A → B) (xs : List A) → map g (map f xs) ≡ map (λ x. g (f x)) xs
-map-map g f [] = refl
-map-map g f (x ∷ xs) = ap (λ r. g (f x) ∷ r) (map-map g f xs)
-
--- what was read from the end of a list, turned round
-pub map_of_turned : {A B C : Type 0} (g : B → C) (f : A → B) (xs : List A) (ys : List B) → map f xs ≡ reverse ys → map (λ x. g (f x)) (reverse xs) ≡ map g ys
-map_of_turned g f xs ys e = sym (map-map g f (reverse xs)) ∙ ap (map g) (map-reverse f xs ∙ ap reverse e ∙ reverse-reverse ys)
 
 -- the least of a number and others
 pub fold-int_min : {A : Type 0} (f : A → ℤ) (a : ℤ) (x : A) (xs : List A) → fold (λ m y. int_min m (f y)) (int_min a (f x)) xs ≡ int_min (least (f x) (map f xs)) a

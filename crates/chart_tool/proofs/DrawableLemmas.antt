@@ -1,5 +1,5 @@
 -- Why drawable values have a scene.
-use Rattle.std.proofs.Common.{◌≡◌, ℕ, ◌+◌, ◌*◌, ◌<◌, ◌≤◌, ◌^◌, ℤ, pos, ◌≤ℤ◌, ◌+ℤ◌, ◌-ℤ◌, List, [], ◌∷◌, length, map, get_or, fold, Option, Some, None, unsigned_abs, arith, refl, sym, ap, ◌∙◌, subst}
+use Rattle.std.proofs.Common.{◌≡◌, ℕ, suc, ◌+◌, ◌*◌, ◌<◌, ◌≤◌, ◌^◌, ℤ, pos, ◌≤ℤ◌, ◌+ℤ◌, ◌-ℤ◌, List, [], ◌∷◌, length, map, get_or, fold, Option, Some, None, unsigned_abs, arith, refl, sym, ap, ◌∙◌, subst}
 use Rattle.std.specs.Int.{int_min, int_max}
 use Rattle.std.specs.Option.{IsSome}
 use Rattle.std.specs.List.{All, position}
@@ -11,19 +11,20 @@ use Rattle.std.proofs.lemmas.List.{length-map, get_or-map}
 use Rattle.std.proofs.lemmas.List.Elements.{All-nil, All-cons, All-head, All-tail}
 use Rattle.fixed_num.specs.Number.{million, IsNumber}
 use Rattle.chart_tool.specs.declared.form.Value.{Value}
-use Rattle.chart_tool.specs.declared.scene.Item.{Item}
-use Rattle.chart_tool.specs.declared.scene.Shape.TheVariants.{Rect}
+use Rattle.scene_tree.specs.declared.scene.Item.{Item}
+use Rattle.scene_tree.specs.declared.shape.Shape.TheVariants.{Rect}
 use Rattle.std.proofs.lemmas.Bool.{false≢true}
-use Rattle.chart_tool.specs.meaning.Ranges.{◌>>=◌, in_range, all_of, pixels}
-use Rattle.chart_tool.specs.meaning.Domains.{extent_of, with_zero}
-use Rattle.chart_tool.specs.meaning.Steps.{nice_of}
-use Rattle.chart_tool.specs.meaning.Scales.{Linear, linear_place, band_place, band_width}
-use Rattle.chart_tool.specs.meaning.Bars.{categories_of, plot_width, plot_height, x_scale, y_scale, base_of, bar_of, scene_around, scene_of}
-use Rattle.chart_tool.specs.meaning.Drawable.{IsDrawable, AreDrawable, bar_item}
+use Rattle.vega_meaning.specs.Ranges.{◌>>=◌, in_range, all_of, pixels}
+use Rattle.vega_meaning.specs.Domains.{extent_of, with_zero}
+use Rattle.vega_meaning.specs.Steps.{nice_of}
+use Rattle.vega_meaning.specs.Scales.{linear_place, band_place, band_width}
+use Rattle.vega_meaning.specs.Frames.{scene_around}
+use Rattle.chart_tool.specs.meaning.Bars.{default_color, categories_of, plot_width, plot_height, x_scale, y_scale, base_of, with_ids, bar_of, scene_of}
+use Rattle.chart_tool.specs.meaning.Drawable.{IsDrawable, AreDrawable}
 use Rattle.chart_tool.proofs.RangeLemmas.{in_range_at_number}
 use Rattle.chart_tool.proofs.NiceLemmas.{nice_from_zero, size_of_above}
 use Rattle.chart_tool.proofs.BandLemmas.{plot_width_usual, band_place_in_range}
-use Rattle.chart_tool.proofs.BarLemmas.{all_of_some, bind_first}
+use Rattle.chart_tool.proofs.BarLemmas.{all_of_some}
 use Rattle.chart_tool.proofs.DomainLemmas.{with_zero-extent_of, length-ascending, position_in_domain}
 use Rattle.chart_tool.proofs.PlaceLemmas.{scale_to, place_within, base_within}
 
@@ -80,8 +81,8 @@ few_categories values few =
     let texts = map (λ (v : Value). v.category) values in
     omega (arith, length-ascending (slice_cmp nat_cmp) texts, length-map values (λ (v : Value). v.category))
 
-bar_drawn : (values : List Value) (n i : ℕ) (d : Value) → AreDrawable values → All (λ (v : Value). v.amount ≤ℤ pos n) values → i < length values → IsSome (bar_of (categories_of values) (scale_to n) (get_or values i d))
-bar_drawn values n i d drawable below h =
+bar_drawn : (values : List Value) (n id i : ℕ) (d : Value) → AreDrawable values → All (λ (v : Value). v.amount ≤ℤ pos n) values → i < length values → IsSome (bar_of (categories_of values) (scale_to n) (id, get_or values i d))
+bar_drawn values n id i d drawable below h =
     let value = get_or values i d in
     let categories = categories_of values in
     let texts = map (λ (v : Value). v.category) values in
@@ -98,9 +99,14 @@ bar_drawn values n i d drawable below h =
     let within : IsNumber height = (omega (arith, ints), omega (arith, ints)) in
     five_known (position (bytes_eq value.category) categories) (band_place (x_scale (length categories))) (base_of (scale_to n)) (linear_place (scale_to n) value.amount)
     (λ base end. in_range (pos (unsigned_abs (end -ℤ base))))
-    (λ index x base end height. bar_item (Rect x (int_min base end) (band_width (x_scale (length categories))) height))
+    (λ index x base end height. record { shape = Rect x (int_min base end) (band_width (x_scale (length categories))) height; fill = Some default_color; stroke = None; stroke_width = pos 0; opacity = pixels 1; unit = Some 0; key = Some (record { id = id; branch = 0 }) })
     at.0 (pos (20 * (50000 + at.0 * million))) base.place end.place height
     index (band_place_in_range (length categories) at.0 at.2 (few_categories values drawable.few)) base.known ends (in_range_at_number height within)
+
+-- what holds of each value with any id holds of all values with their ids
+all_with_ids : (P : ℕ × Value → Type 0) (id : ℕ) (values : List Value) → ((k i : ℕ) (d : Value) → i < length values → P (k, get_or values i d)) → All P (with_ids id values)
+all_with_ids P id [] h = All-nil P
+all_with_ids P id (v ∷ vs) h = All-cons P (id, v) (with_ids (suc id) vs) (h id 0 v (omega arith)) (all_with_ids P (suc id) vs (λ k i d l. h k (suc i) d (omega arith)))
 
 around_drawn : (n : ℕ) (items : List Item) → n ≤ 1000 → IsSome (scene_around (plot_width n) plot_height items)
 around_drawn n items few =
@@ -108,7 +114,7 @@ around_drawn n items few =
     let usual = plot_width_usual n few in
     let within : IsNumber width = (omega (arith, ints), omega (arith, ints)) in
     known (in_range width)
-    (λ width. in_range (plot_height +ℤ pixels 10) >>= (λ height. Some (record { width = width; height = height; panels = record { x = pixels 5; y = pixels 5; items = items } ∷ [] })))
+    (λ width. in_range (plot_height +ℤ pixels 10) >>= (λ height. Some (record { width = width; height = height; panels = record { x = pixels 5; y = pixels 5; width = plot_width n; height = plot_height; view = Some 0; facet = None; items = items } ∷ [] })))
     width (in_range_at_number width within) refl
 
 -- drawable values have a scene
@@ -122,23 +128,8 @@ scene_drawn values drawable =
     ap (λ d. nice_of 10 d >>= (λ domain. Some (record { d0 = domain.0; d1 = domain.1; r0 = plot_height; r1 = pos 0 }))) domain.1
     ∙ ap (λ o. o >>= (λ domain. Some (record { d0 = domain.0; d1 = domain.1; r0 = plot_height; r1 = pos 0 }))) nice.1 in
     let below : All (λ (v : Value). v.amount ≤ℤ pos n) values = λ k d l. omega (arith, ints, domain.3 k d l, nice.2) in
-    let bars = there (all_of (map (bar_of categories (scale_to n)) values)) (all_of_some (bar_of categories (scale_to n)) values (λ k d l. bar_drawn values n k d drawable below l)) in
-    known (y_scale values) (λ scale. all_of (map (bar_of categories scale) values) >>= scene_around (plot_width (length categories)) plot_height) (scale_to n) scale
-    (known (all_of (map (bar_of categories (scale_to n)) values)) (scene_around (plot_width (length categories)) plot_height) bars.0 bars.1
+    let each = all_with_ids (λ v. IsSome (bar_of categories (scale_to n) v)) 1 values (λ id k d l. bar_drawn values n id k d drawable below l) in
+    let bars = there (all_of (map (bar_of categories (scale_to n)) (with_ids 1 values))) (all_of_some (bar_of categories (scale_to n)) (with_ids 1 values) each) in
+    known (y_scale values) (λ scale. all_of (map (bar_of categories scale) (with_ids 1 values)) >>= scene_around (plot_width (length categories)) plot_height) (scale_to n) scale
+    (known (all_of (map (bar_of categories (scale_to n)) (with_ids 1 values))) (scene_around (plot_width (length categories)) plot_height) bars.0 bars.1
     (around_drawn (length categories) bars.0 (few_categories values drawable.few)))
-
--- the scene of drawable values, in the steps in which it is made
-pub scale_there : (values : List Value) → AreDrawable values → IsSome (y_scale values)
-scale_there values drawable = bind_first (y_scale values) _ (scene_drawn values drawable)
-
-pub bars_there : (values : List Value) (scale : Linear) → AreDrawable values → Some scale ≡ y_scale values → IsSome (all_of (map (bar_of (categories_of values) scale) values))
-bars_there values scale drawable e =
-    let categories = categories_of values in
-    bind_first (all_of (map (bar_of categories scale) values)) _
-    (subst (λ o. IsSome (o >>= (λ scale. all_of (map (bar_of categories scale) values) >>= scene_around (plot_width (length categories)) plot_height))) (sym e) (scene_drawn values drawable))
-
-pub scene_of_bars : (values : List Value) (scale : Linear) (bars : List Item) → Some scale ≡ y_scale values → all_of (map (bar_of (categories_of values) scale) values) ≡ Some bars → scene_of values ≡ scene_around (plot_width (length (categories_of values))) plot_height bars
-scene_of_bars values scale bars e made =
-    let categories = categories_of values in
-    ap (λ o. o >>= (λ scale. all_of (map (bar_of categories scale) values) >>= scene_around (plot_width (length categories)) plot_height)) (sym e)
-    ∙ ap (λ o. o >>= scene_around (plot_width (length categories)) plot_height) made

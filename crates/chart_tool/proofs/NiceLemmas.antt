@@ -7,8 +7,8 @@ use Rattle.std.proofs.lemmas.Bool.Decides.{nat_tests}
 use Rattle.std.proofs.lemmas.Option.{same_Some}
 use Rattle.std.proofs.Math.Nat.{div-add-mod', suc-mul}
 use Rattle.fixed_num.specs.Number.{limit, million, IsNumber, floored, ceiled, floor_quotient}
-use Rattle.chart_tool.specs.meaning.Ranges.{◌>>=◌, in_range}
-use Rattle.chart_tool.specs.meaning.Steps.{steps_below, step_of, span_of, widened, widened_times, nice_of}
+use Rattle.vega_meaning.specs.Ranges.{◌>>=◌, in_range}
+use Rattle.vega_meaning.specs.Steps.{steps_below, step_of, span_of, widened, widened_times, nice_of}
 use Rattle.chart_tool.proofs.RangeLemmas.{in_range_at_number, ceiled_above}
 use Rattle.chart_tool.proofs.StepLemmas.{is_taken, found_later, step_of_found, step_of_known}
 

@@ -4,8 +4,8 @@ use Rattle.std.proofs.lemmas.Int.{ints}
 use Rattle.std.proofs.lemmas.Nat.{div_below}
 use Rattle.std.proofs.Math.Nat.{div-eq_of_lt}
 use Rattle.fixed_num.specs.Number.{IsNumber, rounded, floor_quotient}
-use Rattle.chart_tool.specs.meaning.Ranges.{in_range}
-use Rattle.chart_tool.specs.meaning.Scales.{Linear, linear_place}
+use Rattle.vega_meaning.specs.Ranges.{in_range}
+use Rattle.vega_meaning.specs.Scales.{Linear, linear_place}
 use Rattle.chart_tool.specs.meaning.Bars.{plot_height, base_of}
 use Rattle.chart_tool.proofs.RangeLemmas.{in_range_at_number}
 

@@ -6,7 +6,7 @@ use Rattle.std.proofs.Math.IntN.{*ℤ-one}
 use lib.IntN.{one}
 use Rattle.std.proofs.Math.Nat.{div-add-mod', suc-mul}
 use Rattle.fixed_num.specs.Number.{IsNumber, floored, ceiled, floor_quotient, rounded, rounded_ratio}
-use Rattle.chart_tool.specs.meaning.Ranges.{in_range}
+use Rattle.vega_meaning.specs.Ranges.{in_range}
 
 pub in_range_at_number : (x : ℤ) → IsNumber x → in_range x ≡ Some x
 in_range_at_number x h = grind (arith, ints)

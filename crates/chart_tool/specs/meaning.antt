@@ -1,12 +1,6 @@
-pub mod Ranges
-pub mod Domains
-pub mod Steps
-pub mod Scales
-pub mod ScaleViews
-pub mod SceneText
 pub mod FirstForm
 pub mod Bars
-pub mod Texts
+pub mod Opening
 pub mod Drawable
 pub mod Examples
 pub mod Words

@@ -1,20 +1,13 @@
 //! A chart engine that is proved: `render SPEC` writes the picture of a specification as SVG.
 #![tactic(auto)]
 
-mod bars;
-mod domains;
 mod files;
 mod form;
 mod objects;
+mod opening;
 mod outline;
 mod parts;
-mod picture;
-mod pixels;
 mod render;
-mod scales;
-mod scene;
-mod scene_text;
-mod steps;
 mod stop;
 mod tool;
 mod words;

@@ -1,15 +1,23 @@
 //! `render`: a file becomes a picture.
-ghost use Rattle.std.specs.Prelude.{◌≡◌, ◌≤◌, IfErr, IfSome, IsErrOf};
-ghost use Rattle.chart_io.specs.Outside.{Rose, Kept, file_of};
-ghost use Rattle.chart_tool.specs.meaning.Rendering.{IsFormOf, IsPictureOf, IsRenderedOf, IsSilent};
+ghost use Rattle.std.specs.Prelude.{◌≡◌, ◌≢◌, ◌≤◌, OnOk, IfOk, IfErr, IfSome, IsErrOf};
+ghost use Rattle.chart_io.specs.Outside.{Rose, Kept, Appended, AppendedPrefix, file_of};
+ghost use Rattle.chart_tool.specs.meaning.Rendering.{IsFormOf, IsOpenedOf, IsPrintStop, IsRenderedOf, IsSilent};
+ghost use Rattle.scene_tree.specs.Outcome.{IsDrawn};
+ghost use Rattle.vega_meaning.specs.Bars.{vega_chart_of};
+ghost use Rattle.chart_tool.specs.meaning.Drawable.{AreDrawable};
+ghost use Rattle.chart_tool.specs.meaning.Opening.{bars_of, opening_of};
 
 use crate::files::read_file;
 use crate::form::{FirstForm, first_form};
-use crate::picture::picture_of;
+use crate::opening::{bars_of, opening_of};
 use crate::stop::Stop;
-use chart_io::{Folder, Sink, WriteFault, write_all};
+use chart_io::{Folder, Sink};
 use json_exact::JsonError;
+use plain_engine::PlainEngine;
+use play_script::{Engine, PrintError};
 use std::alloc::Global;
+use text_kit::OutOfMemory;
+use vega_meaning::OpenError;
 
 // The chart that the bytes specify; `Unreadable` comes exactly where they are no JSON text, `Unsupported` exactly
 // where they are one and specify no chart of the first form.
@@ -27,19 +35,51 @@ fn form_of(alloc: Global, bytes: &[u8]) -> Result<FirstForm, Stop>
     Ok(form)
 }
 
-// The picture of the chart that the bytes specify, as its text.
-fn picture_of_bytes(alloc: Global, bytes: &[u8]) -> Result<Vec<u8>, Stop>
-    ensures { IsPictureOf bytes.now result }
+// The form as its Vega chart, in its opening state. It is always drawn.
+#[tactic(auto, using(crate::proofs::Opened::is_state_of))]
+fn opened(alloc: Global, form: &FirstForm) -> Result<PlainEngine, OutOfMemory>
+    requires drawable { AreDrawable form.now.values }
+    requires apart { form.now.x ≢ form.now.y }
+    ensures { IfOk result (λ engine. engine ≡ record { spec = bars_of form.now; state = opening_of form.now }) }
+{
+    let spec = bars_of(form)?;
+    let state = opening_of(alloc, form)?;
+    match PlainEngine::open(alloc, spec, state) {
+        Ok(engine) => Ok(engine),
+        Err(OpenError::Memory) => Err(OutOfMemory),
+        Err(OpenError::Overflow) => unreachable!(),
+        Err(OpenError::Panels(_)) => unreachable!(),
+    }
+}
+
+// The chart that the bytes specify, opened.
+fn opened_of_bytes(alloc: Global, bytes: &[u8]) -> Result<PlainEngine, Stop>
+    ensures { IsOpenedOf bytes.now result }
 {
     let form = form_of(alloc, bytes)?;
-    let picture = picture_of(alloc, form.values.as_slice())?;
-    Ok(picture)
+    let engine = opened(alloc, &form)?;
+    Ok(engine)
+}
+
+// Writes the chart of an engine.
+fn printed<E: Engine, K: Sink>(engine: &E, out: &mut K) -> Result<(), Stop>
+    ensures counted { K.faults out.old ≤ K.faults out.new }
+    ensures write { IsErrOf result Stop.Write → Rose (K.faults out.old) (K.faults out.new) }
+    ensures stop { IfErr result IsPrintStop }
+    ensures ok { IsDrawn (vega_chart_of (E.spec engine.now) (E.state engine.now)) (λ text. OnOk result (Appended (K.held out.old) (K.held out.new) text)) }
+    ensures prefix { IsDrawn (vega_chart_of (E.spec engine.now) (E.state engine.now)) (AppendedPrefix (K.held out.old) (K.held out.new)) }
+{
+    match engine.print(out) {
+        Ok(()) => Ok(()),
+        Err(PrintError::Write) => Err(Stop::Write),
+        Err(PrintError::Memory) => Err(Stop::Memory),
+    }
 }
 
 /// Writes the picture of the file of this name, or says why not: `Missing` and `Size` as `read_file` does,
 /// `Unreadable` exactly where the file is no JSON text, `Unsupported` exactly where it is one and no specification of
-/// the first form, `Read` and `Write` only where
-/// the folder's or the output's count of faults rose, `Memory`. Only with Ok and `Write` is anything written.
+/// the first form, `Read` and `Write` only where the folder's or the output's count of faults rose, `Memory`. Only with
+/// Ok, `Write` and `Memory` is anything written.
 pub fn render<F: Folder, K: Sink>(
     alloc: Global,
     name: &str,
@@ -59,12 +99,12 @@ pub fn render<F: Folder, K: Sink>(
         Ok(bytes) => bytes,
         Err(stop) => return Err(stop),
     };
-    let picture = match picture_of_bytes(alloc, &bytes) {
-        Ok(picture) => picture,
+    let engine = match opened_of_bytes(alloc, &bytes) {
+        Ok(engine) => engine,
         Err(stop) => return Err(stop),
     };
-    match write_all(out, &picture) {
-        Ok(()) => Ok(()),
-        Err(WriteFault) => Err(Stop::Write),
-    }
+    printed(&engine, out)
 }
+
+#[cfg(test)]
+mod tests;

@@ -1,21 +1,23 @@
 -- The picture of a chart of the first form.
-use Rattle.std.specs.Prelude.{ℕ, ◌*◌, ◌^◌, min, ℤ, pos, ◌+ℤ◌, ◌-ℤ◌, int_lt, unsigned_abs, ◌||◌, Option, Some, None, List, [], ◌∷◌, length, map, position, if◌then◌else◌, codes}
+use Rattle.std.specs.Prelude.{ℕ, suc, ◌*◌, ◌^◌, min, ℤ, pos, ◌-ℤ◌, int_lt, unsigned_abs, ◌||◌, Option, Some, None, List, [], ◌∷◌, length, map, position, if◌then◌else◌, codes}
 use Rattle.std.specs.Option.{option_map}
 use Rattle.std.specs.Int.{int_min}
 use Rattle.std.specs.Ordering.{nat_cmp}
 use Rattle.std.specs.Cmp.Lexicographic.{slice_cmp}
 use Rattle.std.specs.Str.{bytes_eq}
 use Rattle.fixed_num.specs.Number.{million}
+use Rattle.scene_tree.specs.declared.scene.Scene.{Scene}
+use Rattle.scene_tree.specs.declared.scene.Item.{Item}
+use Rattle.scene_tree.specs.declared.shape.Shape.TheVariants.{Rect}
+use Rattle.scene_tree.specs.Outcome.{Outcome, in_reach}
+use Rattle.svg_text.specs.SceneText.{svg_of}
+use Rattle.vega_meaning.specs.Ranges.{◌>>=◌, in_range, all_of, pixels}
+use Rattle.vega_meaning.specs.Domains.{ascending, extent_of, with_zero}
+use Rattle.vega_meaning.specs.Steps.{nice_of}
+use Rattle.vega_meaning.specs.Scales.{Linear, linear_place, Band, band_place, band_width, space_of}
+use Rattle.vega_meaning.specs.Frames.{scene_around}
 use Rattle.chart_tool.specs.declared.form.FirstForm.{FirstForm}
 use Rattle.chart_tool.specs.declared.form.Value.{Value}
-use Rattle.chart_tool.specs.declared.scene.Scene.{Scene}
-use Rattle.chart_tool.specs.declared.scene.Item.{Item}
-use Rattle.chart_tool.specs.declared.scene.Shape.TheVariants.{Rect}
-use Rattle.chart_tool.specs.meaning.Ranges.{◌>>=◌, in_range, all_of, pixels}
-use Rattle.chart_tool.specs.meaning.Domains.{ascending, extent_of, with_zero}
-use Rattle.chart_tool.specs.meaning.Steps.{nice_of}
-use Rattle.chart_tool.specs.meaning.Scales.{Linear, linear_place, Band, band_place, band_width, space_of}
-use Rattle.chart_tool.specs.meaning.SceneText.{svg_of}
 
 -- the colour of a mark that has none of its own
 abbrev pub default_color : List ℕ
@@ -54,13 +56,18 @@ y_scale values = do
 abbrev pub base_of : Linear → Option ℤ
 base_of scale = if int_lt (pos 0) scale.d0 || int_lt scale.d1 (pos 0) then Some scale.r0 else linear_place scale (pos 0)
 
+-- the values, each with its id
+abbrev pub with_ids : ℕ → List Value → List (ℕ × Value)
+with_ids id [] = []
+with_ids id (value ∷ values) = (id, value) ∷ with_ids (suc id) values
+
 -- a bar stands over the band of its category, from the base to the place of its amount
-abbrev pub bar_of : List (List ℕ) → Linear → Value → Option Item
+abbrev pub bar_of : List (List ℕ) → Linear → ℕ × Value → Option Item
 bar_of categories scale value = do
-  index ← position (bytes_eq value.category) categories
+  index ← position (bytes_eq value.1.category) categories
   x ← band_place (x_scale (length categories)) index
   base ← base_of scale
-  end ← linear_place scale value.amount
+  end ← linear_place scale value.1.amount
   height ← in_range (pos (unsigned_abs (end -ℤ base)))
   Some (record {
     shape = Rect x (int_min base end) (band_width (x_scale (length categories))) height;
@@ -68,22 +75,17 @@ bar_of categories scale value = do
     stroke = None;
     stroke_width = pos 0;
     opacity = pixels 1;
+    unit = Some 0;
+    key = Some (record { id = value.0; branch = 0 });
   })
 
--- a plot without guides stands 5 pixels from each edge of the picture
-abbrev pub scene_around : ℤ → ℤ → List Item → Option Scene
-scene_around plot_width plot_height items = do
-  width ← in_range (plot_width +ℤ pixels 10)
-  height ← in_range (plot_height +ℤ pixels 10)
-  Some (record { width = width; height = height; panels = record { x = pixels 5; y = pixels 5; items = items } ∷ [] })
-
--- one bar for each value, in order
+-- one bar for each value, in order; their ids are counted from 1
 abbrev pub scene_of : List Value → Option Scene
 scene_of values = do
   scale ← y_scale values
-  items ← all_of (map (bar_of (categories_of values) scale) values)
+  items ← all_of (map (bar_of (categories_of values) scale) (with_ids 1 values))
   scene_around (plot_width (length (categories_of values))) plot_height items
 
 -- the chart of the first form, as its SVG text
-abbrev pub chart_of : FirstForm → Option (List ℕ)
-chart_of form = option_map svg_of (scene_of form.values)
+abbrev pub chart_of : FirstForm → Outcome (List ℕ)
+chart_of form = in_reach (option_map svg_of (scene_of form.values))

@@ -1,13 +1,15 @@
 -- What rendering a file answers and writes.
-use Rattle.std.specs.Prelude.{◌≡◌, ℕ, Option, Some, None, List, Result, Ok, Err}
-use Rattle.std.specs.declared.vec.Vec.{Vec}
+use Rattle.std.specs.Prelude.{◌≡◌, ℕ, Option, None, List, Result, Ok, Err}
 use Rattle.json_exact.specs.declared.json.Json.{Json}
 use Rattle.json_exact.specs.Reading.{Reads, FaultsAt}
-use Rattle.chart_io.specs.Outside.{Appended, AppendedPrefix}
+use Rattle.chart_io.specs.Outside.{Kept, Appended, AppendedPrefix}
 use Rattle.chart_tool.specs.declared.form.FirstForm.{FirstForm}
 use Rattle.chart_tool.specs.declared.stop.Stop.{Stop}
 use Rattle.chart_tool.specs.declared.stop.Stop.TheVariants as stop
 use Rattle.chart_tool.specs.meaning.FirstForm.{IsFirstForm}
+use Rattle.scene_tree.specs.Outcome.{Drawn}
+use Rattle.vega_meaning.specs.Bars.{vega_chart_of}
+use Rattle.plain_engine.specs.Engine.{Meaning}
 use Rattle.chart_tool.specs.meaning.Bars.{chart_of}
 use Rattle.chart_tool.specs.meaning.Files.{IsWithinSize, IsTooLong}
 
@@ -17,7 +19,7 @@ pub record IsChart (bytes text : List ℕ) : Type 0 where
   pub form : FirstForm
   pub reads : Reads bytes tree
   pub is : IsFirstForm tree form
-  pub chart : chart_of form ≡ Some text
+  pub chart : chart_of form ≡ Drawn text
 
 -- the bytes are no JSON text
 abbrev pub HasNoReading : List ℕ → Type 0
@@ -65,13 +67,28 @@ IsFormOf bytes (Err (stop.Unreadable place)) = HasNoReading bytes × FaultsAt by
 IsFormOf bytes (Err stop.Memory) = Unit {0}
 IsFormOf bytes (Err cause) = ⊥
 
--- what drawing bytes answers
-abbrev pub IsPictureOf : {A : Type 0} → List ℕ → Result (Vec ℕ A) Stop → Type 0
-IsPictureOf bytes (Ok text) = IsChart bytes text.items × ((other : List ℕ) → IsChart bytes other → other ≡ text.items)
-IsPictureOf bytes (Err stop.Unsupported) = HasNoForm bytes
-IsPictureOf bytes (Err (stop.Unreadable place)) = HasNoReading bytes × FaultsAt bytes place
-IsPictureOf bytes (Err stop.Memory) = Unit {0}
-IsPictureOf bytes (Err cause) = ⊥
+-- the text is the chart of the bytes, and there is no other
+abbrev pub IsTheText : List ℕ → List ℕ → Type 0
+IsTheText bytes text = IsChart bytes text × ((other : List ℕ) → IsChart bytes other → other ≡ text)
+
+-- What opening bytes answers. The Vega chart that was opened is the chart of the bytes.
+abbrev pub IsOpenedOf : List ℕ → Result Meaning Stop → Type 0
+IsOpenedOf bytes (Ok engine) = (text : List ℕ) × (vega_chart_of engine.spec engine.state ≡ Drawn text) × IsTheText bytes text
+IsOpenedOf bytes (Err stop.Unsupported) = HasNoForm bytes
+IsOpenedOf bytes (Err (stop.Unreadable place)) = HasNoReading bytes × FaultsAt bytes place
+IsOpenedOf bytes (Err stop.Memory) = Unit {0}
+IsOpenedOf bytes (Err cause) = ⊥
+
+-- a beginning of the file's chart was written, and nothing where it has none
+pub record IsCutShort (file old now : Option (List ℕ)) : Type 0 where
+  pub begun : (text : List ℕ) → IsDrawn file text → AppendedPrefix old now text
+  pub undrawn : ((text : List ℕ) → IsDrawn file text → ⊥) → Kept old now
+
+-- what can stop the printing of a chart
+abbrev pub IsPrintStop : Stop → Type 0
+IsPrintStop stop.Write = Unit {0}
+IsPrintStop stop.Memory = Unit {0}
+IsPrintStop cause = ⊥
 
 -- what rendering a file answers, and what it writes
 abbrev pub IsRenderedOf : {A : Type 0} → Option (List ℕ) → Option (List ℕ) → Option (List ℕ) → Result A Stop → Type 0
@@ -82,10 +99,11 @@ IsRenderedOf file old now (Err stop.Size) = IsTooLong file
 IsRenderedOf file old now (Err stop.Unsupported) = IsUnsupported file
 IsRenderedOf file old now (Err (stop.Unreadable place)) = IsUnreadable file × FileFaultsAt file place
 IsRenderedOf file old now (Err stop.Read) = Unit {0}
-IsRenderedOf file old now (Err stop.Memory) = Unit {0}
+IsRenderedOf file old now (Err stop.Memory) = IsCutShort file old now
 IsRenderedOf file old now (Err stop.Words) = ⊥
 
 -- nothing is written where a command stops so
 abbrev pub IsSilent : Stop → Type 0
 IsSilent stop.Write = ⊥
+IsSilent stop.Memory = ⊥
 IsSilent cause = Unit {0}
