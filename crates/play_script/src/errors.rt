@@ -1,5 +1,10 @@
 // Why lines are not read, pictures not printed and scripts not played.
+ghost use Rattle.std.specs.Prelude.{◌≡◌};
+ghost use Rattle.play_script.specs.declared.errors.PlayError.TheVariants.{Memory, Write};
 
+use chart_io::WriteFault;
+use std::alloc::{AllocError, AllocFailed};
+use text_kit::OutOfMemory;
 use thiserror::Error;
 
 /// Why a line is not read.
@@ -37,4 +42,36 @@ pub enum PlayError {
     /// Memory was refused.
     #[error("memory was refused")]
     Memory,
+}
+
+impl From<OutOfMemory> for PlayError {
+    ghost from_gives = { λ _ e. e ≡ Memory };
+
+    fn from(_: OutOfMemory) -> PlayError {
+        PlayError::Memory
+    }
+}
+
+impl From<AllocError> for PlayError {
+    ghost from_gives = { λ _ e. e ≡ Memory };
+
+    fn from(_: AllocError) -> PlayError {
+        PlayError::Memory
+    }
+}
+
+impl<T: Drop> From<AllocFailed<T>> for PlayError {
+    ghost from_gives = { λ _ e. e ≡ Memory };
+
+    fn from(_: AllocFailed<T>) -> PlayError {
+        PlayError::Memory
+    }
+}
+
+impl From<WriteFault> for PlayError {
+    ghost from_gives = { λ _ e. e ≡ Write };
+
+    fn from(_: WriteFault) -> PlayError {
+        PlayError::Write
+    }
 }

@@ -4,10 +4,20 @@
 mod commands;
 mod engine;
 mod errors;
+mod laws;
+mod lines;
+mod pending;
+mod playing;
 mod reading;
 #[cfg(test)]
 mod reading_tests;
+mod replies;
 
 pub use engine::Engine;
 pub use errors::{LineError, PlayError, PrintError};
+pub use laws::one_output;
+pub use playing::play;
 pub use reading::read_command;
+
+#[cfg(test)]
+mod tests;

@@ -1,0 +1,11 @@
+-- What holds of scripts, whatever they are.
+use Rattle.std.specs.Prelude.{◌≡◌, ℕ, List}
+use Rattle.cell_value.specs.declared.state.ChartState.{ChartState}
+use Rattle.scene_tree.specs.Outcome.{Outcome}
+use Rattle.param_flow.specs.Script.{IsOutput}
+
+-- lines have one output from a state, and one state after them
+abbrev pub LinesHaveOneOutput : Type 0
+LinesHaveOneOutput =
+    (chart : ChartState → Outcome (List ℕ)) (st : ChartState) (lines : List (List ℕ)) (out other : List ℕ) (now later : ChartState)
+    → IsOutput chart st lines out now → IsOutput chart st lines other later → (out ≡ other) × (now ≡ later)
