@@ -1,6 +1,7 @@
 mod Items
 pub mod Feeds
 pub mod Once
+pub mod Output
 pub mod AlikeStates
 pub mod Standing
 pub mod Shown

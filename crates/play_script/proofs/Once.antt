@@ -13,7 +13,7 @@ use Rattle.param_flow.specs.Commands.{IsCommand, command_of}
 use Rattle.param_flow.specs.Machine.{reply_of, state_after}
 use Rattle.param_flow.specs.Script.{IsCommandLine, IsReply, IsOutput, is_silent, reply_text, refused_line, silent, refused, printed, told, no_line, one_line}
 
-same_tree : (line : List ℕ) (s t : Json) → Reads line s → Reads line t → s ≡ t
+pub same_tree : (line : List ℕ) (s t : Json) → Reads line s → Reads line t → s ≡ t
 same_tree line s t r u = ok_is s t (sym (text_again-whole line s r) ∙ text_again-whole line t u)
 
 -- no line is two commands

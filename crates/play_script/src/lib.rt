@@ -15,7 +15,7 @@ mod replies;
 
 pub use engine::Engine;
 pub use errors::{LineError, PlayError, PrintError};
-pub use laws::one_output;
+pub use laws::{an_output, one_output};
 pub use playing::play;
 pub use reading::read_command;
 
