@@ -27,8 +27,11 @@ use Rattle.chart_tool.proofs.DrawableLemmas.{scene_drawn}
 use Rattle.chart_tool.proofs.SameChart.{vega_chart_is}
 use Rattle.svg_text.specs.SceneText.{svg_of}
 use Rattle.chart_tool.specs.meaning.Bars.{chart_of, scene_of}
-use Rattle.chart_tool.specs.meaning.Rendering.{IsTheForm, IsTheText, IsOpenedOf}
-use Rattle.chart_tool.proofs.Lacking.{first_of_two, second_of_two, text_is, are_of_outline}
+use Rattle.chart_tool.specs.meaning.Rendering.{AreOfForm, HasForm}
+use Rattle.chart_tool.proofs.Lacking.{first_of_two, second_of_two, text_is, name_is, outline_fields_are, are_of_outline}
+use Rattle.json_exact.proofs.Complete.{text_again-whole}
+use Rattle.json_exact.proofs.Steps.{ok_is}
+use Rattle.json_exact.specs.Reading.{Reads}
 
 -- as many values as rows
 length-values : (x y : List ℕ) (rows : List Json) (values : List Value) → AreValues x y rows values → length values ≡ length rows
@@ -74,27 +77,48 @@ values_are x y (r ∷ rs) (v ∷ vs) (w ∷ ws) are other =
     let head : v ≡ w = value_is x y r v w are.0 other.0 in
     let tail : vs ≡ ws = values_are x y rs vs ws are.1 other.1 in cc
 
--- a tree has one chart
-pub chart_is : (tree : Json) (form other : FirstForm) → IsFirstForm tree form → IsFirstForm tree other → chart_of form ≡ chart_of other
-chart_is tree form other is has =
-    let same : form.values ≡ other.values = values_are form.x form.y is.rows form.values other.values is.values (are_of_outline tree _ _ _ _ other is.outline has) in
-    ap (λ (values : List Value). in_reach (option_map svg_of (scene_of values))) same
+form_same : (v w : FirstForm) → v.name ≡ w.name → v.x ≡ w.x → v.y ≡ w.y → v.values ≡ w.values → v ≡ w
+form_same v w name x y values = λ i. record { name = name i; x = x i; y = y i; values = values i }
+
+-- a tree has one form
+form_is : (tree : Json) (form other : FirstForm) → IsFirstForm tree form → IsFirstForm tree other → form ≡ other
+form_is tree form other is has =
+    let fields = outline_fields_are tree _ _ _ _ _ _ _ _ is.outline has.outline in
+    form_same form other
+    (name_is tree _ _ _ _ _ _ _ _ is.outline has.outline)
+    fields.0
+    fields.1
+    (values_are form.x form.y is.rows form.values other.values is.values (are_of_outline tree _ _ _ _ other is.outline has))
+
+-- bytes have one tree
+one_tree : (bytes : List ℕ) (s t : Json) → Reads bytes s → Reads bytes t → s ≡ t
+one_tree bytes s t r u = ok_is s t (sym (text_again-whole bytes s r) ∙ text_again-whole bytes t u)
+
+-- bytes have one form
+one_of_bytes : (bytes : List ℕ) (form other : FirstForm) → AreOfForm bytes form → AreOfForm bytes other → form ≡ other
+one_of_bytes bytes form other are has =
+    let at : Json → Type 0 = λ tree. IsFirstForm tree other in
+    form_is are.tree form other are.is (subst at (one_tree bytes has.tree are.tree has.reads are.reads) has.is)
+
+-- a file has one form
+pub one_form : (file : Option (List ℕ)) (form other : FirstForm) → HasForm file form → HasForm file other → form ≡ other
+one_form file form other (bytes, whole, are) (bytes', whole', are') =
+    let e : Some bytes' ≡ Some bytes = sym whole'.0 ∙ whole.0 in
+    let same : bytes' ≡ bytes = cc in
+    let at : List ℕ → Type 0 = λ b. AreOfForm b other in
+    one_of_bytes bytes form other are (subst at same are')
+
+-- and it can be drawn, over two fields that differ
+pub has_drawable_form : (file : Option (List ℕ)) (form : FirstForm) → HasForm file form → AreDrawable form.values
+has_drawable_form file form has = let are = has.2 in form_is_drawable are.tree form are.is
+
+pub has_form_of_two : (file : Option (List ℕ)) (form : FirstForm) → HasForm file form → form.x ≢ form.y
+has_form_of_two file form has = has.2.is.outline.channels.differ
 
 -- what was read is the tree
 pub same_tree : (read tree : Json) → (◌≡◌ {A = Result Json JsonError} (Ok read) (Ok tree)) ⊎ (◌≡◌ {A = Result Json JsonError} (Ok read) (Err Memory)) → read ≡ tree
 same_tree read tree (inl e) = cc
 same_tree read tree (inr e) = absurd cc
-
--- the picture of the form of some bytes is their chart, and there is no other
-pub is_the_picture : (bytes : List ℕ) (form : FirstForm) (text : List ℕ) → IsTheForm bytes form → chart_of form ≡ Drawn text → IsTheText bytes text
-is_the_picture bytes form text the drawn = (
-  record { tree = the.tree; form = form; reads = the.reads; is = the.is; chart = drawn },
-  λ other has.
-      let at : Json → Type 0 = λ tree. IsFirstForm tree has.form in
-      let same = chart_is the.tree form has.form the.is (subst at (the.only has.tree has.reads) has.is) in
-      let e : Drawn other ≡ Drawn text = sym has.chart ∙ sym same ∙ drawn in
-      cc,
-)
 
 -- a form that can be drawn has its chart, and so has its Vega form
 drawn_by : (o : Option Scene) → IsSome o → (text : List ℕ) × (in_reach (option_map svg_of o) ≡ Drawn text)
@@ -127,8 +151,6 @@ open_answer form g st r apart drawable spec state answer =
     let same : vega_chart_of g st ≡ vega_chart_of (bars_of form) (opening_of form) = λ i. vega_chart_of (spec i) (state i) in
     drawn_alone form (record { spec = g; state = st }) (vega_chart_of g st) text r (λ i. record { spec = spec i; state = state i }) (same ∙ drawn) answer
 
--- what was opened is the chart of the bytes
-pub is_opened : (bytes : List ℕ) (form : FirstForm) (engine : Meaning) → IsTheForm bytes form → engine ≡ record { spec = bars_of form; state = opening_of form } → IsOpenedOf bytes (Ok engine)
-is_opened bytes form engine the same =
-    let (text, drawn, own) = vega_chart_drawn form the.is.outline.channels.differ (form_is_drawable the.tree form the.is) in
-    (text, ap (λ (m : Meaning). vega_chart_of m.spec m.state) same ∙ drawn, is_the_picture bytes form text the own)
+-- a file's form has its chart, which is its Vega chart
+pub form_drawn : (file : Option (List ℕ)) (form : FirstForm) → HasForm file form → (text : List ℕ) × (vega_chart_of (bars_of form) (opening_of form) ≡ Drawn text) × (chart_of form ≡ Drawn text)
+form_drawn file form has = vega_chart_drawn form (has_form_of_two file form has) (has_drawable_form file form has)

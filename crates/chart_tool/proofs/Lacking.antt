@@ -124,6 +124,13 @@ rows_are tree name x y name' x' y' rows rows' has other =
     let named : Named name' rows' has.source = subst (Named name' rows') (sym same) other.named_rows in
     list_is rows rows' (second_of_two has.source _ _ _ _ _ has.named_rows named)
 
+-- one name of it
+pub name_is : (tree : Json) (name x y name' x' y' : List ℕ) (rows rows' : List Json) → IsOutline tree name x y rows → IsOutline tree name' x' y' rows' → name ≡ name'
+name_is tree name x y name' x' y' rows rows' has other =
+    let same = first_of_three tree _ _ _ _ _ _ _ has.members other.members in
+    let named : Named name' rows' has.source = subst (Named name' rows') (sym same) other.named_rows in
+    text_is name name' (first_of_two has.source _ _ _ _ _ has.named_rows named)
+
 -- and one pair of fields
 pub outline_fields_are : (tree : Json) (name x y name' x' y' : List ℕ) (rows rows' : List Json) → IsOutline tree name x y rows → IsOutline tree name' x' y' rows' → (x ≡ x') × (y ≡ y')
 outline_fields_are tree name x y name' x' y' rows rows' has other =

@@ -7,11 +7,14 @@ pub mod NiceLemmas
 pub mod PlaceLemmas
 pub mod DrawableLemmas
 pub mod SameChart
-pub mod Opened
+pub mod OpeningStates
 pub mod Prefixes
 pub mod Fronts
 pub mod Lacking
 pub mod Charts
 pub mod Rendered
+pub mod Plays
+pub mod WordLemmas
+pub mod Runs
 pub mod Answered
 pub mod IdLemmas

@@ -7,4 +7,6 @@ pub mod Words
 pub mod Statuses
 pub mod Files
 pub mod Rendering
+pub mod Playing
+pub mod Ends
 pub mod Answers

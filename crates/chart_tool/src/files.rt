@@ -47,9 +47,8 @@ fn read_pieces<F: Folder>(
     Err(Stop::Size)
 }
 
-/// The bytes of the file of this name, read in pieces of 65,536. Besides `Memory` it answers `Missing` exactly
-/// where the folder has no such file, `Size` exactly where the file has more than 16,777,216 bytes, and `Read`
-/// only where a read failed.
+/// The bytes of the file of this name, read in pieces of 65,536. It answers `Missing` where the folder has no such file, and `Size` where
+/// the file has more than 16,777,216 bytes, only and wherever that holds, unless a read failed (`Read`) or memory was refused.
 pub fn read_file<F: Folder>(alloc: Global, folder: &mut F, name: &str) -> Result<Vec<u8>, Stop>
     ensures counted { F.faults folder.old ≤ F.faults folder.new }
     ensures stays { IfSome (F.files folder.old) (λ told. F.files folder.new ≡ Some told) }

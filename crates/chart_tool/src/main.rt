@@ -1,12 +1,15 @@
-//! A chart engine that is proved: `render SPEC` writes the picture of a specification as SVG.
+//! A chart engine that is proved: `render SPEC` writes the picture of a specification as SVG, and `play SPEC` replies to a script of
+//! changes and prints.
 #![tactic(auto)]
 
 mod files;
 mod form;
 mod objects;
+mod opened;
 mod opening;
 mod outline;
 mod parts;
+mod play;
 mod render;
 mod stop;
 mod tool;
@@ -27,6 +30,7 @@ fn words_of<R: Env + Alloc>(runtime: &R) -> io::Result<Vec<String<R::A>, R::A>> 
     Ok(words)
 }
 
+// Words that are no UTF-8 are taken as no words. Where there is no memory for them the program ends with 9, and without a line.
 fn main(runtime: HostRuntime) -> ExitCode {
     let words = match words_of(&runtime) {
         Ok(words) => words,

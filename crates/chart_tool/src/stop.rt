@@ -1,4 +1,4 @@
-//! Why a command ends without its whole output.
+//! Why a run ends without its whole output.
 ghost use Rattle.std.specs.Prelude.{◌≡◌, ◌≤◌, [], ◌∷◌, ◌++◌, codes, OnOk, OnErr};
 ghost use Rattle.chart_io.specs.Outside.{Rose, Appended, AppendedPrefix};
 ghost use Rattle.chart_tool.specs.declared.stop.Stop.TheVariants.{Memory};
@@ -8,7 +8,7 @@ use chart_io::{Sink, WriteFault, write_all};
 use std::alloc::{AllocError, AllocFailed};
 use text_kit::OutOfMemory;
 
-/// Why a command ends without its whole output.
+/// Why a run ends without its whole output.
 #[derive(Clone, Copy, Debug, PartialEq, Eq)]
 pub enum Stop {
     /// The words are no form of words.
@@ -20,7 +20,7 @@ pub enum Stop {
         /// The length of the longest prefix of the bytes that begins a JSON text.
         at: u64,
     },
-    /// The file is no chart that is drawn.
+    /// The file is a JSON text, and no chart of the first form.
     Unsupported,
     /// A read failed.
     Read,
@@ -30,6 +30,8 @@ pub enum Stop {
     Memory,
     /// The file is longer than files may be.
     Size,
+    /// More bytes of the script were taken than a script may have.
+    ScriptSize,
 }
 
 impl From<OutOfMemory> for Stop {
@@ -98,7 +100,7 @@ impl Stop {
             Stop::Read => 7,
             Stop::Write => 8,
             Stop::Memory => 9,
-            Stop::Size => 10,
+            Stop::Size | Stop::ScriptSize => 10,
         }
     }
 
@@ -121,6 +123,7 @@ impl Stop {
             Stop::Write => write_all(notes, b"chart: write\n"),
             Stop::Memory => write_all(notes, b"chart: memory\n"),
             Stop::Size => write_line(notes, b"chart: size ", name),
+            Stop::ScriptSize => write_all(notes, b"chart: size script\n"),
         }
     }
 }

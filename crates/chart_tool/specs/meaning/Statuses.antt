@@ -1,5 +1,5 @@
 -- The statuses that the program ends with, and their texts.
-use Rattle.std.specs.Prelude.{ℕ, List, [], ◌∷◌, ◌++◌, codes}
+use Rattle.std.specs.Prelude.{ℕ, Option, Some, None, List, [], ◌∷◌, ◌++◌, codes}
 use Rattle.std.specs.Fmt.{decimal}
 use Rattle.chart_tool.specs.declared.stop.Stop.{Stop}
 use Rattle.chart_tool.specs.declared.stop.Stop.TheVariants as stop
@@ -14,6 +14,7 @@ status_of stop.Read = 7
 status_of stop.Write = 8
 status_of stop.Memory = 9
 status_of stop.Size = 10
+status_of stop.ScriptSize = 10
 
 -- the text that each cause has, for a file of this name
 abbrev pub cause_of : Stop → List ℕ → List ℕ
@@ -25,7 +26,18 @@ cause_of stop.Read name = codes "chart: read"
 cause_of stop.Write name = codes "chart: write"
 cause_of stop.Memory name = codes "chart: memory"
 cause_of stop.Size name = codes "chart: size " ++ name
+cause_of stop.ScriptSize name = codes "chart: size script"
 
 -- the line on the notes
 abbrev pub note_of : Stop → List ℕ → List ℕ
 note_of cause name = cause_of cause name ++ 10 ∷ []
+
+-- the status of a run by its end: 0 where nothing stopped it
+abbrev pub status_of_end : Option Stop → ℕ
+status_of_end None = 0
+status_of_end (Some cause) = status_of cause
+
+-- what the notes get of a run by its end: nothing where nothing stopped it
+abbrev pub note_of_end : Option Stop → List ℕ → List ℕ
+note_of_end None name = []
+note_of_end (Some cause) name = note_of cause name

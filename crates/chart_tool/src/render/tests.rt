@@ -3,8 +3,9 @@ ghost use Rattle.std.specs.Prelude.{IsTrue, ◌≡◌, ◌≢◌};
 ghost use Rattle.vega_meaning.specs.Ranges.{pixels};
 ghost use Rattle.chart_tool.specs.meaning.Drawable.{IsDrawable, AreDrawable};
 
-use super::{opened, printed};
+use super::printed;
 use crate::form::{FirstForm, Value};
+use crate::opened::opened;
 use chart_io::ListSink;
 use fixed_num::Num;
 use std::alloc::Global;

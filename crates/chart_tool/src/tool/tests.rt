@@ -7,13 +7,13 @@ use std::alloc::Global;
 use std::process::Abort;
 use std::test::Fail;
 
-const THREE_BARS: &str =
+pub const THREE_BARS: &str =
     "{\"data\":{\"name\":\"t\",\"values\":[{\"a\":\"A\",\"b\":28},{\"a\":\"B\",\"b\":55},{\"a\":\"C\",\"b\":43}]},\"mark\":\"bar\",\"encoding\":{\"x\":{\"field\":\"a\",\"type\":\"nominal\",\"axis\":null},\"y\":{\"field\":\"b\",\"type\":\"quantitative\",\"axis\":null}}}";
 
 const UNSUPPORTED: &str = "chart: spec unsupported \n";
 
 // The words of a command line.
-fn words_of(alloc: Global, words: &[&str]) -> Result<Vec<String>, Fail> {
+pub fn words_of(alloc: Global, words: &[&str]) -> Result<Vec<String>, Fail> {
     let mut all = Vec::new(alloc);
     for word in words {
         all.push(String::from_str(alloc, word)?)?;
@@ -22,7 +22,7 @@ fn words_of(alloc: Global, words: &[&str]) -> Result<Vec<String>, Fail> {
 }
 
 // A folder of one file, `s.json`.
-fn folder_of(alloc: Global, bytes: &[u8]) -> Result<Vec<(String, Vec<u8>)>, Fail> {
+pub fn folder_of(alloc: Global, bytes: &[u8]) -> Result<Vec<(String, Vec<u8>)>, Fail> {
     let mut files = Vec::new(alloc);
     files.push((
         String::from_str(alloc, "s.json")?,

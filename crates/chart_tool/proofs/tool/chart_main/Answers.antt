@@ -1,118 +1,106 @@
-use Rattle.std.proofs.Common.{◌≡◌, List, ℕ, Option, Ok, Err, inl, inr, refl, ap, sym, subst, ◌∙◌}
-use Rattle.chart_io.specs.Outside.{Rose, Kept, Appended, AppendedPrefix}
-use Rattle.chart_tool.specs.meaning.Rendering.{IsRenderedOf, IsUnreadable, FileFaultsAt, IsUnsupported, IsDrawn}
-use Rattle.chart_tool.specs.meaning.Answers.{ComesWhere, Draws}
-use Rattle.chart_tool.proofs.Answered.{told_of, ok_unsupported, ok_drawn, ok_prefix, err_unsupported, err_drawn, err_prefix, only_words, ok_undrawn, err_undrawn, ok_unreadable, err_unreadable, place_of, note_is, err_place}
+use Rattle.std.proofs.Common.{◌≡◌, ◌≤◌, Option, None, length, map, string_bytes, Global, List, ℕ, IfSome, OnOk}
+use Rattle.std.specs.Result.{result_err}
+use Rattle.std.specs.Option.{IsSome}
+use Rattle.chart_io.specs.Outside.{Rose, Appended, AppendedPrefix}
+use Rattle.param_flow.specs.Script.{most_script_bytes}
+use Rattle.chart_tool.specs.declared.form.FirstForm.{FirstForm}
+use Rattle.chart_tool.specs.declared.stop.Stop.TheVariants as stop
+use Rattle.chart_tool.specs.meaning.Words.{rendered_of, played_of, asked_of}
+use Rattle.chart_tool.specs.meaning.Files.{IsTooLong}
+use Rattle.chart_tool.specs.meaning.Rendering.{HasForm, IsDrawn, IsUnreadable, IsUnsupported}
+use Rattle.chart_tool.specs.meaning.Playing.{IsOutputFrom, HasWholeOutput, HasOutputBegun}
+use Rattle.chart_tool.specs.meaning.Ends.{EndsOver}
+use Rattle.chart_tool.specs.meaning.Answers.{ComesWhere, SizeComesWhere, IsWritten}
+use Rattle.chart_tool.proofs.Answered.{told_then, told_three, unreadable_comes, unsupported_comes, size_comes, played_size_comes, error_is, past_size, only_done, chart_written, output_written}
+use Rattle.chart_tool.proofs.WordLemmas.{rendered_not_played}
+use Rattle.chart_tool.proofs.Runs.{told_first, told_second, where_first, none_some, only_first}
 use Rattle.chart_tool.proofs.tool.chart_main.Goals as goal
 
-pub returns-in-Ok-clause-unsupported : goal.returns-in-Ok-clause-unsupported
-returns-in-Ok-clause-unsupported g c =
+pub returns-clause-unreadable : goal.returns-clause-unreadable
+returns-clause-unreadable g c =
+    let words = map (string_bytes {Z = Global}) c.args.words.now.items in
+    told_then (λ file. EndsOver file (result_err c.run-done.result)) (λ file. ComesWhere 3 c.ended.result (IsUnreadable file)) (asked_of words) (g.F.Folder.files c.args.folder.now)
+    (λ file. unreadable_comes file c.ended.result (result_err c.run-done.result) c.ended.ensures.status) c.run-done.ensures.ends
+
+pub returns-clause-unsupported : goal.returns-clause-unsupported
+returns-clause-unsupported g c =
+    let words = map (string_bytes {Z = Global}) c.args.words.now.items in
+    told_then (λ file. EndsOver file (result_err c.run-done.result)) (λ file. ComesWhere 4 c.ended.result (IsUnsupported file)) (asked_of words) (g.F.Folder.files c.args.folder.now)
+    (λ file. unsupported_comes file c.ended.result (result_err c.run-done.result) c.ended.ensures.status) c.run-done.ensures.ends
+
+pub returns-clause-size : goal.returns-clause-size
+returns-clause-size g c =
+    let words = map (string_bytes {Z = Global}) c.args.words.now.items in
+    let told = g.F.Folder.files c.args.folder.now in
+    let is : Option (List ℕ) → Type 0 = λ file. ComesWhere 10 c.ended.result (IsTooLong file) in
+    where_first is (played_of words ≡ None) (rendered_of words) told
+    (λ none. told_then (λ file. EndsOver file (result_err c.run-done.result)) is (rendered_of words) told
+    (λ file. size_comes file c.ended.result (result_err c.run-done.result) c.ended.ensures.status
+    (λ size. none_some (played_of words) none (c.run-done.ensures.of_play (error_is c.run-done.result stop.ScriptSize size))))
+    (told_first told (λ file. EndsOver file (result_err c.run-done.result)) (rendered_of words) (played_of words) c.run-done.ensures.ends))
+    (rendered_not_played words)
+
+pub returns-clause-played_size : goal.returns-clause-played_size
+returns-clause-played_size g c =
+    let words = map (string_bytes {Z = Global}) c.args.words.now.items in
+    let told = g.F.Folder.files c.args.folder.now in
+    let script = g.S.Source.left c.args.script.now in
+    let left = g.S.Source.left c.run-done.new.script in
+    told_then (λ file. EndsOver file (result_err c.run-done.result)) (λ file. SizeComesWhere c.ended.result file script left) (played_of words) told
+    (λ file. played_size_comes file c.ended.result script left (result_err c.run-done.result) c.ended.ensures.status (past_size c.run-done.result script left c.run-done.ensures.script_size))
+    (told_second told (λ file. EndsOver file (result_err c.run-done.result)) (rendered_of words) (played_of words) (rendered_not_played words) c.run-done.ensures.ends)
+
+pub returns-clause-drawn : goal.returns-clause-drawn
+returns-clause-drawn g c =
+    let words = map (string_bytes {Z = Global}) c.args.words.now.items in
+    let told = g.F.Folder.files c.args.folder.now in
     let old = g.K.Sink.held c.args.out.now in
-    let now = g.K.Sink.held c.render.new.out in
-    let done : Unit {0} = c.in-Ok.field-0 in
-    let is : Option (List ℕ) → Type 0 = λ file. IsRenderedOf {A = Unit {0}} file old now (Ok done) in
-    told_of is (λ file. ComesWhere 4 0 (IsUnsupported file)) _ _ c.in-Some.name.now (sym c.in-Some.ensures) c.in-Ok.ensures.told (ok_unsupported old now done)
+    let now = g.K.Sink.held c.run-done.new.out in
+    let is : Option (List ℕ) → Type 0 = λ file. (text : List ℕ) → IsDrawn file text → (Rose (g.F.Folder.faults c.args.folder.now) (g.F.Folder.faults c.run-done.new.folder) → ⊥)
+    → (Rose (g.K.Sink.faults c.args.out.now) (g.K.Sink.faults c.run-done.new.out) → ⊥) → IsWritten c.ended.result old now text in
+    where_first is (played_of words ≡ None) (rendered_of words) told
+    (λ none. told_three (λ file. EndsOver file (result_err c.run-done.result)) (λ file. OnOk c.run-done.result ((text : List ℕ) × IsDrawn file text × Appended old now text))
+    (λ file. (text : List ℕ) → IsDrawn file text → AppendedPrefix old now text) is (rendered_of words) told
+    (λ file over whole begun text drawn no_f no_k. chart_written file c.ended.result old now c.run-done.result c.ended.ensures.status over
+    (λ size. none_some (played_of words) none (c.run-done.ensures.of_play size)) whole begun text drawn
+    (λ read. only_first _ _ (played_of words) none (c.run-done.ensures.read read) no_f) (λ write. no_k (c.run-done.ensures.write write)))
+    (told_first told (λ file. EndsOver file (result_err c.run-done.result)) (rendered_of words) (played_of words) c.run-done.ensures.ends) c.run-done.ensures.whole c.run-done.ensures.prefix)
+    (rendered_not_played words)
 
-pub returns-in-Ok-clause-drawn : goal.returns-in-Ok-clause-drawn
-returns-in-Ok-clause-drawn g c =
+pub returns-clause-whole : goal.returns-clause-whole
+returns-clause-whole g c =
+    let words = map (string_bytes {Z = Global}) c.args.words.now.items in
     let old = g.K.Sink.held c.args.out.now in
-    let now = g.K.Sink.held c.render.new.out in
-    let done : Unit {0} = c.in-Ok.field-0 in
-    let is : Option (List ℕ) → Type 0 = λ file. IsRenderedOf {A = Unit {0}} file old now (Ok done) in
-    told_of is (λ file. (text : List ℕ) → IsDrawn file text → (Rose (g.F.Folder.faults c.args.folder.now) (g.F.Folder.faults c.render.new.folder) → ⊥)
-    → (Rose (g.K.Sink.faults c.args.out.now) (g.K.Sink.faults c.render.new.out) → ⊥) → Draws 0 old now text)
-    _ _ c.in-Some.name.now (sym c.in-Some.ensures) c.in-Ok.ensures.told (λ file rendered text drawn no_read no_write. inl (refl, ok_drawn old now done file rendered text drawn))
+    let now = g.K.Sink.held c.run-done.new.out in
+    let is : Option (List ℕ) → Type 0 = λ file. (text : List ℕ) × IsDrawn file text × Appended old now text in
+    told_then (λ file. OnOk c.run-done.result (is file)) (λ file. c.ended.result ≡ 0 → is file) (rendered_of words) (g.F.Folder.files c.args.folder.now)
+    (λ file. only_done c.ended.result (is file) c.run-done.result c.ended.ensures.status) c.run-done.ensures.whole
 
-pub returns-in-Ok-clause-prefix : goal.returns-in-Ok-clause-prefix
-returns-in-Ok-clause-prefix g c =
+pub returns-clause-played : goal.returns-clause-played
+returns-clause-played g c =
+    let words = map (string_bytes {Z = Global}) c.args.words.now.items in
+    let told = g.F.Folder.files c.args.folder.now in
+    let script = g.S.Source.left c.args.script.now in
+    let left = g.S.Source.left c.run-done.new.script in
     let old = g.K.Sink.held c.args.out.now in
-    let now = g.K.Sink.held c.render.new.out in
-    let done : Unit {0} = c.in-Ok.field-0 in
-    let is : Option (List ℕ) → Type 0 = λ file. IsRenderedOf {A = Unit {0}} file old now (Ok done) in
-    told_of is (λ file. (text : List ℕ) → IsDrawn file text → AppendedPrefix old now text) _ _ c.in-Some.name.now (sym c.in-Some.ensures) c.in-Ok.ensures.told (ok_prefix old now done)
+    let now = g.K.Sink.held c.run-done.new.out in
+    told_three (λ file. EndsOver file (result_err c.run-done.result)) (λ file. OnOk c.run-done.result ((form : FirstForm) × HasForm file form × HasWholeOutput form script left old now))
+    (λ file. (form : FirstForm) → HasForm file form → HasOutputBegun form script old now)
+    (λ file. (form : FirstForm) → HasForm file form → IfSome script (λ bytes. length bytes ≤ most_script_bytes
+    → (Rose (g.F.Folder.faults c.args.folder.now) (g.F.Folder.faults c.run-done.new.folder) → ⊥) → (Rose (g.S.Source.faults c.args.script.now) (g.S.Source.faults c.run-done.new.script) → ⊥)
+    → (Rose (g.K.Sink.faults c.args.out.now) (g.K.Sink.faults c.run-done.new.out) → ⊥) → (text : List ℕ) × IsOutputFrom form bytes text × IsWritten c.ended.result old now text))
+    (played_of words) told
+    (λ file. output_written (IsSome (played_of words)) _ _ _ file c.ended.result script left old now c.run-done.result c.ended.ensures.status
+    c.run-done.ensures.read c.run-done.ensures.write c.run-done.ensures.script_size)
+    (told_second told (λ file. EndsOver file (result_err c.run-done.result)) (rendered_of words) (played_of words) (rendered_not_played words) c.run-done.ensures.ends) c.run-done.ensures.played_whole c.run-done.ensures.played_prefix
 
-pub returns-in-Err-clause-words : goal.returns-in-Err-clause-words
-returns-in-Err-clause-words g c =
-    let named = c.in-Some.ensures in (
-      λ one. absurd (only_words c.in-Err.stop (λ e. c.in-Err.ensures.words (ap Err e)) (sym c.stopped-in-Err.ensures.status ∙ one)),
-      λ none. let e = named ∙ none in absurd cc,
-    )
-
-pub returns-in-Err-clause-unsupported : goal.returns-in-Err-clause-unsupported
-returns-in-Err-clause-unsupported g c =
+pub returns-clause-played_whole : goal.returns-clause-played_whole
+returns-clause-played_whole g c =
+    let words = map (string_bytes {Z = Global}) c.args.words.now.items in
+    let script = g.S.Source.left c.args.script.now in
+    let left = g.S.Source.left c.run-done.new.script in
     let old = g.K.Sink.held c.args.out.now in
-    let now = g.K.Sink.held c.render.new.out in
-    let is : Option (List ℕ) → Type 0 = λ file. IsRenderedOf {A = Unit {0}} file old now (Err c.in-Err.stop) in
-    told_of is (λ file. ComesWhere 4 c.stopped-in-Err.result (IsUnsupported file)) _ _ c.in-Some.name.now (sym c.in-Some.ensures) c.in-Err.ensures.told
-    (λ file rendered. err_unsupported (Unit {0}) old now c.in-Err.stop c.stopped-in-Err.result file c.stopped-in-Err.ensures.status rendered)
-
-pub returns-in-Err-clause-drawn : goal.returns-in-Err-clause-drawn
-returns-in-Err-clause-drawn g c =
-    let old = g.K.Sink.held c.args.out.now in
-    let now = g.K.Sink.held c.render.new.out in
-    let is : Option (List ℕ) → Type 0 = λ file. IsRenderedOf {A = Unit {0}} file old now (Err c.in-Err.stop) in
-    told_of is (λ file. (text : List ℕ) → IsDrawn file text → (Rose (g.F.Folder.faults c.args.folder.now) (g.F.Folder.faults c.render.new.folder) → ⊥)
-    → (Rose (g.K.Sink.faults c.args.out.now) (g.K.Sink.faults c.render.new.out) → ⊥) → Draws c.stopped-in-Err.result old now text)
-    _ _ c.in-Some.name.now (sym c.in-Some.ensures) c.in-Err.ensures.told
-    (λ file rendered text drawn no_read no_write. inr (err_drawn (Unit {0}) old now c.in-Err.stop c.stopped-in-Err.result file c.stopped-in-Err.ensures.status c.in-Err.ensures.silent
-    (λ e. no_read (c.in-Err.ensures.read (ap Err e))) (λ e. no_write (c.in-Err.ensures.write (ap Err e))) rendered text drawn))
-
-pub returns-in-Err-clause-prefix : goal.returns-in-Err-clause-prefix
-returns-in-Err-clause-prefix g c =
-    let old = g.K.Sink.held c.args.out.now in
-    let now = g.K.Sink.held c.render.new.out in
-    let is : Option (List ℕ) → Type 0 = λ file. IsRenderedOf {A = Unit {0}} file old now (Err c.in-Err.stop) in
-    told_of is (λ file. (text : List ℕ) → IsDrawn file text → AppendedPrefix old now text) _ _ c.in-Some.name.now (sym c.in-Some.ensures) c.in-Err.ensures.told
-    (λ file rendered text drawn. err_prefix (Unit {0}) old now c.in-Err.stop file c.in-Err.ensures.silent rendered text drawn)
-
-pub returns-in-Ok-clause-undrawn : goal.returns-in-Ok-clause-undrawn
-returns-in-Ok-clause-undrawn g c =
-    let old = g.K.Sink.held c.args.out.now in
-    let now = g.K.Sink.held c.render.new.out in
-    let done : Unit {0} = c.in-Ok.field-0 in
-    let is : Option (List ℕ) → Type 0 = λ file. IsRenderedOf {A = Unit {0}} file old now (Ok done) in
-    told_of is (λ file. ((text : List ℕ) → IsDrawn file text → ⊥) → Kept old now) _ _ c.in-Some.name.now (sym c.in-Some.ensures) c.in-Ok.ensures.told (ok_undrawn old now done)
-
-pub returns-in-Err-clause-undrawn : goal.returns-in-Err-clause-undrawn
-returns-in-Err-clause-undrawn g c =
-    let old = g.K.Sink.held c.args.out.now in
-    let now = g.K.Sink.held c.render.new.out in
-    let is : Option (List ℕ) → Type 0 = λ file. IsRenderedOf {A = Unit {0}} file old now (Err c.in-Err.stop) in
-    told_of is (λ file. ((text : List ℕ) → IsDrawn file text → ⊥) → Kept old now) _ _ c.in-Some.name.now (sym c.in-Some.ensures) c.in-Err.ensures.told
-    (λ file rendered none. err_undrawn (Unit {0}) old now c.in-Err.stop file c.in-Err.ensures.silent rendered none)
-
-pub returns-in-Ok-clause-unreadable : goal.returns-in-Ok-clause-unreadable
-returns-in-Ok-clause-unreadable g c =
-    let old = g.K.Sink.held c.args.out.now in
-    let now = g.K.Sink.held c.render.new.out in
-    let done : Unit {0} = c.in-Ok.field-0 in
-    let is : Option (List ℕ) → Type 0 = λ file. IsRenderedOf {A = Unit {0}} file old now (Ok done) in
-    told_of is (λ file. ComesWhere 3 0 (IsUnreadable file)) _ _ c.in-Some.name.now (sym c.in-Some.ensures) c.in-Ok.ensures.told (ok_unreadable old now done)
-
-pub returns-in-Err-clause-unreadable : goal.returns-in-Err-clause-unreadable
-returns-in-Err-clause-unreadable g c =
-    let old = g.K.Sink.held c.args.out.now in
-    let now = g.K.Sink.held c.render.new.out in
-    let is : Option (List ℕ) → Type 0 = λ file. IsRenderedOf {A = Unit {0}} file old now (Err c.in-Err.stop) in
-    told_of is (λ file. ComesWhere 3 c.stopped-in-Err.result (IsUnreadable file)) _ _ c.in-Some.name.now (sym c.in-Some.ensures) c.in-Err.ensures.told
-    (λ file rendered. err_unreadable (Unit {0}) old now c.in-Err.stop c.stopped-in-Err.result file c.stopped-in-Err.ensures.status rendered)
-
-pub returns-in-Err-clause-noted : goal.returns-in-Err-clause-noted
-returns-in-Err-clause-noted g c =
-    let old = g.K.Sink.held c.args.out.now in
-    let now = g.K.Sink.held c.render.new.out in
-    let is : Option (List ℕ) → Type 0 = λ file. IsRenderedOf {A = Unit {0}} file old now (Err c.in-Err.stop) in
-    let same = note_is c.in-Err.stop c.stopped-in-Err.result _ c.in-Some.name.now c.stopped-in-Err.ensures.status (sym c.in-Some.ensures) in
-    let at : List ℕ → Type 0 = λ text. Appended (g.N.Sink.held c.args.notes.now) (g.N.Sink.held c.stopped-in-Err.new.notes) text in
-    λ no_rise. (
-      place_of c.in-Err.stop,
-      told_of is (λ file. c.stopped-in-Err.result ≡ 3 → FileFaultsAt file (place_of c.in-Err.stop)) _ _ c.in-Some.name.now (sym c.in-Some.ensures) c.in-Err.ensures.told
-          (λ file rendered. err_place (Unit {0}) old now c.in-Err.stop c.stopped-in-Err.result file c.stopped-in-Err.ensures.status rendered),
-      subst at same (c.stopped-in-Err.ensures.noted no_rise),
-    )
-
-pub returns-in-Err-clause-begun : goal.returns-in-Err-clause-begun
-returns-in-Err-clause-begun g c =
-    let same = note_is c.in-Err.stop c.stopped-in-Err.result _ c.in-Some.name.now c.stopped-in-Err.ensures.status (sym c.in-Some.ensures) in
-    let at : List ℕ → Type 0 = λ text. AppendedPrefix (g.N.Sink.held c.args.notes.now) (g.N.Sink.held c.stopped-in-Err.new.notes) text in
-    (place_of c.in-Err.stop, subst at same c.stopped-in-Err.ensures.begun)
+    let now = g.K.Sink.held c.run-done.new.out in
+    let is : Option (List ℕ) → Type 0 = λ file. (form : FirstForm) × HasForm file form × HasWholeOutput form script left old now in
+    told_then (λ file. OnOk c.run-done.result (is file)) (λ file. c.ended.result ≡ 0 → is file) (played_of words) (g.F.Folder.files c.args.folder.now)
+    (λ file. only_done c.ended.result (is file) c.run-done.result c.ended.ensures.status) c.run-done.ensures.played_whole

@@ -1,5 +1,5 @@
-use Rattle.chart_tool.proofs.Charts.{form_is_drawable, is_opened}
-use Rattle.chart_tool.proofs.render.opened_of_bytes.Goals as goal
+use Rattle.chart_tool.proofs.Charts.{form_is_drawable}
+use Rattle.chart_tool.proofs.opened.opened_of_bytes.Goals as goal
 
 pub opened-requires-clause-drawable : goal.opened-requires-clause-drawable
 opened-requires-clause-drawable c = let the = c.in_ok-form.ensures in form_is_drawable the.tree c.in_ok-form.form the.is
@@ -8,4 +8,4 @@ pub opened-requires-clause-apart : goal.opened-requires-clause-apart
 opened-requires-clause-apart c = c.in_ok-form.ensures.is.outline.channels.differ
 
 pub returns : goal.returns
-returns c = is_opened c.args.bytes.now c.in_ok-form.form c.in_ok-engine.engine c.in_ok-form.ensures c.in_ok-engine.ensures
+returns c = (c.in_ok-form.form, c.in_ok-form.ensures, c.in_ok-engine.ensures)

@@ -1,7 +1,7 @@
 use Rattle.std.proofs.Common.{Ok, Err, subst}
 use Rattle.vega_meaning.specs.declared.open.OpenError.{OpenError}
 use Rattle.chart_tool.proofs.Charts.{IsOpened, open_answer}
-use Rattle.chart_tool.proofs.render.opened.Goals as goal
+use Rattle.chart_tool.proofs.opened.opened.Goals as goal
 
 pub unreachable-requires : goal.unreachable-requires
 unreachable-requires c =
