@@ -12,7 +12,7 @@ use Rattle.std.specs.FinMap.{is_sorted, put, insert, empty}
 use Rattle.std.specs.FinMap.Entries.{below_all, by_order}
 use Rattle.cell_value.specs.declared.cell.Cell.{Cell}
 use Rattle.cell_value.specs.Row.{Cells}
-use Rattle.cell_value.specs.Gather.{named, seen_row}
+use Rattle.cell_value.specs.inner.Gather.{named, seen_row}
 use Rattle.cell_value.proofs.Place.{from_put, none_seen}
 
 named_put : (es : List (String Global × Cell)) (k : String Global) (v : Cell) → map named (insert_entry string_cmp es k v) ≡ put (slice_cmp nat_cmp) (string_bytes k) v (map named es)

@@ -1,4 +1,3 @@
-mod Spelling
 mod Place
 mod GatherLemmas
-mod LawLemmas
+pub mod LawLemmas

@@ -10,7 +10,7 @@ use Rattle.std.specs.FinMap.{FinMap, IsAntisymmetric, is_sorted, put, find, from
 use Rattle.std.specs.FinMap as map
 use Rattle.std.specs.FinMap.Entries.{below_all, by_order, is_sorted-put}
 use Rattle.std.proofs.lemmas.List.Sorted.{searchable_from_sorted}
-use Rattle.cell_value.specs.Place.{IsAt, IsGap}
+use Rattle.cell_value.specs.inner.Place.{IsAt, IsGap}
 
 both : (a b : Bool) → T (a && b) → T a × T b
 both true b h = (tt, h)

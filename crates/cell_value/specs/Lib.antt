@@ -1,8 +1,7 @@
 pub mod Cell
-pub mod CellOrder
 pub mod Display
-pub mod Place
 pub mod Row
-pub mod Gather
-pub mod Laws
+pub mod Datum
 pub mod State
+pub mod Laws
+pub mod inner

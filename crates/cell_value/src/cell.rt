@@ -3,8 +3,9 @@ ghost use Rattle.std.specs.Prelude.{◌≡◌, ◌↔◌, IsTrue, IfOk};
 ghost use Rattle.cell_value.specs.Cell.{kind, cell_cmp, same_cells, truth};
 
 use fixed_num::Num;
+use std::alloc::Global;
 use std::cmp::Ordering;
-use text_kit::{OutOfMemory, Text};
+use text_kit::{Copies, OutOfMemory, Text};
 
 /// A value that an expression computes, and that a row holds under a name.
 #[derive(Debug, Drop)]
@@ -50,7 +51,7 @@ impl Cell {
     }
 
     /// Whether the two are the same cell.
-    #[tactic(auto, using(crate::specs::CellOrder::same_cells_tell))]
+    #[tactic(auto, using(crate::specs::inner::CellOrder::same_cells_tell))]
     pub fn same(&self, o: &Cell) -> bool
         ensures value { result ≡ same_cells self.now o.now }
         ensures same { IsTrue result ↔ (self.now ≡ o.now) }
@@ -82,5 +83,11 @@ impl Cell {
             Cell::Text(text) => Ok(Cell::Text(text.copy()?)),
             Cell::Pair(a, b) => Ok(Cell::Pair(*a, *b)),
         }
+    }
+}
+
+impl Copies for Cell {
+    fn copied(&self, _: Global) -> Result<Cell, OutOfMemory> {
+        self.copy()
     }
 }

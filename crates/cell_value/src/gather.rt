@@ -4,7 +4,7 @@ ghost use Rattle.std.specs.Ordering.{nat_cmp};
 ghost use Rattle.std.specs.Cmp.Lexicographic.{slice_cmp};
 ghost use Rattle.std.specs.FinMap.{insert, is_sorted};
 ghost use Rattle.cell_value.specs.Row.{row_of};
-ghost use Rattle.cell_value.specs.Gather.{named, seen_row};
+ghost use Rattle.cell_value.specs.inner.Gather.{named, seen_row};
 
 use crate::Cell;
 use std::alloc::Global;

@@ -2,7 +2,7 @@
 ghost use Rattle.cell_value.specs.Laws.{OrderIsTotal, OnlyEqualCellsTie, SameCellsAreEqual, WhatIsSetIsRead, OtherNamesStay, AlikeRowsAreEqual};
 
 /// The order of cells is total, and a cell ties with itself alone.
-#[tactic(auto, using(crate::specs::CellOrder::cell_cmp_total, crate::specs::CellOrder::only_equal_cells_tie, crate::specs::CellOrder::same_cells_tell))]
+#[tactic(auto, using(crate::specs::inner::CellOrder::cell_cmp_total, crate::specs::inner::CellOrder::only_equal_cells_tie, crate::specs::inner::CellOrder::same_cells_tell))]
 pub fn laws_of_cells()
     ensures total { OrderIsTotal }
     ensures ties { OnlyEqualCellsTie }

@@ -3,7 +3,6 @@
 #![tactic(auto)]
 
 mod cell;
-mod copies;
 mod display;
 mod gather;
 mod laws;
@@ -15,7 +14,6 @@ mod steps;
 mod tests;
 
 pub use cell::Cell;
-pub use copies::{Copies, copy_list};
 pub use laws::{laws_of_cells, laws_of_rows};
 pub use row::Row;
 pub use state::{ChartState, Extent, Key, Keyed, Named, Params, Rows, StoreOf};

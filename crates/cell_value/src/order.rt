@@ -3,7 +3,7 @@ ghost use Rattle.std.specs.Cmp.{eq_by_cmp_equiv, partial_equiv_from_equiv, parti
 ghost use Rattle.std.specs.Ordering.{as_partial_cmp};
 ghost use Rattle.std.specs.Prelude.{refl};
 ghost use Rattle.cell_value.specs.Cell.{cell_cmp, same_cells};
-ghost use Rattle.cell_value.specs.CellOrder.{cell_cmp_total};
+ghost use Rattle.cell_value.specs.inner.CellOrder.{cell_cmp_total};
 
 use crate::Cell;
 use std::cmp::Ordering;

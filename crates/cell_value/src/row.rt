@@ -3,14 +3,14 @@ ghost use Rattle.std.specs.Prelude.{◌≡◌, ◌<◌, T, length, slice_set, If
 ghost use Rattle.std.specs.Ordering.{nat_cmp};
 ghost use Rattle.std.specs.Cmp.Lexicographic.{slice_cmp};
 ghost use Rattle.std.specs.FinMap as map;
-ghost use Rattle.cell_value.specs.Place.{IsAt, IsGap};
+ghost use Rattle.cell_value.specs.inner.Place.{IsAt, IsGap};
 ghost use Rattle.cell_value.specs.Row.{row_of};
 
+use crate::Cell;
 use crate::gather::{gathered, listed};
-use crate::{Cell, copy_list};
 use std::alloc::Global;
 use std::marker::Model;
-use text_kit::{OutOfMemory, Text};
+use text_kit::{OutOfMemory, Text, copy_list};
 
 /// Cells under names, each name once. Contracts see it as the finite map from the names' bytes to the cells.
 #[derive(Debug, Drop)]

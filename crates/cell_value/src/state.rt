@@ -1,10 +1,10 @@
 // Keyed rows, and the state of a chart.
 ghost use Rattle.std.specs.Prelude.{◌≡◌, IfOk};
 
-use crate::{Cell, Copies, Row, copy_list};
+use crate::{Cell, Row};
 use fixed_num::Num;
 use std::alloc::Global;
-use text_kit::{OutOfMemory, Seq, Text};
+use text_kit::{Copies, OutOfMemory, Seq, Text, copy_list};
 
 /// What names a row among all rows of a chart.
 #[derive(Clone, Copy, Debug, PartialEq, Eq, PartialOrd, Ord)]
@@ -114,18 +114,9 @@ impl StoreOf {
             name: self.name.copy()?,
             tuples: copy_list(alloc, self.tuples.as_slice())?,
             extents: copy_list(alloc, self.extents.as_slice())?,
-            panel: copy_panel(&self.panel)?,
+            panel: Copies::copied(&self.panel, alloc)?,
             unit: self.unit,
         })
-    }
-}
-
-fn copy_panel(panel: &Option<Row>) -> Result<Option<Row>, OutOfMemory>
-    ensures { IfOk result (λ copy. copy ≡ panel.now) }
-{
-    match panel {
-        Some(row) => Ok(Some(row.copy()?)),
-        None => Ok(None),
     }
 }
 

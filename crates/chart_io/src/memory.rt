@@ -1,7 +1,7 @@
 ghost use Rattle.std.specs.Prelude.{◌≡◌, [], ◌+◌, ◌<◌, ◌≤◌, Some, min, length, take, drop, IfOk, OnErr, is_err};
 ghost use Rattle.chart_io.specs.Outside.{Rose, file_of, IsGot, IsWithin, Kept, Moved};
 ghost use Rattle.chart_io.specs.Counts.{no_calls, next_fails, after_call};
-ghost use Rattle.chart_io.specs.Memory.{listed};
+ghost use Rattle.chart_io.specs.Memory.{listed, got_of};
 
 use crate::counts::Calls;
 use crate::{Failed, Folder, Got, Source, SureFolder, SureSource};
@@ -46,6 +46,7 @@ impl Folder for ListFolder {
         ensures fails { is_err result ≡ next_fails self.old.calls }
         ensures calls { self.new.calls ≡ after_call self.old.calls (is_err result) }
         ensures counted { self.old.calls.failed ≤ self.new.calls.failed }
+        ensures answer { IfOk result (λ got. got ≡ got_of (file_of self.old.files name.now) at (length buf.new)) }
         ensures within { IfOk result (IsWithin (length buf.new)) }
         ensures got { IfOk result (IsGot (file_of self.old.files name.now) at buf.new) }
         ensures stays { self.new.files ≡ self.old.files }

@@ -1,7 +1,7 @@
-ghost use Rattle.std.specs.Prelude.{◌≡◌, ◌+◌, ◌<◌, ◌≤◌, ℕ, List, Option, Some, None, min, length, take, drop, map, string_bytes, IfOk, IfSome, IsOk, OnErr};
+ghost use Rattle.std.specs.Prelude.{◌≡◌, ◌+◌, ◌<◌, ◌≤◌, ℕ, List, Option, Some, None, Ok, min, length, take, drop, map, string_bytes, IfOk, IfSome, IsOk, OnErr};
 ghost use Rattle.std.specs.Option.{option_map};
 ghost use Rattle.chart_io.specs.Outside.{Rose, Files, file_of, IsGot, IsWithin, Kept, Moved};
-ghost use Rattle.chart_io.specs.Memory.{listed};
+ghost use Rattle.chart_io.specs.Memory.{listed, got_of};
 
 use crate::{Failed, Folder, Got, Source};
 use std::marker::Model;
@@ -59,7 +59,7 @@ impl Folder for SureFolder {
 
     fn read(&mut self, name: &str, at: u64, buf: &mut [u8]) -> Result<Got, Failed>
         requires { 0 < length buf.old }
-        ensures sure { IsOk result }
+        ensures answer { result ≡ Ok (got_of (file_of self.old name.now) at (length buf.new)) }
         ensures within { IfOk result (IsWithin (length buf.new)) }
         ensures got { IfOk result (IsGot (file_of self.old name.now) at buf.new) }
         ensures stays { self.new ≡ self.old }

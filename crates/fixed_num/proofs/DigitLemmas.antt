@@ -11,7 +11,7 @@ use Rattle.std.proofs.lemmas.List.Folds.{list_all-append}
 use Rattle.fixed_num.proofs.RoundingLemmas.{rounded_up, rounded_down, rounded_away, rounded_toward, size_of_rounded, size_in_range}
 use Rattle.fixed_num.specs.Number.{limit, IsNumber, signed, rounded}
 use Rattle.fixed_num.specs.JsonNumber.{number_of, AreDigits}
-use Rattle.fixed_num.specs.JsonDigits.{number_after, rounds_away, rounded_at}
+use Rattle.fixed_num.specs.inner.Digits.{number_after, rounds_away, rounded_at}
 
 pub ten_pos : (k : ℕ) → 0 < 10 ^ k
 ten_pos zero = omega arith
@@ -44,10 +44,6 @@ number_joined [] ys = omega arith
 number_joined (x ∷ xs) ys =
     let power : 10 ^ length (xs ++ ys) ≡ 10 ^ length xs * 10 ^ length ys = ap (λ n. 10 ^ n) (length-append xs ys) ∙ pow-add 10 (length xs) (length ys) in
     omega (arith, number_joined xs ys, ap (λ n. (x - 48) * n) power)
-
-pub digits_joined : (xs ys : List ℕ) → AreDigits (xs ++ ys) → AreDigits xs × AreDigits ys
-digits_joined xs ys a =
-    both_true (list_all is_ascii_digit xs) (list_all is_ascii_digit ys) (sym (list_all-append is_ascii_digit xs ys) ∙ a)
 
 pub digits_together : (xs ys : List ℕ) → AreDigits xs → AreDigits ys → AreDigits (xs ++ ys)
 digits_together xs ys a b =

@@ -7,7 +7,7 @@ use Rattle.std.proofs.Math.Nat.{pow-suc, suc-mul, zero-mul, div-zero, div-mul-le
 use lib.IntN.{neg_ℤ-neg_ℤ}
 use Rattle.fixed_num.proofs.RoundingLemmas.{rounded_up, rounded_down, rounded_toward, root_from_squares}
 use Rattle.fixed_num.specs.Number.{root_of, square_root, larger_root, floor_quotient, rounded, rounded_ratio, floored, ceiled}
-use Rattle.fixed_num.specs.Laws.{RoundedKeepsOrder, RoundedIsExact, MiddleGoesUp, SumKeepsOrder, FlooredIsMultiple, CeiledIsMultiple, OneRoot, RatioIsFraction, RootOfIsRoot}
+use Rattle.fixed_num.specs.Laws.{RoundedKeepsOrder, RoundedIsExact, MiddleGoesUp, FlooredIsMultiple, CeiledIsMultiple, OneRoot, RatioIsFraction, RootOfIsRoot}
 
 div_order : (a b q : ℕ) → a ≤ b → a / q ≤ b / q
 div_order a b zero h = omega (arith, div-zero a, div-zero b)
@@ -36,9 +36,6 @@ middle_goes_up (pos n) q h = rounded_up n q (2 * q) (omega arith) (omega arith) 
 middle_goes_up (negsuc n) q h =
     let below : negsuc n *ℤ pos (2 * q) +ℤ pos q ≡ neg_ℤ (pos (n * (2 * q) + q)) = omega (arith, ints, suc-mul n (2 * q)) in
     ap (λ z. rounded z (2 * q)) below ∙ rounded_toward n q (2 * q) (omega arith) (omega arith) ∙ omega (arith, ints)
-
-pub sum_keeps_order : SumKeepsOrder
-sum_keeps_order a b c d h i = omega (arith, ints, h, i)
 
 pub floored_is_multiple : FlooredIsMultiple
 unfolding floored floor_quotient

@@ -1,8 +1,10 @@
 pub mod RoundingLemmas
 pub mod ProductLemmas
 pub mod SpellingLemmas
-pub mod JsonLemmas
 pub mod DigitLemmas
+pub mod Steps
+pub mod Numerals
+pub mod Ascii
 pub mod ScaleLemmas
 pub mod RoundTripLemmas
 pub mod LawLemmas

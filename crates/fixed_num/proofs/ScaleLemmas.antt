@@ -7,7 +7,7 @@ use Rattle.fixed_num.proofs.RoundingLemmas.{rounded_down, rounded_toward, size_b
 use Rattle.fixed_num.proofs.DigitLemmas.{ten_pos, number_below}
 use Rattle.fixed_num.specs.Number.{limit, IsNumber, signed, rounded}
 use Rattle.fixed_num.specs.JsonNumber.{Parts, AreDigits, number_of, scaled, value_of}
-use Rattle.fixed_num.specs.JsonDigits.{rounded_at}
+use Rattle.fixed_num.specs.inner.Digits.{rounded_at}
 
 size_of_signed : (minus : Bool) (n : ℕ) → unsigned_abs (signed minus n) ≡ n
 size_of_signed false n = refl

@@ -83,7 +83,8 @@ half_a_millionth : value_of (record { minus = false; whole = codes "0"; fraction
 unfolding value_of scaled rounded floor_quotient
 half_a_millionth = refl
 
-minus_one_and_a_half_millionths : value_of (record { minus = true; whole = codes "0"; fraction = codes "0000015"; exponent = pos 0 }) ≡ negsuc 0
+minus_one_and_a_half_millionths :
+    value_of (record { minus = true; whole = codes "0"; fraction = codes "0000015"; exponent = pos 0 }) ≡ negsuc 0
 unfolding value_of scaled rounded floor_quotient
 minus_one_and_a_half_millionths = refl
 

@@ -1,8 +1,9 @@
 -- What holds of rounding, of multiples, of roots and of texts, whatever the numbers.
-use Rattle.std.specs.Prelude.{ℕ, ◌*◌, ◌<◌, List, ℤ, pos, ◌+ℤ◌, ◌-ℤ◌, ◌*ℤ◌, ◌≤ℤ◌, ◌<ℤ◌, ◌≡◌, unsigned_abs}
+use Rattle.std.specs.Prelude.{ℕ, ◌*◌, ◌<◌, List, ◌++◌, Option, Ok, IsTrue, ℤ, pos, ◌+ℤ◌, ◌-ℤ◌, ◌*ℤ◌, ◌≤ℤ◌, ◌<ℤ◌, ◌≡◌, unsigned_abs}
 use Rattle.fixed_num.specs.Number.{IsNumber, IsRoot, root_of, rounded, rounded_ratio, floored, ceiled}
 use Rattle.fixed_num.specs.Decimal.{spelling}
 use Rattle.fixed_num.specs.JsonNumber.{Reads}
+use Rattle.fixed_num.specs.Front.{first, ends_number, as_number, decimal_at}
 
 -- a greater fraction rounds to no lesser number
 abbrev pub RoundedKeepsOrder : Type 0
@@ -19,10 +20,6 @@ RoundedIsExact = (m : ℤ) (q : ℕ) → 0 < q → rounded (m *ℤ pos q) q ≡ 
 -- the middle between m and m + 1 rounds to m + 1, on both sides of zero
 abbrev pub MiddleGoesUp : Type 0
 MiddleGoesUp = (m : ℤ) (q : ℕ) → 0 < q → rounded (m *ℤ pos (2 * q) +ℤ pos q) (2 * q) ≡ m +ℤ pos 1
-
--- a sum of greater numbers is no lesser
-abbrev pub SumKeepsOrder : Type 0
-SumKeepsOrder = (a b c d : ℤ) → a ≤ℤ b → c ≤ℤ d → (a +ℤ c) ≤ℤ (b +ℤ d)
 
 -- the multiple below a number is less than a step away from it
 pub record IsMultipleBelow (m s z : ℤ) : Type 0 where
@@ -59,3 +56,19 @@ WrittenIsRead = (m : ℤ) → IsNumber m → Reads (spelling m) m
 -- bytes are one number at most
 abbrev pub OneValue : Type 0
 OneValue = (bytes : List ℕ) (m n : ℤ) → Reads bytes m → Reads bytes n → m ≡ n
+
+-- what is found at the front is a number that is spelled there
+pub record IsAtFront (bytes rest : List ℕ) (found : Option ℤ) : Type 0 where
+  pub word : List ℕ
+  pub value : ℤ
+  pub joined : bytes ≡ word ++ rest
+  pub spelled : Reads word value
+  pub number : found ≡ as_number value
+
+abbrev pub FrontIsSpelled : Type 0
+FrontIsSpelled = (bytes rest : List ℕ) (found : Option ℤ) → decimal_at bytes ≡ Ok (found, rest) → IsAtFront bytes rest found
+
+-- a number before a byte that can't go on with it is found whole
+abbrev pub SpelledIsFront : Type 0
+SpelledIsFront = (word rest : List ℕ) (m : ℤ) → Reads word m → IsTrue (ends_number (first rest))
+    → decimal_at (word ++ rest) ≡ Ok (as_number m, rest)

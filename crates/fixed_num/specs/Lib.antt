@@ -1,7 +1,6 @@
 pub mod Number
 pub mod Decimal
 pub mod JsonNumber
-pub mod JsonParts
-pub mod JsonView
-pub mod JsonDigits
+pub mod Front
 pub mod Laws
+pub mod inner

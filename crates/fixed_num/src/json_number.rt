@@ -1,11 +1,11 @@
 // The parts of a JSON number, as they stand in its bytes.
-ghost use Rattle.std.specs.Prelude.{◌≡◌, [], ◌∷◌, ◌+◌, ◌<◌, ◌≤◌, Option, Some, None, option_map, IfSome, List, ℕ, ◌==◌, IsTrue, length};
-ghost use Rattle.std.specs.List.{list_all};
+ghost use Rattle.std.specs.Prelude.{◌≡◌, ◌==◌, ◌≤◌, IfOk, length};
+ghost use Rattle.std.specs.List.{prefix_len};
 ghost use Rattle.std.specs.Char.{is_ascii_digit};
-ghost use Rattle.fixed_num.specs.Number.{signed};
-ghost use Rattle.fixed_num.specs.JsonNumber.{number_of, AreDigits};
-ghost use Rattle.fixed_num.specs.JsonView.{parts};
-ghost use Rattle.fixed_num.specs.JsonParts.{leading_digits, after_digits, signed_digits, after_mark, exponent_of, after_point, fraction_of, is_whole, after_minus, parts_of};
+ghost use Rattle.std.specs.Result.{result_map_both};
+ghost use Rattle.fixed_num.specs.JsonNumber.{AreDigits};
+ghost use Rattle.fixed_num.specs.Front.{first, leading_digits, after_digits, digits_at, whole_at, fraction_at, after_sign, signed_at, exponent_at, after_minus, parts_at};
+ghost use Rattle.fixed_num.specs.inner.View.{exponent, parts};
 
 /// The digits of an exponent, with a minus or without; none where there is no exponent.
 #[derive(Clone, Copy)]
@@ -23,141 +23,128 @@ pub(crate) struct JsonNumber<'a> {
     pub exponent: Exponent<'a>,
 }
 
-// Whether each byte is a digit.
-fn are_digits(bytes: &[u8]) -> bool
-    ensures { result ≡ list_all is_ascii_digit bytes.now }
-{
-    bytes.iter().all(|b| b.is_ascii_digit())
-}
+// Each of these finds a part at the front, and the bytes after it; an error is how many bytes are left where nothing goes on.
 
 // How many digits stand in front.
-fn digits_len(text: &[u8]) -> usize
-    ensures value { result ≡ length (leading_digits text.now) }
+fn digits_len(bytes: &[u8]) -> usize
+    ensures value { result ≡ prefix_len is_ascii_digit bytes.now }
+    ensures within { result ≤ length bytes.now }
 {
-    text.iter().take_while(|b| b.is_ascii_digit()).count()
+    bytes.iter().take_while(|b| b.is_ascii_digit()).count()
 }
 
 // The digits in front, and what comes after them.
-fn split_digits(text: &[u8]) -> (&[u8], &[u8])
-    ensures digits { result.0.now ≡ leading_digits text.now }
-    ensures rest { result.1.now ≡ after_digits text.now }
+#[tactic(auto, using(crate::proofs::Numerals::digits_by_length))]
+fn split_digits(bytes: &[u8]) -> (&[u8], &[u8])
+    ensures digits { result.0.now ≡ leading_digits bytes.now }
+    ensures rest { result.1.now ≡ after_digits bytes.now }
 {
-    text.split_at(digits_len(text))
+    bytes.split_at(digits_len(bytes))
 }
 
-// Digits with their sign; None where they are none.
-#[tactic(auto, unfolding(crate::specs::JsonParts::signed_digits))]
-fn exponent_digits(minus: bool, digits: &[u8]) -> Option<Exponent<'_>>
-    ensures value { option_map (λ x. signed x.minus (number_of x.digits.now)) result ≡ signed_digits minus digits.now }
-    ensures digits { IfSome result (λ x. AreDigits x.digits.now) }
+// One or more digits.
+#[tactic(auto, using(crate::proofs::Numerals::leading_are_digits), unfolding(crate::specs::Front::digits_at))]
+fn digits_of(bytes: &[u8]) -> Result<(&[u8], &[u8]), usize>
+    ensures value { result_map_both (λ x. (x.0.now, x.1.now)) (λ left. left) result ≡ digits_at bytes.now }
+    ensures digits { IfOk result (λ x. AreDigits x.0.now) }
 {
-    match digits {
-        [] => None,
-        [_, ..] => if are_digits(digits) {
-            Some(Exponent { minus, digits })
-        } else {
-            None
-        },
+    match bytes {
+        [first, ..] if first.is_ascii_digit() => Ok(split_digits(bytes)),
+        _ => Err(bytes.len()),
     }
 }
 
-#[tactic(auto, unfolding(crate::specs::JsonParts::after_mark))]
-fn exponent_after_mark(text: &[u8]) -> Option<Exponent<'_>>
-    ensures value { option_map (λ x. signed x.minus (number_of x.digits.now)) result ≡ after_mark text.now }
-    ensures digits { IfSome result (λ x. AreDigits x.digits.now) }
+// A whole part: one zero, or digits without a zero in front.
+#[tactic(auto, unfolding(crate::specs::Front::whole_at))]
+fn whole_of(bytes: &[u8]) -> Result<(&[u8], &[u8]), usize>
+    ensures { result_map_both (λ x. (x.0.now, x.1.now)) (λ left. left) result ≡ whole_at bytes.now }
 {
-    match text {
-        [] => None,
-        [b'-', digits @ ..] => exponent_digits(true, digits),
-        [b'+', digits @ ..] => exponent_digits(false, digits),
-        [_, ..] => exponent_digits(false, text),
+    match bytes {
+        [b'0', rest @ ..] => Ok((&[b'0'], rest)),
+        _ => digits_of(bytes),
     }
 }
 
-#[tactic(auto, unfolding(crate::specs::JsonParts::exponent_of))]
-fn read_exponent(text: &[u8]) -> Option<Exponent<'_>>
-    ensures value { option_map (λ x. signed x.minus (number_of x.digits.now)) result ≡ exponent_of text.now }
-    ensures digits { IfSome result (λ x. AreDigits x.digits.now) }
+// The digits of a fraction: none, or one or more after a point.
+#[tactic(auto, unfolding(crate::specs::Front::fraction_at))]
+fn fraction_of(bytes: &[u8]) -> Result<(&[u8], &[u8]), usize>
+    ensures { result_map_both (λ x. (x.0.now, x.1.now)) (λ left. left) result ≡ fraction_at bytes.now }
 {
-    match text {
-        [] => Some(Exponent {
-            minus: false,
-            digits: &[],
-        }),
-        [b'e' | b'E', rest @ ..] => exponent_after_mark(rest),
-        _ => None,
+    match bytes {
+        [b'.', rest @ ..] => digits_of(rest),
+        _ => Ok((&[], bytes)),
     }
 }
 
-#[tactic(auto, unfolding(crate::specs::JsonParts::after_point))]
-fn read_after_point(text: &[u8]) -> Option<(&[u8], Exponent<'_>)>
-    ensures value { option_map (λ x. (x.0.now, signed x.1.minus (number_of x.1.digits.now))) result ≡ after_point text.now }
-    ensures digits { IfSome result (λ x. AreDigits x.1.digits.now) }
+// Whether a minus stands in front, and what comes after a sign or none.
+fn split_sign(bytes: &[u8]) -> (bool, &[u8])
+    ensures minus { result.0 ≡ (first bytes.now == 45) }
+    ensures rest { result.1.now ≡ after_sign bytes.now }
 {
-    let (fraction, rest) = split_digits(text);
-    if fraction.is_empty() {
-        return None;
+    match bytes {
+        [b'-', rest @ ..] => (true, rest),
+        [b'+', rest @ ..] => (false, rest),
+        _ => (false, bytes),
     }
-    Some((fraction, read_exponent(rest)?))
 }
 
-#[tactic(auto, unfolding(crate::specs::JsonParts::fraction_of))]
-fn read_fraction(text: &[u8]) -> Option<(&[u8], Exponent<'_>)>
-    ensures value { option_map (λ x. (x.0.now, signed x.1.minus (number_of x.1.digits.now))) result ≡ fraction_of text.now }
-    ensures digits { IfSome result (λ x. AreDigits x.1.digits.now) }
+// Digits behind a sign or none.
+#[tactic(auto, unfolding(crate::specs::Front::signed_at))]
+fn signed_digits(bytes: &[u8]) -> Result<(Exponent<'_>, &[u8]), usize>
+    ensures value { result_map_both (λ x. (exponent x.0, x.1.now)) (λ left. left) result ≡ signed_at bytes.now }
+    ensures digits { IfOk result (λ x. AreDigits x.0.digits.now) }
 {
-    match text {
-        [] => Some((
-            &[],
+    let (minus, digits) = split_sign(bytes);
+    let (digits, rest) = digits_of(digits)?;
+    Ok((Exponent { minus, digits }, rest))
+}
+
+// An exponent: nothing, or a mark before digits behind a sign or none.
+#[tactic(auto, unfolding(crate::specs::Front::exponent_at))]
+fn exponent_of(bytes: &[u8]) -> Result<(Exponent<'_>, &[u8]), usize>
+    ensures value { result_map_both (λ x. (exponent x.0, x.1.now)) (λ left. left) result ≡ exponent_at bytes.now }
+    ensures digits { IfOk result (λ x. AreDigits x.0.digits.now) }
+{
+    match bytes {
+        [b'e' | b'E', rest @ ..] => signed_digits(rest),
+        _ => Ok((
             Exponent {
                 minus: false,
                 digits: &[],
             },
+            bytes,
         )),
-        [b'.', rest @ ..] => read_after_point(rest),
-        [_, ..] => Some((&[], read_exponent(text)?)),
     }
 }
 
-fn is_whole_part(digits: &[u8]) -> bool
-    ensures { result ≡ is_whole digits.now }
+// Whether a minus stands in front, and what comes after it.
+fn split_minus(bytes: &[u8]) -> (bool, &[u8])
+    ensures minus { result.0 ≡ (first bytes.now == 45) }
+    ensures rest { result.1.now ≡ after_minus bytes.now }
 {
-    match digits {
-        [] => false,
-        [_] => true,
-        [first, ..] => *first != b'0',
+    match bytes {
+        [b'-', rest @ ..] => (true, rest),
+        _ => (false, bytes),
     }
-}
-
-#[tactic(auto, unfolding(crate::specs::JsonParts::after_minus))]
-fn read_after_minus(minus: bool, text: &[u8]) -> Option<JsonNumber<'_>>
-    ensures value { option_map parts result ≡ after_minus minus text.now }
-    ensures digits { IfSome result (λ x. AreDigits x.exponent.digits.now) }
-{
-    let (whole, rest) = split_digits(text);
-    if !is_whole_part(whole) {
-        return None;
-    }
-    let (fraction, exponent) = read_fraction(rest)?;
-    Some(JsonNumber {
-        minus,
-        whole,
-        fraction,
-        exponent,
-    })
 }
 
 impl JsonNumber<'_> {
-    /// The parts of the bytes; None exactly where they are no JSON number.
-    #[tactic(auto, unfolding(crate::specs::JsonParts::parts_of))]
-    pub(crate) fn read(text: &[u8]) -> Option<JsonNumber<'_>>
-        ensures value { option_map parts result ≡ parts_of text.now }
-        ensures digits { IfSome result (λ x. AreDigits x.exponent.digits.now) }
+    /// The parts of the number at the front, and the bytes after it.
+    #[tactic(auto, unfolding(crate::specs::Front::parts_at))]
+    pub(crate) fn at_front(bytes: &[u8]) -> Result<(JsonNumber<'_>, &[u8]), usize>
+        ensures value { result_map_both (λ x. (parts x.0, x.1.now)) (λ left. left) result ≡ parts_at bytes.now }
+        ensures digits { IfOk result (λ x. AreDigits x.0.exponent.digits.now) }
     {
-        match text {
-            [] => None,
-            [b'-', rest @ ..] => read_after_minus(true, rest),
-            [_, ..] => read_after_minus(false, text),
-        }
+        let (minus, rest) = split_minus(bytes);
+        let (whole, rest) = whole_of(rest)?;
+        let (fraction, rest) = fraction_of(rest)?;
+        let (exponent, rest) = exponent_of(rest)?;
+        let number = JsonNumber {
+            minus,
+            whole,
+            fraction,
+            exponent,
+        };
+        Ok((number, rest))
     }
 }

@@ -4,8 +4,8 @@ ghost use Rattle.std.specs.Option.{SomeIff};
 ghost use Rattle.std.specs.List.{list_all};
 ghost use Rattle.fixed_num.specs.Number.{limit, IsNumber, signed, rounded};
 ghost use Rattle.fixed_num.specs.JsonNumber.{number_of, AreDigits, value_of};
-ghost use Rattle.fixed_num.specs.JsonDigits.{number_after, rounds_away, rounded_at};
-ghost use Rattle.fixed_num.specs.JsonView.{parts};
+ghost use Rattle.fixed_num.specs.inner.Digits.{number_after, rounds_away, rounded_at};
+ghost use Rattle.fixed_num.specs.inner.View.{parts};
 
 use crate::json_number::JsonNumber;
 use crate::num::{LIMIT, Num};

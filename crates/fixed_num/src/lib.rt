@@ -3,6 +3,7 @@
 #![tactic(auto)]
 
 mod decimal;
+mod decimal_text;
 mod json_number;
 mod json_value;
 mod laws;
@@ -12,6 +13,7 @@ mod reading;
 #[cfg(test)]
 mod tests;
 
+pub use decimal_text::DecimalText;
 pub use laws::{laws_of_decimals, laws_of_numbers};
 pub use num::Num;
 pub use reading::NumFault;

@@ -251,6 +251,19 @@ const NO_NUMBERS: [&str; 27] = [
     "1.5e", "e5", "00", "1.5.5", "1e5e5", "-.5", "1,5", "\u{661}", "1e 5", "-e1", "0.", "1_0",
 ];
 
+// The number at the front, how many bytes are left, and whether it is a number.
+const FRONTS: [(&str, (Option<i128>, usize, bool)); 9] = [
+    ("-1.5e1,2", (Some(-15000000), 2, true)),
+    ("01", (Some(0), 1, true)),
+    ("1e16]", (None, 1, true)),
+    ("12.50.5", (Some(12500000), 2, true)),
+    ("1.x", (None, 1, false)),
+    ("1e+x", (None, 1, false)),
+    ("-a", (None, 1, false)),
+    ("a", (None, 1, false)),
+    ("", (None, 0, false)),
+];
+
 const LONG: [(&str, u8, &str, Result<i128, NumFault>); 10] = [
     ("0.0000004", b'9', "", Ok(0)),
     ("0.000000", b'0', "5", Ok(0)),
@@ -315,6 +328,14 @@ fn read(text: &[u8]) -> Result<i128, NumFault> {
     Ok(Num::read_decimal(text)?.millionths())
 }
 
+fn front(text: &str) -> (Option<i128>, usize, bool) {
+    match Num::read_front(text.as_bytes()) {
+        Ok((Some(number), rest)) => (Some(number.millionths()), rest.len(), true),
+        Ok((None, rest)) => (None, rest.len(), true),
+        Err(left) => (None, left, false),
+    }
+}
+
 #[test]
 fn operations_round_once(rt: HostRuntime) {
     for (operation, a, b, want) in &OPERATIONS {
@@ -347,6 +368,13 @@ fn decimals_are_read(rt: HostRuntime) {
 }
 
 #[test]
+fn numbers_are_found_at_the_front(rt: HostRuntime) {
+    for (text, want) in &FRONTS {
+        assert_eq!(rt; front(text), *want, "{text}");
+    }
+}
+
+#[test]
 fn long_decimals_are_read(rt: HostRuntime) -> Result<(), Fail> {
     for (front, byte, last, want) in &LONG {
         let mut text = front.as_bytes().to_vec(rt.alloc())?;
@@ -364,6 +392,7 @@ fn decimals_are_written(rt: HostRuntime) {
         let number = Num::of_millionths(*m).expect(&rt, "in range");
         let len = number.write_decimal(&mut buf);
         assert_eq!(rt; &buf[..len], want.as_bytes(), "{m}");
+        assert_eq!(rt; number.decimal().as_str(), *want);
     }
 }
 

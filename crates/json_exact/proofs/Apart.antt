@@ -9,7 +9,7 @@ use Rattle.std.proofs.lemmas.List.{drop_all}
 use Rattle.std.proofs.lemmas.List.Quantifiers.{all_pairs_push}
 use Rattle.std.proofs.lemmas.Slice.Eq.{bytes_eq-Decides}
 use Rattle.json_exact.specs.declared.json.Member.{Member}
-use Rattle.json_exact.specs.Reader.{names_of}
+use Rattle.json_exact.specs.inner.Reader.{names_of}
 
 -- ---- names in two places
 

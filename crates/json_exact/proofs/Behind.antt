@@ -12,10 +12,11 @@ use Rattle.json_exact.specs.declared.json.Json.{Json}
 use Rattle.json_exact.specs.declared.json.Json.TheVariants as json
 use Rattle.json_exact.specs.declared.json.Member.{Member}
 use Rattle.json_exact.specs.Reading.{is_white}
-use Rattle.json_exact.specs.Reader.{◌>>=◌, Read, first, stop, skip_white, padded_at, word_at, quoted_at, leading_digits, after_digits, digits_at, whole_at, fraction_at, is_sign, is_mark, after_sign, exponent_at, after_minus, numeral_at, number_tree, number_at, run_at, sequence_at, names_of, member_at, list_at, object_at, nested_at, flat_at, value_from, value_at, text_at}
-use Rattle.json_exact.proofs.Steps.{done, begins, chosen}
+use Rattle.fixed_num.specs.Front.{◌>>=◌, Read, first, stop, leading_digits, after_digits, digits_at, whole_at, fraction_at, is_sign, is_mark, signed_at, exponent_at, after_minus, parts_at}
+use Rattle.json_exact.specs.inner.Reader.{skip_white, padded_at, word_at, quoted_at, number_tree, number_at, run_at, sequence_at, names_of, member_at, list_at, object_at, nested_at, flat_at, value_from, value_at, text_at}
+use Rattle.fixed_num.proofs.Steps.{done, begins, chosen}
 use Rattle.json_exact.proofs.Parts.{skip_white-append, skip_white-stop}
-use Rattle.json_exact.proofs.Numerals.{digits_list, digits_sound}
+use Rattle.fixed_num.proofs.Numerals.{digits_list, digits_sound}
 use Rattle.json_exact.proofs.Sound.{white_sound, some_null, some_true, some_false}
 use Rattle.json_exact.proofs.Causal.{outcome, Causal, stops, finds, binds, chooses, takes, same_reader, word}
 use Rattle.json_exact.proofs.Reach.{LooksFueled, unfueled, quoted}
@@ -74,19 +75,20 @@ signed_is minus = binds digits_at (λ ds rest. Ok (signed minus (number_of ds), 
 no_sign : (b : ℕ) → is_sign b ≡ false → eqb b 45 ≡ false
 no_sign b e = grind (arith, nat_tests)
 
-by_sign : (bytes : List ℕ) → cond (is_sign (first bytes)) (signed_then (eqb (first bytes) 45) (drop 1 bytes)) (signed_then false bytes) ≡ signed_then (eqb (first bytes) 45) (after_sign bytes)
+by_sign : (bytes : List ℕ) → cond (is_sign (first bytes)) (signed_then (eqb (first bytes) 45) (drop 1 bytes)) (signed_then false bytes) ≡ signed_at bytes
+unfolding signed_at
 by_sign bytes = elim (cases_Bool (is_sign (first bytes))) [
   | inl e ↦ rw e refl
   | inr e ↦ let positive : eqb (first bytes) 45 ≡ false = no_sign (first bytes) e in rw (e, positive) refl
 ]
 
-after_mark : Causal (λ bytes. signed_then (eqb (first bytes) 45) (after_sign bytes))
-after_mark = same_reader (λ bytes. cond (is_sign (first bytes)) (signed_then (eqb (first bytes) 45) (drop 1 bytes)) (signed_then false bytes)) (λ bytes. signed_then (eqb (first bytes) 45) (after_sign bytes)) by_sign
+signed_digits : Causal signed_at
+signed_digits = same_reader (λ bytes. cond (is_sign (first bytes)) (signed_then (eqb (first bytes) 45) (drop 1 bytes)) (signed_then false bytes)) signed_at by_sign
     (takes is_sign (λ b rest. signed_then (eqb b 45) rest) (signed_then false) refl (λ b. signed_is (eqb b 45)) (signed_is false))
 
 exponent : Causal exponent_at
 unfolding exponent_at
-exponent = takes is_mark (λ b rest. signed_then (eqb (first rest) 45) (after_sign rest)) (λ bytes. Ok (pos 0, bytes)) refl (λ b. after_mark) (finds (pos 0))
+exponent = takes is_mark (λ b rest. signed_at rest) (λ bytes. Ok (pos 0, bytes)) refl (λ b. signed_digits) (finds (pos 0))
 
 abbrev body : Bool → List ℕ → Read Parts
 body minus bytes = whole_at bytes >>= λ w. fraction_at w.1 >>= λ f. exponent_at f.1 >>= λ e. Ok (record { minus = minus; whole = w.0; fraction = f.0; exponent = e.0 }, e.1)
@@ -96,8 +98,8 @@ body_is minus = binds whole_at (λ w rest. fraction_at rest >>= λ f. exponent_a
     (λ w. binds fraction_at (λ f rest. exponent_at rest >>= λ e. Ok (record { minus = minus; whole = w; fraction = f; exponent = e.0 }, e.1)) fraction
     (λ f. binds exponent_at (λ e rest. Ok (record { minus = minus; whole = w; fraction = f; exponent = e }, rest)) exponent (λ e. finds (record { minus = minus; whole = w; fraction = f; exponent = e }))))
 
-by_minus : (bytes : List ℕ) → cond (eqb (first bytes) 45) (body true (drop 1 bytes)) (body false bytes) ≡ numeral_at bytes
-unfolding numeral_at
+by_minus : (bytes : List ℕ) → cond (eqb (first bytes) 45) (body true (drop 1 bytes)) (body false bytes) ≡ parts_at bytes
+unfolding parts_at
 by_minus bytes = elim (cases_Bool (eqb (first bytes) 45)) [
   | inl e ↦ rw e refl
   | inr e ↦ rw e refl
@@ -105,7 +107,7 @@ by_minus bytes = elim (cases_Bool (eqb (first bytes) 45)) [
 
 number : Causal number_at
 unfolding number_at
-number = binds numeral_at (λ p rest. Ok (number_tree (value_of p), rest)) (same_reader (λ bytes. cond (eqb (first bytes) 45) (body true (drop 1 bytes)) (body false bytes)) numeral_at by_minus (takes (λ b. eqb b 45) (λ b rest. body true rest) (body false) refl (λ b. body_is true) (body_is false))) (λ p. finds (number_tree (value_of p)))
+number = binds parts_at (λ p rest. Ok (number_tree (value_of p), rest)) (same_reader (λ bytes. cond (eqb (first bytes) 45) (body true (drop 1 bytes)) (body false bytes)) parts_at by_minus (takes (λ b. eqb b 45) (λ b rest. body true rest) (body false) refl (λ b. body_is true) (body_is false))) (λ p. finds (number_tree (value_of p)))
 
 -- ---- white space
 
@@ -302,7 +304,7 @@ unfolding whole_at digits_at
 whole_refuses bytes e = rw e refl
 
 number_refuses : (bytes : List ℕ) → first bytes ≡ 0 → number_at bytes ≡ Err (length bytes)
-unfolding number_at numeral_at
+unfolding number_at parts_at
 number_refuses bytes e =
     let positive : eqb (first bytes) 45 ≡ false = rw e refl in
     let unsigned : after_minus bytes ≡ bytes = cond-false (eqb (first bytes) 45) (drop 1 bytes) bytes positive in

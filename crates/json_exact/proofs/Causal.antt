@@ -6,7 +6,8 @@ use Rattle.std.specs.Char.{is_ascii_hexdigit}
 use Rattle.std.proofs.lemmas.Bool.{cases_Bool, cond-true, cond-false, ne_eqb, and_left, lt-leb}
 use Rattle.std.proofs.lemmas.Bool.Decides.{nat_tests}
 use Rattle.json_exact.specs.Reading.{short_escape, hex_value, of_pair}
-use Rattle.json_exact.specs.Reader.{◌>>=◌, Read, first, stop, after_word, hex_at, hex_pair_at, low_at, after_high_at, long_at, escape_of, escape_at, tail_at, three_at, four_at, plain_at, char_at}
+use Rattle.fixed_num.specs.Front.{◌>>=◌, Read, first, stop}
+use Rattle.json_exact.specs.inner.Reader.{after_word, hex_at, hex_pair_at, low_at, after_high_at, long_at, short_escape_at, escape_at, tail_at, three_at, four_at, plain_at, char_at}
 
 -- what was found, or a fault, before the bytes that are left
 abbrev pub outcome : {A : Type 0} → Option A → List ℕ → Read A
@@ -179,19 +180,19 @@ is_short : Option ℕ → Bool
 is_short None = false
 is_short (Some c) = true
 
-short_is : (o : Option ℕ) (bytes : List ℕ) → cond (is_short o) (Ok (unwrap_or o 0, drop 1 bytes)) (stop bytes) ≡ escape_of o bytes
+short_is : (o : Option ℕ) (bytes : List ℕ) → cond (is_short o) (Ok (unwrap_or o 0, drop 1 bytes)) (stop bytes) ≡ short_escape_at o bytes
 unfolding is_short
 short_is None bytes = refl
 short_is (Some c) bytes = refl
 
-short : Causal (λ bytes. escape_of (short_escape (first bytes)) bytes)
+short : Causal (λ bytes. short_escape_at (short_escape (first bytes)) bytes)
 unfolding is_short
-short = same_reader (λ bytes. cond (is_short (short_escape (first bytes))) (Ok (unwrap_or (short_escape (first bytes)) 0, drop 1 bytes)) (stop bytes)) (λ bytes. escape_of (short_escape (first bytes)) bytes) (λ bytes. short_is (short_escape (first bytes)) bytes)
+short = same_reader (λ bytes. cond (is_short (short_escape (first bytes))) (Ok (unwrap_or (short_escape (first bytes)) 0, drop 1 bytes)) (stop bytes)) (λ bytes. short_escape_at (short_escape (first bytes)) bytes) (λ bytes. short_is (short_escape (first bytes)) bytes)
     (takes (λ b. is_short (short_escape b)) (λ b rest. Ok (unwrap_or (short_escape b) 0, rest)) (λ bytes. stop bytes) refl (λ b. finds (unwrap_or (short_escape b) 0)) stops)
 
 escape : Causal escape_at
 unfolding escape_at
-escape = takes (λ b. eqb b 117) (λ b rest. long_at rest) (λ bytes. escape_of (short_escape (first bytes)) bytes) refl (λ b. long) short
+escape = takes (λ b. eqb b 117) (λ b rest. long_at rest) (λ bytes. short_escape_at (short_escape (first bytes)) bytes) refl (λ b. long) short
 
 low_no : (least most : ℕ) → 0 < least → (leb least 0 && leb 0 most) ≡ false
 low_no least most some = and_left _ _ (lt-leb least 0 some)

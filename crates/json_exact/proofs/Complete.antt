@@ -15,10 +15,11 @@ use Rattle.json_exact.specs.declared.json.Json.{Json}
 use Rattle.json_exact.specs.declared.json.Json.TheVariants as json
 use Rattle.json_exact.specs.declared.json.Member.{Member}
 use Rattle.json_exact.specs.Reading.{is_white, IsWhite, IsQuoted, Spells, SpellsPadded, SpellsItems, SpellsMember, SpellsMembers, null, yes, no, number, huge, text, list, object, padded, no_item, last_item, more_items, member, no_member, last_member, more_members, depth, Reads}
-use Rattle.json_exact.specs.Reader.{Read, first, skip_white, padded_at, stop, after_word, quoted_at, number_at, numeral_at, whole_at, digits_at, number_tree, run_at, sequence_at, list_at, object_at, member_at, nested_at, flat_at, value_from, value_at, text_at, names_of}
+use Rattle.fixed_num.specs.Front.{Read, first, stop, parts_at, whole_at, digits_at, ends_number}
+use Rattle.json_exact.specs.inner.Reader.{skip_white, padded_at, after_word, quoted_at, number_at, number_tree, run_at, sequence_at, list_at, object_at, member_at, nested_at, flat_at, value_from, value_at, text_at, names_of}
 use Rattle.json_exact.proofs.Depth.{deepest, deepest_value, depth-List, depth-Object}
-use Rattle.json_exact.proofs.Parts.{Stops, ends_number, skip_white-again, ends-append}
-use Rattle.json_exact.proofs.Numerals.{numeral_again, numeral-first, in_range_is, out_of_range_is}
+use Rattle.json_exact.proofs.Parts.{Stops, skip_white-again, ends-append}
+use Rattle.fixed_num.proofs.Numerals.{parts_again, parts-first, in_range_is, out_of_range_is}
 use Rattle.json_exact.proofs.Quotes.{quoted_again}
 use Rattle.json_exact.proofs.Runs.{padded_again, run_last, run_next, IsElement, sequence_again}
 use Rattle.json_exact.proofs.Apart.{Differ, fresh}
@@ -43,8 +44,8 @@ pub starts : {tree : Json} {word : List ℕ} → Spells tree word → (rest : Li
 starts null rest = refl
 starts yes rest = refl
 starts no rest = refl
-starts (number m word n k) rest = number-not_white (word ++ rest) (numeral-first word rest n.0 n.1)
-starts (huge m word n k) rest = number-not_white (word ++ rest) (numeral-first word rest n.0 n.1)
+starts (number m word n k) rest = number-not_white (word ++ rest) (parts-first word rest n.0 n.1)
+starts (huge m word n k) rest = number-not_white (word ++ rest) (parts-first word rest n.0 n.1)
 starts (text t word q) rest = quoted-not_white t word rest q
 starts (list items inside r) rest = refl
 starts (object members inside d r) rest = refl
@@ -87,7 +88,7 @@ number_read : (word rest : List ℕ) (m : ℤ) (tree : Json) → numbers.Reads w
 unfolding number_at
 number_read word rest m tree r t e =
     let value : number_tree (value_of r.0) ≡ tree = ap number_tree (sym r.2) ∙ t in
-    rw (numeral_again word rest r.0 r.1 e, value) refl
+    rw (parts_again word rest r.0 r.1 e, value) refl
 
 number_again : (word rest : List ℕ) (m : ℤ) → numbers.Reads word m → IsNumber m → ends_number (first rest) ≡ true → number_at (word ++ rest) ≡ Ok (json.Number m, rest)
 number_again word rest m r k e = number_read word rest m (json.Number m) r (cond-true _ _ _ (in_range_is m k)) e
@@ -103,7 +104,7 @@ at_level zero bytes r h = h (λ rest. stop rest)
 at_level (suc level) bytes r h = h (nested_at (value_at level))
 
 no_value : (nested : List ℕ → Read Json) (b : ℕ) (rest : List ℕ) → b ≡ 93 → value_from nested (b ∷ rest) ≡ Err (length (b ∷ rest))
-unfolding value_from flat_at number_at numeral_at whole_at digits_at
+unfolding value_from flat_at number_at parts_at whole_at digits_at
 no_value nested b rest e = rw e refl
 
 value-refuses : (level : ℕ) (bytes : List ℕ) → first bytes ≡ 93 → value_at level bytes ≡ Err (length bytes)
@@ -179,8 +180,8 @@ mutual
   value_again null level rest d e = at_level level (codes "null" ++ rest) (Ok (json.Null, rest)) (λ nested. null_again nested rest)
   value_again yes level rest d e = at_level level (codes "true" ++ rest) (Ok (json.Flag true, rest)) (λ nested. true_again nested rest)
   value_again no level rest d e = at_level level (codes "false" ++ rest) (Ok (json.Flag false, rest)) (λ nested. false_again nested rest)
-  value_again (number m word n k) level rest d e = at_level level (word ++ rest) (Ok (json.Number m, rest)) (λ nested. value_number nested (word ++ rest) (numeral-first word rest n.0 n.1) ∙ number_again word rest m n k e)
-  value_again (huge m word n k) level rest d e = at_level level (word ++ rest) (Ok (json.Huge, rest)) (λ nested. value_number nested (word ++ rest) (numeral-first word rest n.0 n.1) ∙ huge_again word rest m n k e)
+  value_again (number m word n k) level rest d e = at_level level (word ++ rest) (Ok (json.Number m, rest)) (λ nested. value_number nested (word ++ rest) (parts-first word rest n.0 n.1) ∙ number_again word rest m n k e)
+  value_again (huge m word n k) level rest d e = at_level level (word ++ rest) (Ok (json.Huge, rest)) (λ nested. value_number nested (word ++ rest) (parts-first word rest n.0 n.1) ∙ huge_again word rest m n k e)
   value_again (text t word q) level rest d e = at_level level (word ++ rest) (Ok (json.Text t, rest)) (λ nested. text_again nested t word rest q)
   value_again (list items inside r) level rest d e = list_step items inside rest level (rw (← depth-List items) d) (items-kind r) (λ l deep. items_again r l [] rest deep)
   value_again (object members inside apart r) level rest d e = object_step members inside rest level (rw (← depth-Object members) d) (members-kind r) (λ l deep. members_again r l [] rest deep apart)

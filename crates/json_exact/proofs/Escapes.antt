@@ -5,8 +5,9 @@ use Rattle.std.specs.Char.{is_ascii_hexdigit, IsScalar, encode_utf8}
 use Rattle.std.proofs.lemmas.Bool.{cases_Bool, cond-true, cond-false, and_parts, and_from, eqb-true, eqb-false, or_parts, cases_lt, false≢true, lt-ltb, le-ltb, le-leb, leb-true, ltb-true, ltb-false}
 use Rattle.std.proofs.lemmas.Bool.Decides.{nat_tests}
 use Rattle.json_exact.specs.Reading.{short_escape, hex_value, IsUnit, unit, IsHigh, IsLow, of_pair, IsChar, itself, short, long, pair}
-use Rattle.json_exact.specs.Reader.{◌>>=◌, Read, first, stop, after_word, hex_at, hex_pair_at, low_at, after_high_at, long_at, escape_of, escape_at, tail_at, three_at, four_at, plain_at, char_at}
-use Rattle.json_exact.proofs.Steps.{bind_ok, chosen, guarded, unless, ok_is, begins}
+use Rattle.fixed_num.specs.Front.{◌>>=◌, Read, first, stop}
+use Rattle.json_exact.specs.inner.Reader.{after_word, hex_at, hex_pair_at, low_at, after_high_at, long_at, short_escape_at, escape_at, tail_at, three_at, four_at, plain_at, char_at}
+use Rattle.fixed_num.proofs.Steps.{bind_ok, chosen, guarded, unless, ok_is, begins}
 use Rattle.json_exact.proofs.Letters.{encode_1, encode_2, encode_3, encode_4, hex_small}
 
 -- ---- escapes
@@ -380,7 +381,7 @@ letter_some : (letter c : ℕ) → short_escape letter ≡ Some c → 0 < letter
 letter_some zero c e = absurd cc
 letter_some (suc n) c e = omega arith
 
-short_sound : (o : Option ℕ) (bytes : List ℕ) (x : ℕ × List ℕ) → short_escape (first bytes) ≡ o → escape_of o bytes ≡ Ok x → CharIs (92 ∷ bytes) x
+short_sound : (o : Option ℕ) (bytes : List ℕ) (x : ℕ × List ℕ) → short_escape (first bytes) ≡ o → short_escape_at o bytes ≡ Ok x → CharIs (92 ∷ bytes) x
 short_sound None bytes x same e = absurd cc
 short_sound (Some c) bytes x same e =
     let is = ok_is (c, drop 1 bytes) x e in
@@ -388,7 +389,7 @@ short_sound (Some c) bytes x same e =
 
 escape_sound : (bytes : List ℕ) (x : ℕ × List ℕ) → escape_at bytes ≡ Ok x → CharIs (92 ∷ bytes) x
 unfolding escape_at
-escape_sound bytes x e = elim (chosen (eqb (first bytes) 117) (long_at (drop 1 bytes)) (escape_of (short_escape (first bytes)) bytes) (Ok x) e) [
+escape_sound bytes x e = elim (chosen (eqb (first bytes) 117) (long_at (drop 1 bytes)) (short_escape_at (short_escape (first bytes)) bytes) (Ok x) e) [
   | inl c ↦
       let l = long_sound (drop 1 bytes) x c.1 in
       char_from (92 ∷ bytes) (92 ∷ 117 ∷ l.word) x (ap (λ (w : List ℕ). 92 ∷ w) (begins bytes 117 (omega arith) (eqb-true _ _ c.0) ∙ ap (λ (w : List ℕ). 117 ∷ w) l.parts)) l.is

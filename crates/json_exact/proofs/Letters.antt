@@ -6,8 +6,9 @@ use Rattle.std.proofs.lemmas.Bool.{cases_Bool, cond-true, cond-false, and_from, 
 use Rattle.std.proofs.lemmas.Bool.Decides.{nat_tests}
 use lib.Utf8.{scalar_cases}
 use Rattle.json_exact.specs.Reading.{short_escape, hex_value, IsUnit, unit, IsHigh, IsLow, of_pair, IsChar, itself, short, long, pair}
-use Rattle.json_exact.specs.Reader.{Read, first, after_word, hex_at, hex_pair_at, low_at, after_high_at, long_at, escape_of, escape_at, tail_at, three_at, four_at, plain_at, char_at}
-use Rattle.json_exact.proofs.Steps.{done}
+use Rattle.fixed_num.specs.Front.{Read, first}
+use Rattle.json_exact.specs.inner.Reader.{after_word, hex_at, hex_pair_at, low_at, after_high_at, long_at, short_escape_at, escape_at, tail_at, three_at, four_at, plain_at, char_at}
+use Rattle.fixed_num.proofs.Steps.{done}
 
 -- ---- escapes that are spelled are read
 
@@ -216,7 +217,7 @@ escape_short : (letter c : ℕ) (rest : List ℕ) → short_escape letter ≡ So
 unfolding escape_at
 escape_short letter c rest e =
     let other : eqb letter 117 ≡ false = ne_eqb letter 117 (no_short letter c e) in
-    cond-false (eqb letter 117) (long_at rest) (escape_of (short_escape letter) (letter ∷ rest)) other ∙ ap (λ (o : Option ℕ). escape_of o (letter ∷ rest)) e
+    cond-false (eqb letter 117) (long_at rest) (short_escape_at (short_escape letter) (letter ∷ rest)) other ∙ ap (λ (o : Option ℕ). short_escape_at o (letter ∷ rest)) e
 
 slash : (bytes : List ℕ) → first (92 ∷ bytes) ≢ 34
 slash bytes same = absurd cc

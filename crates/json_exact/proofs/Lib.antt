@@ -2,8 +2,7 @@ pub mod Depth
 pub mod Front
 pub mod Apart
 pub mod Parts
-pub mod Steps
-pub mod Numerals
+pub mod Trees
 pub mod Letters
 pub mod Escapes
 pub mod Quotes
@@ -19,6 +18,5 @@ pub mod Opens
 pub mod OpenTexts
 pub mod OpenValues
 pub mod Paths
-pub mod Spelling
 pub mod Written
 pub mod Rewritten

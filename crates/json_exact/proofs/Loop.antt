@@ -2,7 +2,8 @@
 use Rattle.std.proofs.Common.{◌≡◌, ℕ, zero, suc, ◌+◌, ◌-◌, ◌<◌, ◌≤◌, true, false, eqb, List, [], ◌∷◌, ◌++◌, length, drop, Option, Some, None, Ok, Err, refl, sym, ◌∙◌, arith, inl, inr, ◌⊎◌, ◌||◌}
 use Rattle.text_kit.specs.Answer.{IsFault}
 use Rattle.std.proofs.lemmas.Bool.{cond-true, cond-false, ne_eqb, eq-eqb, or_from}
-use Rattle.json_exact.specs.Reader.{Read, first, skip_white, run_at, sequence_at, list_at, object_at, nested_at, flat_at, value_from, value_at}
+use Rattle.fixed_num.specs.Front.{Read, first}
+use Rattle.json_exact.specs.inner.Reader.{skip_white, run_at, sequence_at, list_at, object_at, nested_at, flat_at, value_from, value_at}
 
 module _ {A : Type 0} (close : ℕ) (element : List A → List ℕ → Read A) (out : List A) (count i : ℕ) (rest : List ℕ) (total : Read (List A)) where
   one : i < count → run_at close element (count - i) out rest ≡ run_at close element (suc (count - (i + 1))) out rest

@@ -10,8 +10,9 @@ use Rattle.std.proofs.lemmas.Slice.Eq.{bytes_eq-Decides}
 use Rattle.std.proofs.lemmas.Str.{length-le-encodes}
 use Rattle.std.proofs.Math.Nat.{le-max_left, le-max_right}
 use Rattle.json_exact.specs.Reading.{short_escape, IsChar, itself, short, AreChars, no_char, more_chars, IsQuoted}
-use Rattle.json_exact.specs.Reader.{◌>>=◌, Read, first, stop, long_at, escape_of, escape_at, tail_at, three_at, four_at, plain_at, char_at, chars_at, quoted_at}
-use Rattle.json_exact.proofs.Steps.{chosen, begins}
+use Rattle.fixed_num.specs.Front.{◌>>=◌, Read, first, stop}
+use Rattle.json_exact.specs.inner.Reader.{long_at, short_escape_at, escape_at, tail_at, three_at, four_at, plain_at, char_at, chars_at, quoted_at}
+use Rattle.fixed_num.proofs.Steps.{chosen, begins}
 use Rattle.json_exact.proofs.Escapes.{Encodes, encodes_2, encodes_3, encodes_4, tail_sound, low_some, char_sound}
 use Rattle.json_exact.proofs.Quotes.{chars_sound, Quoted}
 use Rattle.json_exact.proofs.Opens.{Opens, at_once, behind_byte, mapped, failed, bind_err, err_is, refused, no_err, behind_word, at_bytes, long_opens}
@@ -122,13 +123,13 @@ IsEscape word = IsSomeChar (92 ∷ word)
 a_line : (bytes : List ℕ) (k : ℕ) → length bytes ≡ k → Opens IsEscape bytes k
 a_line bytes k e = at_once IsEscape bytes k (110 ∷ []) e (10, short 110 10 refl)
 
-short_opens : (o : Option ℕ) (bytes : List ℕ) (k : ℕ) → escape_of o bytes ≡ Err k → Opens IsEscape bytes k
+short_opens : (o : Option ℕ) (bytes : List ℕ) (k : ℕ) → short_escape_at o bytes ≡ Err k → Opens IsEscape bytes k
 short_opens None bytes k e = a_line bytes k (err_is (length bytes) k e)
 short_opens (Some c) bytes k e = absurd (no_err (c, drop 1 bytes) k e)
 
 escape_opens : (bytes : List ℕ) (k : ℕ) → escape_at bytes ≡ Err k → Opens IsEscape bytes k
 unfolding escape_at
-escape_opens bytes k e = elim (chosen (eqb (first bytes) 117) (long_at (drop 1 bytes)) (escape_of (short_escape (first bytes)) bytes) (failed k) e) [
+escape_opens bytes k e = elim (chosen (eqb (first bytes) 117) (long_at (drop 1 bytes)) (short_escape_at (short_escape (first bytes)) bytes) (failed k) e) [
   | inl c ↦ at_bytes IsEscape bytes (117 ∷ drop 1 bytes) k (begins bytes 117 (omega arith) (eqb-true _ _ c.0)) (behind_byte IsEscape 117 (drop 1 bytes) k (long_opens (drop 1 bytes) k c.1))
   | inr c ↦ short_opens (short_escape (first bytes)) bytes k c.1
 ]

@@ -13,10 +13,11 @@ use Rattle.json_exact.specs.declared.json.Json.{Json}
 use Rattle.json_exact.specs.declared.json.Json.TheVariants as json
 use Rattle.json_exact.specs.declared.json.Member.{Member}
 use Rattle.json_exact.specs.Reading.{IsWhite, Spells, SpellsPadded, SpellsMember, null, yes, no, text, list, object, padded, member, Reads}
-use Rattle.json_exact.specs.Reader.{◌>>=◌, Read, first, stop, skip_white, padded_at, after_word, word_at, quoted_at, leading_digits, after_digits, digits_at, whole_at, fraction_at, is_mark, after_sign, exponent_at, after_minus, numeral_at, number_tree, number_at, run_at, sequence_at, names_of, member_at, list_at, object_at, nested_at, flat_at, value_from, value_at, text_at}
-use Rattle.json_exact.proofs.Steps.{chosen, begins}
+use Rattle.fixed_num.specs.Front.{◌>>=◌, Read, first, stop, leading_digits, after_digits, digits_at, whole_at, fraction_at, is_mark, after_sign, signed_at, exponent_at, after_minus, parts_at}
+use Rattle.json_exact.specs.inner.Reader.{skip_white, padded_at, after_word, word_at, quoted_at, number_tree, number_at, run_at, sequence_at, names_of, member_at, list_at, object_at, nested_at, flat_at, value_from, value_at, text_at}
+use Rattle.fixed_num.proofs.Steps.{chosen, begins}
 use Rattle.json_exact.proofs.Depth.{depth-List, depth-Object}
-use Rattle.json_exact.proofs.Numerals.{whole_sound, fraction_sound, sign_sound, mark_sound, mark_some, minus_sound}
+use Rattle.fixed_num.proofs.Numerals.{whole_sound, fraction_sound, sign_sound, mark_sound, mark_some, minus_sound}
 use Rattle.json_exact.proofs.Quotes.{Quoted, quoted_sound}
 use Rattle.json_exact.proofs.Runs.{IsElement, run_skips}
 use Rattle.json_exact.proofs.Apart.{apart_pushed}
@@ -70,7 +71,7 @@ fraction_opens P bytes k is e = elim (chosen (eqb (first bytes) 46) (digits_at (
 ]
 
 exponent_opens : (P : List ℕ → Type 0) (bytes : List ℕ) (k : ℕ) → ((etext : List ℕ) (e : ℤ) → IsExponent etext e → P etext) → exponent_at bytes ≡ Err k → Opens P bytes k
-unfolding exponent_at
+unfolding exponent_at signed_at
 exponent_opens P bytes k is e =
     let digits = digits_at (after_sign (drop 1 bytes)) in
     let give : List ℕ × List ℕ → Read ℤ = λ x. Ok (signed (eqb (first (drop 1 bytes)) 45) (number_of x.0), x.1) in
@@ -89,8 +90,8 @@ exponent_opens P bytes k is e =
       | inr c ↦ absurd (no_err (pos 0, bytes) k c.1)
     ]
 
-numeral_opens : (bytes : List ℕ) (k : ℕ) → numeral_at bytes ≡ Err k → Opens IsNumeral bytes k
-unfolding numeral_at
+numeral_opens : (bytes : List ℕ) (k : ℕ) → parts_at bytes ≡ Err k → Opens IsNumeral bytes k
+unfolding parts_at
 numeral_opens bytes k e =
     let minus = eqb (first bytes) 45 in
     let rest = after_minus bytes in
@@ -133,7 +134,7 @@ word_value level word tree bytes k some v e = elim (bind_err (after_word word by
 
 number_opens : (level : ℕ) (bytes : List ℕ) (k : ℕ) → number_at bytes ≡ Err k → Opens (SomeValue level) bytes k
 unfolding number_at
-number_opens level bytes k e = elim (bind_err (numeral_at bytes) (λ x. Ok (number_tree (value_of x.0), x.1)) k e) [
+number_opens level bytes k e = elim (bind_err (parts_at bytes) (λ x. Ok (number_tree (value_of x.0), x.1)) k e) [
   | inl f ↦ renamed IsNumeral (SomeValue level) bytes k (numeral_opens bytes k f) (λ w s. (number_tree (value_of s.0), number_value level s.0 w s.1))
   | inr x ↦ absurd (no_err (number_tree (value_of x.0.0), x.0.1) k x.2)
 ]

@@ -5,8 +5,9 @@ use Rattle.std.specs.List.{AllByRecursion}
 use Rattle.std.specs.Char.{is_ascii_hexdigit}
 use Rattle.std.proofs.lemmas.Bool.{cases_Bool, and_parts, eqb-true, leb-true, ltb-true}
 use Rattle.json_exact.specs.Reading.{hex_value, IsUnit, unit, IsHigh, IsLow, of_pair, IsChar, long, pair}
-use Rattle.json_exact.specs.Reader.{◌>>=◌, Read, first, stop, after_word, hex_at, hex_pair_at, low_at, after_high_at, long_at}
-use Rattle.json_exact.proofs.Steps.{chosen, done, begins}
+use Rattle.fixed_num.specs.Front.{◌>>=◌, Read, first, stop}
+use Rattle.json_exact.specs.inner.Reader.{after_word, hex_at, hex_pair_at, low_at, after_high_at, long_at}
+use Rattle.fixed_num.proofs.Steps.{chosen, done, begins}
 use Rattle.json_exact.proofs.Letters.{hex_small}
 use Rattle.json_exact.proofs.Escapes.{hex_sound, scalar_from, hex_pair_sound, no_surrogate, word_sound}
 

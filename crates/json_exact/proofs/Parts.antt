@@ -1,14 +1,10 @@
 -- White space, texts, numbers and words: what is spelled is read, whatever may follow.
-use Rattle.std.proofs.Common.{◌≡◌, ℕ, Bool, true, false, eqb, not, ◌&&◌, List, [], ◌∷◌, ◌++◌, refl, ◌∙◌, arith, inl, inr}
-use Rattle.std.specs.Char.{is_ascii_digit}
+use Rattle.std.proofs.Common.{◌≡◌, ℕ, true, false, List, [], ◌∷◌, ◌++◌, refl, ◌∙◌, arith, inl, inr}
 use Rattle.std.proofs.lemmas.Bool.{cases_Bool, cond-true, cond-false}
 use Rattle.std.proofs.lemmas.Bool.Decides.{nat_tests}
 use Rattle.json_exact.specs.Reading.{is_white, IsWhite}
-use Rattle.json_exact.specs.Reader.{first, skip_white, is_mark}
-
--- what may stand after a number: no digit, no point and no mark of an exponent
-abbrev pub ends_number : ℕ → Bool
-ends_number b = not (is_ascii_digit b) && not (eqb b 46) && not (is_mark b)
+use Rattle.fixed_num.specs.Front.{first, ends_number}
+use Rattle.json_exact.specs.inner.Reader.{skip_white}
 
 -- what may stand after a value
 pub record Stops (rest : List ℕ) : Type 0 where

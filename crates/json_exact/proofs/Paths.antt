@@ -15,11 +15,10 @@ use Rattle.json_exact.specs.declared.json.Json.{Json, out-Json, out-roll-Json}
 use Rattle.json_exact.specs.declared.json.Json.TheOpen as level
 use Rattle.json_exact.specs.declared.json.Json.TheVariants as json
 use Rattle.json_exact.specs.declared.json.Json.TheVariants.{rolls-List, rolls-Object}
-use Rattle.json_exact.specs.declared.json.Member.{Member}
-use Rattle.json_exact.specs.Path.{words_of, escaped, joined, name_of, is_index, item_of, child_of, led_by, at_path}
-use Rattle.json_exact.specs.Reader.{first}
+use Rattle.json_exact.specs.Path.{words_of, tilde_escape, joined, name_of, is_index, item_of, child_of, led_by, at_path}
+use Rattle.fixed_num.specs.Front.{first}
 use Rattle.json_exact.proofs.Front.{next, take-rest}
-use Rattle.json_exact.specs.Along.{words_after, is_name, front_of, front_rest}
+use Rattle.json_exact.specs.inner.Along.{words_after, is_name, front_of, front_rest}
 
 -- ---- words
 
@@ -62,7 +61,7 @@ two_bytes e b long short false = refl
 pub name_front : (b : ℕ) (rest : List ℕ) → name_of (b ∷ rest) ≡ joined (front_of (b ∷ rest)) (name_of (front_rest (b ∷ rest)))
 unfolding name_of
 name_front b [] = one_byte b (eqb b 126)
-name_front b (c ∷ rest) = two_bytes (escaped c) b rest (c ∷ rest) (eqb b 126)
+name_front b (c ∷ rest) = two_bytes (tilde_escape c) b rest (c ∷ rest) (eqb b 126)
 
 joined_same : (o : Option (List ℕ)) (b : ℕ) (name : List ℕ) → is_name (joined (Some b) o) (b ∷ name) ≡ is_name o name
 joined_same None b name = refl
@@ -138,7 +137,7 @@ tilde_no_digit (c ∷ rest) b e = picked_no_digit (eqb c 48) (eqb c 49) b e
 
 plain_front : (b : ℕ) (rest : List ℕ) → eqb b 126 ≡ false → (front_of (b ∷ rest) ≡ Some b) × (front_rest (b ∷ rest) ≡ rest)
 plain_front b [] e = (cond-false (eqb b 126) None (Some b) e, refl)
-plain_front b (c ∷ rest) e = (cond-false (eqb b 126) (escaped c) (Some b) e, cond-false (eqb b 126) rest (c ∷ rest) e)
+plain_front b (c ∷ rest) e = (cond-false (eqb b 126) (tilde_escape c) (Some b) e, cond-false (eqb b 126) rest (c ∷ rest) e)
 
 name_plain : (b : ℕ) (rest : List ℕ) → eqb b 126 ≡ false → name_of (b ∷ rest) ≡ joined (Some b) (name_of rest)
 name_plain b rest e =
@@ -216,9 +215,6 @@ item_past items word n one is past =
 
 pub opened_list : (items : List Json) → out-Json (json.List items) ≡ level.List items
 opened_list items = ap out-Json (sym (rolls-List items)) ∙ out-roll-Json (level.List items)
-
-pub opened_object : (members : List Member) → out-Json (json.Object members) ≡ level.Object members
-opened_object members = ap out-Json (sym (rolls-Object members)) ∙ out-roll-Json (level.Object members)
 
 -- ---- paths
 

@@ -8,8 +8,9 @@ use Rattle.std.proofs.lemmas.Bool.{cond-true, cond-false, eqb-true, eq-eqb, ne_e
 use Rattle.std.proofs.lemmas.List.{append-nil, length-append}
 use Rattle.text_kit.specs.Answer.{IsFault}
 use Rattle.json_exact.specs.Reading.{IsQuoted, AreChars, no_char, more_chars}
-use Rattle.json_exact.specs.Reader.{◌>>=◌, Read, first, stop, char_at, chars_at, quoted_at}
-use Rattle.json_exact.proofs.Steps.{bind_ok, chosen, guarded, unless, done, ok_is, Sound, Sound-at, begins}
+use Rattle.fixed_num.specs.Front.{◌>>=◌, Read, first, stop}
+use Rattle.json_exact.specs.inner.Reader.{char_at, chars_at, quoted_at}
+use Rattle.fixed_num.proofs.Steps.{bind_ok, chosen, guarded, unless, done, ok_is, Sound, Sound-at, begins}
 use Rattle.json_exact.proofs.Letters.{char_again, char_some}
 use Rattle.json_exact.proofs.Escapes.{char_sound}
 

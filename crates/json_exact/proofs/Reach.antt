@@ -5,7 +5,8 @@ use Rattle.std.specs.Str.{bytes_eq}
 use Rattle.std.specs.Char.{encode_utf8}
 use Rattle.std.proofs.lemmas.Bool.{cases_Bool, cond-true, cond-false, eqb-true, eqb-false, eq-eqb, ne_eqb}
 use Rattle.std.proofs.lemmas.List.{length-append}
-use Rattle.json_exact.specs.Reader.{◌>>=◌, Read, first, stop, plain_at, char_at, chars_at, quoted_at}
+use Rattle.fixed_num.specs.Front.{◌>>=◌, Read, first, stop}
+use Rattle.json_exact.specs.inner.Reader.{plain_at, char_at, chars_at, quoted_at}
 use Rattle.json_exact.proofs.Letters.{char_some}
 use Rattle.json_exact.proofs.Escapes.{char_sound}
 use Rattle.json_exact.proofs.Quotes.{chars_sound}
@@ -19,9 +20,6 @@ pub record LooksFueled {A : Type 0} (element : ℕ → List ℕ → Read A) (byt
   pub found : Option A
   pub parts : bytes ≡ front ++ rest
   pub again : (fuel : ℕ) (other : List ℕ) → first other ≡ first rest → length (front ++ other) ≤ fuel → element fuel (front ++ other) ≡ outcome found other
-
-pub no_byte : (bytes : List ℕ) → char_at bytes ≡ Err (length bytes) → (c : ℕ) (rest : List ℕ) → char_at bytes ≡ Ok (c, rest) → ⊥
-no_byte bytes e c rest f = absurd cc
 
 zero_byte : (bytes : List ℕ) → first bytes ≡ 0 → char_at bytes ≡ Err (length bytes)
 unfolding char_at plain_at

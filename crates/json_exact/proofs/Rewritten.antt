@@ -1,6 +1,6 @@
 -- What is written of a tree that was read spells that tree.
 use Rattle.std.proofs.Common.{◌≡◌, ℕ, ◌+◌, ◌*◌, ◌^◌, ◌/◌, ◌%◌, ◌<◌, List, [], ◌∷◌, ◌++◌, false, pos, refl, sym, ap, subst, ◌∙◌, arith, inl, inr, append-nil}
-use Rattle.std.specs.Prelude.{IsTrue, codes, encode_utf8, encode_utf8_all}
+use Rattle.std.specs.Prelude.{IsTrue, map, codes, encode_utf8, encode_utf8_all}
 use Rattle.std.specs.Char.{IsScalar, digit_char, is_ascii_hexdigit}
 use Rattle.std.proofs.lemmas.Bool.{cases_lt, cases_eq}
 use Rattle.std.proofs.lemmas.Bool.Decides.{nat_tests}
@@ -137,24 +137,24 @@ mutual
   value_stands (number m word r i) = number m (spelling m) (written_is_read m i) i
   value_stands (huge m word r past) = huge_stands
   value_stands (text t word q) = text t (quoted t) (quoted_stands q)
-  value_stands (list items inside s) = subst (Spells (json.List items)) (sym (text_of-List items)) (list items (with_commas text_of items) (items_stand s))
-  value_stands (object members inside apart s) = subst (Spells (json.Object members)) (sym (text_of-Object members)) (object members (with_commas member_text members) apart (members_stand s))
+  value_stands (list items inside s) = subst (Spells (json.List items)) (sym (text_of-List items)) (list items (with_commas (map text_of items)) (items_stand s))
+  value_stands (object members inside apart s) = subst (Spells (json.Object members)) (sym (text_of-Object members)) (object members (with_commas (map member_text members)) apart (members_stand s))
 
   padded_stands : {tree : Json} {word : List ℕ} → SpellsPadded tree word → SpellsPadded tree (text_of tree)
   padded_stands (padded tree before word after b s a) = without_spaces (value_stands s)
 
-  items_stand : {items : List Json} {inside : List ℕ} → SpellsItems items inside → SpellsItems items (with_commas text_of items)
+  items_stand : {items : List Json} {inside : List ℕ} → SpellsItems items inside → SpellsItems items (with_commas (map text_of items))
   items_stand (no_item inside w) = no_item [] tt
   items_stand (last_item item inside p) = last_item item (text_of item ++ []) (subst (SpellsPadded item) (sym (append-nil (text_of item))) (padded_stands p))
-  items_stand (more_items item next others front back p r) = more_items item next others (text_of item) (with_commas text_of (next ∷ others)) (padded_stands p) (items_stand r)
+  items_stand (more_items item next others front back p r) = more_items item next others (text_of item) (with_commas (map text_of (next ∷ others))) (padded_stands p) (items_stand r)
 
   member_stands : {m : Member} {word : List ℕ} → SpellsMember m word → SpellsMember m (member_text m)
   member_stands (member m before word after value b q a p) = member_alone m (quoted_stands q) (padded_stands p)
 
-  members_stand : {members : List Member} {inside : List ℕ} → SpellsMembers members inside → SpellsMembers members (with_commas member_text members)
+  members_stand : {members : List Member} {inside : List ℕ} → SpellsMembers members inside → SpellsMembers members (with_commas (map member_text members))
   members_stand (no_member inside w) = no_member [] tt
   members_stand (last_member m inside p) = last_member m (member_text m ++ []) (subst (SpellsMember m) (sym (append-nil (member_text m))) (member_stands p))
-  members_stand (more_members m next others front back p r) = more_members m next others (member_text m) (with_commas member_text (next ∷ others)) (member_stands p) (members_stand r)
+  members_stand (more_members m next others front back p r) = more_members m next others (member_text m) (with_commas (map member_text (next ∷ others))) (member_stands p) (members_stand r)
 
 -- what was written is read
 pub written_again : (bytes : List ℕ) (tree : Json) → Reads bytes tree → Reads (text_of tree) tree

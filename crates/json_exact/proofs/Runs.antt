@@ -3,8 +3,9 @@ use Rattle.std.proofs.Common.{◌≡◌, ℕ, zero, suc, ◌<◌, true, false, e
 use Rattle.std.proofs.lemmas.List.{length-append}
 use Rattle.std.proofs.lemmas.Bool.{eqb-true, eq-eqb, cases_Bool, cond-false}
 use Rattle.json_exact.specs.Reading.{is_white, IsWhite}
-use Rattle.json_exact.specs.Reader.{Read, first, stop, skip_white, padded_at, run_at, sequence_at}
-use Rattle.json_exact.proofs.Steps.{done}
+use Rattle.fixed_num.specs.Front.{Read, first, stop}
+use Rattle.json_exact.specs.inner.Reader.{skip_white, padded_at, run_at, sequence_at}
+use Rattle.fixed_num.proofs.Steps.{done}
 use Rattle.json_exact.proofs.Parts.{skip_white-append, skip_white-stop}
 
 pub padded_again : {A : Type 0} (element : List ℕ → Read A) (before word after rest : List ℕ) (x : A) → IsWhite before → is_white (first (word ++ (after ++ rest))) ≡ false → element (word ++ (after ++ rest)) ≡ Ok (x, after ++ rest) → IsWhite after → is_white (first rest) ≡ false

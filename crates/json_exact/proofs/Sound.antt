@@ -12,10 +12,11 @@ use Rattle.json_exact.specs.declared.json.Json.{Json}
 use Rattle.json_exact.specs.declared.json.Json.TheVariants as json
 use Rattle.json_exact.specs.declared.json.Member.{Member}
 use Rattle.json_exact.specs.Reading.{is_white, IsWhite, IsQuoted, Spells, SpellsPadded, SpellsItems, SpellsMember, SpellsMembers, null, yes, no, number, huge, text, list, object, padded, no_item, last_item, more_items, member, no_member, last_member, more_members, depth, Reads}
-use Rattle.json_exact.specs.Reader.{◌>>=◌, Read, first, stop, skip_white, padded_at, after_word, word_at, quoted_at, numeral_at, number_at, number_tree, in_range, run_at, sequence_at, list_at, object_at, member_at, nested_at, flat_at, value_from, value_at, text_at, names_of}
+use Rattle.fixed_num.specs.Front.{◌>>=◌, Read, first, stop, parts_at, in_range}
+use Rattle.json_exact.specs.inner.Reader.{skip_white, padded_at, after_word, word_at, quoted_at, number_at, number_tree, run_at, sequence_at, list_at, object_at, member_at, nested_at, flat_at, value_from, value_at, text_at, names_of}
 use Rattle.json_exact.proofs.Depth.{deepest, deepest_value, depth-List, depth-Object}
-use Rattle.json_exact.proofs.Steps.{bind_ok, chosen, guarded, ok_is, Takes, Sound, Sound-at, begins}
-use Rattle.json_exact.proofs.Numerals.{NumeralIs, numeral_sound, in_range_is, is_in_range}
+use Rattle.fixed_num.proofs.Steps.{bind_ok, chosen, guarded, ok_is, Takes, Sound, Sound-at, begins}
+use Rattle.fixed_num.proofs.Numerals.{NumberIs, parts_sound, in_range_is, is_in_range}
 use Rattle.json_exact.proofs.Quotes.{Quoted, quoted_sound}
 use Rattle.json_exact.proofs.Runs.{IsElement, run_skips}
 use Rattle.json_exact.proofs.Apart.{Differ, apart_pushed}
@@ -284,7 +285,7 @@ flat_sound level bytes x e =
           | inl v ↦ word_value level (codes "true") (json.Flag true) some_true bytes x v.1 (yes, omega arith)
           | inr v ↦ elim (chosen (eqb (first bytes) 102) (word_at (codes "false") (json.Flag false) bytes) _ (Ok x) v.1) [
             | inl u ↦ word_value level (codes "false") (json.Flag false) some_false bytes x u.1 (no, omega arith)
-            | inr u ↦ flat_value level NumeralIs (λ p. number_tree (value_of p)) numeral_at numeral_sound (number_value level) bytes x u.1
+            | inr u ↦ flat_value level NumberIs (λ p. number_tree (value_of p)) parts_at parts_sound (number_value level) bytes x u.1
           ]
         ]
       ]

@@ -5,12 +5,13 @@ use Rattle.json_exact.specs.declared.error.Stop.{Stop}
 use Rattle.json_exact.specs.declared.error.Stop.TheVariants as stops
 use Rattle.json_exact.specs.declared.json.Json.{Json}
 use Rattle.json_exact.specs.Reading.{Reads, Begins, FaultsAt}
-use Rattle.json_exact.specs.Reader.{cause, first, text_at}
+use Rattle.fixed_num.specs.Front.{first}
+use Rattle.json_exact.specs.inner.Reader.{cause, text_at}
 use Rattle.std.proofs.lemmas.List.{length-append, take_at}
 use Rattle.json_exact.proofs.Behind.{same_fault}
 use Rattle.json_exact.proofs.OpenValues.{text_opens}
 use Rattle.json_exact.proofs.Complete.{text_again-whole}
-use Rattle.json_exact.proofs.Steps.{ok_is}
+use Rattle.fixed_num.proofs.Steps.{ok_is}
 
 pub is_complete : (bytes : List ℕ) (found tree : Json) → text_at bytes ≡ Ok found → Reads bytes tree → found ≡ tree
 is_complete bytes found tree given reads = ok_is found tree (sym given ∙ text_again-whole bytes tree reads)

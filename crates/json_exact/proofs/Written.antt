@@ -1,6 +1,6 @@
 -- What the text of a tree is at lists of items and members, and what stays of a character.
 use Rattle.std.proofs.Common.{◌≡◌, ℕ, ◌+◌, ◌<◌, ◌≤◌, ◌/◌, ◌%◌, List, [], ◌∷◌, ◌++◌, refl, sym, ap, ◌∙◌, arith, inl, inr, append-nil}
-use Rattle.std.specs.Prelude.{◌≢◌, codes, flat_map, encode_utf8, encode_utf8_all}
+use Rattle.std.specs.Prelude.{◌≢◌, map, codes, encode_utf8, encode_utf8_all}
 use Rattle.std.specs.Char.{digit_char}
 use Rattle.std.proofs.lemmas.Bool.{cases_lt}
 use Rattle.std.proofs.lemmas.Bool.Decides.{nat_tests}
@@ -11,32 +11,24 @@ use Rattle.json_exact.specs.declared.json.Json.{Json, Row_of-Json, end_of-Json, 
 use Rattle.json_exact.specs.declared.json.Json.TheBlock.{hidden-the_row-Json-0, hidden-the_row-Member-1}
 use Rattle.json_exact.specs.declared.json.Json.TheVariants as json
 use Rattle.json_exact.specs.declared.json.Member.{Member}
-use Rattle.json_exact.specs.Writing.{escape_of, escaped, quoted, text_of, items_text, other_items_text, members_text, other_members_text, member_text, with_commas}
+use Rattle.json_exact.specs.Writing.{escape_of, escaped, text_of, item_texts, member_texts, member_text, with_name, with_commas}
 use Rattle.json_exact.proofs.Letters.{encode_1, encode_2, encode_3, encode_4}
 
 -- ---- the items of a list, and the members of an object
 
-others-are : (n : _) (row : Row_of-Json n) → other_items_text row ≡ flat_map (λ item. 44 ∷ text_of item) (items-the_row-Json n row)
-others-are n end_of-Json = refl
-others-are n (more_of-Json item others) = ap (λ (rest : List ℕ). 44 ∷ text_of item ++ rest) (others-are _ others)
-
-items-are : (n : _) (row : Row_of-Json n) → items_text row ≡ with_commas text_of (items-the_row-Json n row)
+items-are : (n : _) (row : Row_of-Json n) → item_texts row ≡ map text_of (items-the_row-Json n row)
 items-are n end_of-Json = refl
-items-are n (more_of-Json item others) = ap (λ (rest : List ℕ). text_of item ++ rest) (others-are _ others)
+items-are n (more_of-Json item others) = ap (λ (texts : List (List ℕ)). text_of item ∷ texts) (items-are _ others)
 
-pub text_of-List : (items : List Json) → text_of (json.List items) ≡ 91 ∷ with_commas text_of items ++ 93 ∷ []
-text_of-List items = ap (λ (inside : List ℕ). 91 ∷ inside ++ 93 ∷ []) (items-are _ (hidden-the_row-Json-0 items) ∙ ap (with_commas text_of) (items_hidden-the_row-Json-0 items))
+pub text_of-List : (items : List Json) → text_of (json.List items) ≡ 91 ∷ with_commas (map text_of items) ++ 93 ∷ []
+text_of-List items = ap (λ (texts : List (List ℕ)). 91 ∷ with_commas texts ++ 93 ∷ []) (items-are _ (hidden-the_row-Json-0 items) ∙ ap (map text_of) (items_hidden-the_row-Json-0 items))
 
-other_members-are : (n : _) (row : Row_of-Member n) → other_members_text row ≡ flat_map (λ m. 44 ∷ member_text m) (items-the_row-Member n row)
-other_members-are n end_of-Member = refl
-other_members-are n (more_of-Member name value others) = ap (λ (rest : List ℕ). 44 ∷ (quoted name ++ 58 ∷ text_of value) ++ rest) (other_members-are _ others)
-
-members-are : (n : _) (row : Row_of-Member n) → members_text row ≡ with_commas member_text (items-the_row-Member n row)
+members-are : (n : _) (row : Row_of-Member n) → member_texts row ≡ map member_text (items-the_row-Member n row)
 members-are n end_of-Member = refl
-members-are n (more_of-Member name value others) = ap (λ (rest : List ℕ). (quoted name ++ 58 ∷ text_of value) ++ rest) (other_members-are _ others)
+members-are n (more_of-Member name value others) = ap (λ (texts : List (List ℕ)). with_name name (text_of value) ∷ texts) (members-are _ others)
 
-pub text_of-Object : (members : List Member) → text_of (json.Object members) ≡ 123 ∷ with_commas member_text members ++ 125 ∷ []
-text_of-Object members = ap (λ (inside : List ℕ). 123 ∷ inside ++ 125 ∷ []) (members-are _ (hidden-the_row-Member-1 members) ∙ ap (with_commas member_text) (items_hidden-the_row-Member-1 members))
+pub text_of-Object : (members : List Member) → text_of (json.Object members) ≡ 123 ∷ with_commas (map member_text members) ++ 125 ∷ []
+text_of-Object members = ap (λ (texts : List (List ℕ)). 123 ∷ with_commas texts ++ 125 ∷ []) (members-are _ (hidden-the_row-Member-1 members) ∙ ap (map member_text) (items_hidden-the_row-Member-1 members))
 
 -- ---- the bytes of a character
 

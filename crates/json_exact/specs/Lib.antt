@@ -1,5 +1,4 @@
 pub mod Reading
-pub mod Reader
 pub mod Path
-pub mod Along
 pub mod Writing
+pub mod inner

@@ -14,8 +14,8 @@ abbrev pub words_of : List ℕ → List (List ℕ)
 words_of bytes = slice_split (λ b. b == 47) bytes
 
 -- what an escape stands for, by its second byte: `~0` for `~`, and `~1` for `/`
-abbrev pub escaped : ℕ → Option ℕ
-escaped c = if c == 48 then Some 126 else (if c == 49 then Some 47 else None)
+abbrev pub tilde_escape : ℕ → Option ℕ
+tilde_escape c = if c == 48 then Some 126 else (if c == 49 then Some 47 else None)
 
 -- a byte before a text
 abbrev pub joined : Option ℕ → Option (List ℕ) → Option (List ℕ)
@@ -26,7 +26,7 @@ joined b text = None
 unfoldable pub name_of : List ℕ → Option (List ℕ)
 name_of [] = Some []
 name_of (b ∷ []) = if b == 126 then None else Some (b ∷ [])
-name_of (b ∷ c ∷ rest) = if b == 126 then joined (escaped c) (name_of rest) else joined (Some b) (name_of (c ∷ rest))
+name_of (b ∷ c ∷ rest) = if b == 126 then joined (tilde_escape c) (name_of rest) else joined (Some b) (name_of (c ∷ rest))
 
 -- a name is an index where it is one digit, or more of them without a zero in front
 abbrev pub is_index : List ℕ → Bool
@@ -39,13 +39,13 @@ abbrev pub item_of : List Json → List ℕ → Option Json
 item_of items name = if is_index name then slice_get items (number_of name) else None
 
 -- the value of the first member of this name
-abbrev pub value_of : List Member → List ℕ → Option Json
-value_of members name = option_map (λ (m : Member). m.value) (find (λ (m : Member). bytes_eq m.name name) members)
+abbrev pub member_value : List Member → List ℕ → Option Json
+member_value members name = option_map (λ (m : Member). m.value) (find (λ (m : Member). bytes_eq m.name name) members)
 
 -- where a name leads from the top of a tree: in an object to the member of this name, in a list to the item, elsewhere nowhere
 abbrev pub child_in : Json-F Json Member → List ℕ → Option Json
 child_in (level.List items) name = item_of items name
-child_in (level.Object members) name = value_of members name
+child_in (level.Object members) name = member_value members name
 child_in other name = None
 
 -- the child of a tree to which a word leads

@@ -3,6 +3,7 @@
 use Rattle.std.specs.Prelude.{◌≡◌, ◌≢◌, ℕ, suc, ◌+◌, ◌-◌, ◌*◌, ◌<◌, ◌≤◌, max, List, [], ◌∷◌, ◌++◌, length, take, codes, ℤ, Bool, true, false, IsTrue, ◌||◌, ◌==◌, nat_le, if◌then◌else◌, Option, Some, None, refl, AllPairs, encode_utf8, encode_utf8_all}
 use Rattle.std.specs.List.{AllByRecursion}
 use Rattle.std.specs.Char.{is_ascii_hexdigit, IsScalar}
+use Rattle.std.proofs.Common.{lit≤, arith}
 use Rattle.fixed_num.specs.Number.{IsNumber}
 use Rattle.fixed_num.specs.JsonNumber as numbers
 use Rattle.json_exact.specs.declared.json.Json.{Json, List', Object', Row_of-Json, end_of-Json, more_of-Json, Row_of-Member, end_of-Member, more_of-Member}
@@ -45,7 +46,8 @@ a_new_line = refl
 
 -- four digits to the base sixteen, and the number that they write
 pub data IsUnit : List ℕ → ℕ → Type 0 where
-  unit : (a b c d : ℕ) → IsTrue (is_ascii_hexdigit a) → IsTrue (is_ascii_hexdigit b) → IsTrue (is_ascii_hexdigit c) → IsTrue (is_ascii_hexdigit d)
+  unit : (a b c d : ℕ)
+      → IsTrue (is_ascii_hexdigit a) → IsTrue (is_ascii_hexdigit b) → IsTrue (is_ascii_hexdigit c) → IsTrue (is_ascii_hexdigit d)
       → IsUnit (a ∷ b ∷ c ∷ d ∷ []) (((hex_value a * 16 + hex_value b) * 16 + hex_value c) * 16 + hex_value d)
 
 -- the first and the second half of a pair of surrogates
@@ -70,7 +72,17 @@ pub data IsChar : List ℕ → ℕ → Type 0 where
   itself : (c : ℕ) → IsScalar c → 32 ≤ c → c ≢ 34 → c ≢ 92 → IsChar (encode_utf8 c) c
   short : (letter c : ℕ) → short_escape letter ≡ Some c → IsChar (92 ∷ letter ∷ []) c
   long : (word : List ℕ) (c : ℕ) → IsUnit word c → IsScalar c → IsChar (92 ∷ 117 ∷ word) c
-  pair : (front back : List ℕ) (high low : ℕ) → IsUnit front high → IsHigh high → IsUnit back low → IsLow low → IsChar (92 ∷ 117 ∷ front ++ 92 ∷ 117 ∷ back) (of_pair high low)
+  pair : (front back : List ℕ) (high low : ℕ) → IsUnit front high → IsHigh high → IsUnit back low → IsLow low
+      → IsChar (92 ∷ 117 ∷ front ++ 92 ∷ 117 ∷ back) (of_pair high low)
+
+an_escaped_line_feed : IsChar (codes "\\n") 10
+an_escaped_line_feed = short 110 10 refl
+
+a_character_by_its_number : IsChar (codes "\\u0041") 65
+a_character_by_its_number = long (codes "0041") 65 (unit 48 48 52 49 refl refl refl refl) refl
+
+a_quote_by_its_escape : IsChar (codes "\\\"") 34
+a_quote_by_its_escape = short 34 34 refl
 
 -- the word stands for the characters, one after another
 pub data AreChars : List ℕ → List ℕ → Type 0 where
@@ -95,27 +107,34 @@ mutual
     huge : (m : ℤ) (word : List ℕ) → numbers.Reads word m → (IsNumber m → ⊥) → Spells json.Huge word
     text : (t word : List ℕ) → IsQuoted word t → Spells (json.Text t) word
     list : (items : List Json) (inside : List ℕ) → SpellsItems items inside → Spells (json.List items) (91 ∷ inside ++ 93 ∷ [])
-    object : (members : List Member) (inside : List ℕ) → AllPairs (λ m n. m.name ≢ n.name) members → SpellsMembers members inside → Spells (json.Object members) (123 ∷ inside ++ 125 ∷ [])
+    object : (members : List Member) (inside : List ℕ) → AllPairs (λ m n. m.name ≢ n.name) members → SpellsMembers members inside
+        → Spells (json.Object members) (123 ∷ inside ++ 125 ∷ [])
 
   -- the same with white space on both sides
   pub data SpellsPadded : Json → List ℕ → Type 0 where
-    padded : (tree : Json) (before word after : List ℕ) → IsWhite before → Spells tree word → IsWhite after → SpellsPadded tree (before ++ word ++ after)
+    padded : (tree : Json) (before word after : List ℕ) → IsWhite before → Spells tree word → IsWhite after
+        → SpellsPadded tree (before ++ word ++ after)
 
   -- what stands between the brackets of a list: the items with a comma between any two
   pub data SpellsItems : List Json → List ℕ → Type 0 where
     no_item : (inside : List ℕ) → IsWhite inside → SpellsItems [] inside
     last_item : (item : Json) (inside : List ℕ) → SpellsPadded item inside → SpellsItems (item ∷ []) inside
-    more_items : (item next : Json) (others : List Json) (front back : List ℕ) → SpellsPadded item front → SpellsItems (next ∷ others) back → SpellsItems (item ∷ next ∷ others) (front ++ 44 ∷ back)
+    more_items : (item next : Json) (others : List Json) (front back : List ℕ) → SpellsPadded item front → SpellsItems (next ∷ others) back
+        → SpellsItems (item ∷ next ∷ others) (front ++ 44 ∷ back)
 
   -- a name, a colon and a value
   pub data SpellsMember : Member → List ℕ → Type 0 where
-    member : (m : Member) (before word after value : List ℕ) → IsWhite before → IsQuoted word m.name → IsWhite after → SpellsPadded m.value value → SpellsMember m (before ++ word ++ after ++ 58 ∷ value)
+    member : (m : Member) (before word after value : List ℕ)
+        → IsWhite before → IsQuoted word m.name → IsWhite after → SpellsPadded m.value value
+        → SpellsMember m (before ++ word ++ after ++ 58 ∷ value)
 
   -- what stands between the braces of an object
   pub data SpellsMembers : List Member → List ℕ → Type 0 where
     no_member : (inside : List ℕ) → IsWhite inside → SpellsMembers [] inside
     last_member : (m : Member) (inside : List ℕ) → SpellsMember m inside → SpellsMembers (m ∷ []) inside
-    more_members : (m next : Member) (others : List Member) (front back : List ℕ) → SpellsMember m front → SpellsMembers (next ∷ others) back → SpellsMembers (m ∷ next ∷ others) (front ++ 44 ∷ back)
+    more_members : (m next : Member) (others : List Member) (front back : List ℕ)
+        → SpellsMember m front → SpellsMembers (next ∷ others) back
+        → SpellsMembers (m ∷ next ∷ others) (front ++ 44 ∷ back)
 
 -- how deeply lists and objects stand in one another
 abbrev mutual
@@ -148,3 +167,25 @@ pub record FaultsAt (bytes : List ℕ) (place : ℕ) : Type 0 where
   pub within : place ≤ length bytes
   pub begins : Begins (take place bytes)
   pub no_longer : (n : ℕ) → place < n → n ≤ length bytes → Begins (take n bytes) → ⊥
+
+-- ---- worked examples
+
+spaces_round_null : Reads (codes " null ") json.Null
+spaces_round_null = (padded json.Null (codes " ") (codes "null") (codes " ") (refl, tt) null (refl, tt), lit≤ tt)
+
+the_item : SpellsItems (json.Flag true ∷ []) (codes "true")
+the_item = last_item (json.Flag true) (codes "true") (padded (json.Flag true) [] (codes "true") [] tt yes tt)
+
+one_item : Reads (codes "[true]") (json.List (json.Flag true ∷ []))
+unfolding Rattle.json_exact.specs.declared.json.Json.TheBlock.hidden-the_row-Json-0 denote.Hole.Carrier.hidden
+one_item = (
+  padded (json.List (json.Flag true ∷ [])) [] (codes "[true]") [] tt (list (json.Flag true ∷ []) (codes "true") the_item) tt,
+  lit≤ tt,
+)
+
+the_end_too_early : FaultsAt (codes "nul") 3
+the_end_too_early = record {
+  within = lit≤ tt;
+  begins = (codes "l", json.Null, (padded json.Null [] (codes "null") [] tt null tt, lit≤ tt));
+  no_longer = λ n more within. absurd (omega (arith, more, within));
+}

@@ -28,6 +28,15 @@ escaped text = flat_map escape_of text
 abbrev pub quoted : List ℕ → List ℕ
 quoted text = 34 ∷ escaped text ++ 34 ∷ []
 
+-- some texts, with a comma between any two
+abbrev pub with_commas : List (List ℕ) → List ℕ
+with_commas [] = []
+with_commas (text ∷ others) = text ++ flat_map (λ other. 44 ∷ other) others
+
+-- a name, a colon and the text of a value
+abbrev pub with_name : List ℕ → List ℕ → List ℕ
+with_name name value = quoted name ++ 58 ∷ value
+
 abbrev mutual
   -- the text of a tree; `1e99` stands for a number out of range, since it is one
   pub text_of : Json → List ℕ
@@ -36,46 +45,34 @@ abbrev mutual
   text_of (Number m) = spelling m
   text_of Huge = codes "1e99"
   text_of (Text t) = quoted t
-  text_of (List' shape items) = 91 ∷ items_text items ++ 93 ∷ []
-  text_of (Object' shape members) = 123 ∷ members_text members ++ 125 ∷ []
+  text_of (List' shape items) = 91 ∷ with_commas (item_texts items) ++ 93 ∷ []
+  text_of (Object' shape members) = 123 ∷ with_commas (member_texts members) ++ 125 ∷ []
 
-  -- items with a comma between any two
-  pub items_text : {m : _} → Row_of-Json m → List ℕ
-  items_text end_of-Json = []
-  items_text (more_of-Json item others) = text_of item ++ other_items_text others
+  -- the text of each item
+  pub item_texts : {m : _} → Row_of-Json m → List (List ℕ)
+  item_texts end_of-Json = []
+  item_texts (more_of-Json item others) = text_of item ∷ item_texts others
 
-  -- the items after the first, each after a comma
-  pub other_items_text : {m : _} → Row_of-Json m → List ℕ
-  other_items_text end_of-Json = []
-  other_items_text (more_of-Json item others) = 44 ∷ text_of item ++ other_items_text others
+  -- the text of each member
+  pub member_texts : {m : _} → Row_of-Member m → List (List ℕ)
+  member_texts end_of-Member = []
+  member_texts (more_of-Member name value others) = with_name name (text_of value) ∷ member_texts others
 
-  -- members with a comma between any two
-  pub members_text : {m : _} → Row_of-Member m → List ℕ
-  members_text end_of-Member = []
-  members_text (more_of-Member name value others) = (quoted name ++ 58 ∷ text_of value) ++ other_members_text others
-
-  -- the members after the first, each after a comma
-  pub other_members_text : {m : _} → Row_of-Member m → List ℕ
-  other_members_text end_of-Member = []
-  other_members_text (more_of-Member name value others) = 44 ∷ (quoted name ++ 58 ∷ text_of value) ++ other_members_text others
-
--- a name, a colon and a value
+-- the text of one member
 abbrev pub member_text : Member → List ℕ
-member_text m = quoted m.name ++ 58 ∷ text_of m.value
+member_text m = with_name m.name (text_of m.value)
 
--- the texts of some things, with a comma between any two
-abbrev pub with_commas : {X : Type 0} → (X → List ℕ) → List X → List ℕ
-with_commas text [] = []
-with_commas text (x ∷ others) = text x ++ flat_map (λ other. 44 ∷ text other) others
+a_quote : escape_of 34 ≡ codes "\\\""
+a_quote = refl
+
+a_control : escape_of 31 ≡ codes "\\u001f"
+a_control = refl
+
+no_escape : escape_of 127 ≡ 127 ∷ []
+no_escape = refl
 
 a_line_feed : quoted (codes "a\nb") ≡ codes "\"a\\nb\""
 a_line_feed = refl
-
-the_last_control : quoted (31 ∷ []) ≡ codes "\"\\u001f\""
-the_last_control = refl
-
-no_control : quoted (127 ∷ []) ≡ 34 ∷ 127 ∷ 34 ∷ []
-no_control = refl
 
 a_list_of_three : text_of (json.List (json.Null ∷ json.Huge ∷ json.Flag true ∷ [])) ≡ codes "[null,1e99,true]"
 unfolding Rattle.json_exact.specs.declared.json.Json.TheBlock.hidden-the_row-Json-0 denote.Hole.Carrier.hidden
@@ -85,8 +82,12 @@ an_empty_object : text_of (json.Object []) ≡ codes "{}"
 unfolding Rattle.json_exact.specs.declared.json.Json.TheBlock.hidden-the_row-Member-1 denote.Hole.Carrier.hidden
 an_empty_object = refl
 
-an_object_of_two : text_of (json.Object (record { name = codes "a"; value = json.List [] } ∷ record { name = codes "\""; value = json.Text (codes "b") } ∷ [])) ≡ codes "{\"a\":[],\"\\\"\":\"b\"}"
-unfolding Rattle.json_exact.specs.declared.json.Json.TheBlock.hidden-the_row-Json-0 Rattle.json_exact.specs.declared.json.Json.TheBlock.hidden-the_row-Member-1 denote.Hole.Carrier.hidden
+an_object_of_two :
+    text_of (json.Object (
+    record { name = codes "a"; value = json.List [] } ∷ record { name = codes "\""; value = json.Text (codes "b") } ∷ []))
+    ≡ codes "{\"a\":[],\"\\\"\":\"b\"}"
+unfolding Rattle.json_exact.specs.declared.json.Json.TheBlock.hidden-the_row-Json-0
+    Rattle.json_exact.specs.declared.json.Json.TheBlock.hidden-the_row-Member-1 denote.Hole.Carrier.hidden
 an_object_of_two = refl
 
 a_number : text_of (json.Number (negsuc 1499999)) ≡ codes "-1.5"

@@ -4,7 +4,7 @@ ghost use Rattle.std.specs.Prelude.{◌≡◌, ◌+◌, ◌*◌, ◌<◌, ◌≤
 ghost use Rattle.std.specs.Char.{is_ascii_hexdigit};
 ghost use Rattle.text_kit.specs.Answer.{GivesAs};
 ghost use Rattle.json_exact.specs.Reading.{hex_value, short_escape, IsHigh};
-ghost use Rattle.json_exact.specs.Reader.{cause, hex_at, hex_pair_at, low_at, after_high_at, long_at, escape_at, tail_at, three_at, four_at, plain_at, char_at};
+ghost use Rattle.json_exact.specs.inner.Reader.{cause, hex_at, hex_pair_at, low_at, after_high_at, long_at, escape_at, tail_at, three_at, four_at, plain_at, char_at};
 
 use crate::error::{Stop, fault_at};
 use crate::words::{after_first, after_word, first_of};
@@ -24,7 +24,7 @@ fn hex_value(digit: u8) -> u32
     }
 }
 
-#[tactic(auto, unfolding(crate::specs::Reader::hex_at))]
+#[tactic(auto, unfolding(crate::specs::inner::Reader::hex_at))]
 /// The digit to the base sixteen at the front, from `low` to `high`, and the bytes after it.
 fn hex_of(low: u32, high: u32, bytes: &[u8]) -> Result<(u32, &[u8]), Stop>
     ensures gives { GivesAs (λ x. (x.0, x.1.now)) cause result (hex_at low high bytes.now) }
@@ -44,7 +44,7 @@ fn hex_of(low: u32, high: u32, bytes: &[u8]) -> Result<(u32, &[u8]), Stop>
     }
 }
 
-#[tactic(auto, unfolding(crate::specs::Reader::hex_pair_at))]
+#[tactic(auto, unfolding(crate::specs::inner::Reader::hex_pair_at))]
 /// The number with two more digits at its end, and the bytes after them.
 fn hex_pair_of(n: u32, bytes: &[u8]) -> Result<(u32, &[u8]), Stop>
     requires { n < 256 }
@@ -57,7 +57,7 @@ fn hex_pair_of(n: u32, bytes: &[u8]) -> Result<(u32, &[u8]), Stop>
     Ok(((n * 16 + c) * 16 + d, rest))
 }
 
-#[tactic(auto, unfolding(crate::specs::Reader::low_at))]
+#[tactic(auto, unfolding(crate::specs::inner::Reader::low_at))]
 /// The second half of a pair of surrogates, and the bytes after it.
 fn low_of(bytes: &[u8]) -> Result<(u32, &[u8]), Stop>
     ensures gives { GivesAs (λ x. (x.0, x.1.now)) cause result (low_at bytes.now) }
@@ -69,7 +69,7 @@ fn low_of(bytes: &[u8]) -> Result<(u32, &[u8]), Stop>
     hex_pair_of(a * 16 + b, rest)
 }
 
-#[tactic(auto, unfolding(crate::specs::Reader::after_high_at))]
+#[tactic(auto, unfolding(crate::specs::inner::Reader::after_high_at))]
 /// The character of a pair of surrogates, after its first half, and the bytes after it.
 fn after_high(high: u32, bytes: &[u8]) -> Result<(u32, &[u8]), Stop>
     requires { IsHigh high }
@@ -80,7 +80,7 @@ fn after_high(high: u32, bytes: &[u8]) -> Result<(u32, &[u8]), Stop>
     Ok((0x10000 + (high - 0xD800) * 1024 + (low - 0xDC00), rest))
 }
 
-#[tactic(auto, unfolding(crate::specs::Reader::long_at))]
+#[tactic(auto, unfolding(crate::specs::inner::Reader::long_at))]
 /// The character of an escape by number, after its `u`, and the bytes after it.
 fn long_of(bytes: &[u8]) -> Result<(u32, &[u8]), Stop>
     ensures { GivesAs (λ x. (x.0, x.1.now)) cause result (long_at bytes.now) }
@@ -112,7 +112,7 @@ fn short_escape(letter: u8) -> Option<u32>
     }
 }
 
-#[tactic(auto, unfolding(crate::specs::Reader::escape_at))]
+#[tactic(auto, unfolding(crate::specs::inner::Reader::escape_at))]
 /// The character of an escape, after its `\`, and the bytes after it.
 fn escape_of(bytes: &[u8]) -> Result<(u32, &[u8]), Stop>
     ensures { GivesAs (λ x. (x.0, x.1.now)) cause result (escape_at bytes.now) }
@@ -126,7 +126,7 @@ fn escape_of(bytes: &[u8]) -> Result<(u32, &[u8]), Stop>
     }
 }
 
-#[tactic(auto, unfolding(crate::specs::Reader::tail_at))]
+#[tactic(auto, unfolding(crate::specs::inner::Reader::tail_at))]
 /// The number with one more byte of a character at its end, from `low` to `high`, and the bytes after it.
 fn tail_of(low: u8, high: u8, n: u32, bytes: &[u8]) -> Result<(u32, &[u8]), Stop>
     requires few { n < 65536 }
@@ -143,7 +143,7 @@ fn tail_of(low: u8, high: u8, n: u32, bytes: &[u8]) -> Result<(u32, &[u8]), Stop
     }
 }
 
-#[tactic(auto, unfolding(crate::specs::Reader::three_at))]
+#[tactic(auto, unfolding(crate::specs::inner::Reader::three_at))]
 /// The rest of a character of three bytes, by its first byte, and the bytes after it.
 fn three_of(b: u8, bytes: &[u8]) -> Result<(u32, &[u8]), Stop>
     requires low { 224 ≤ b }
@@ -156,7 +156,7 @@ fn three_of(b: u8, bytes: &[u8]) -> Result<(u32, &[u8]), Stop>
     tail_of(128, 191, n, rest)
 }
 
-#[tactic(auto, unfolding(crate::specs::Reader::four_at))]
+#[tactic(auto, unfolding(crate::specs::inner::Reader::four_at))]
 /// The rest of a character of four bytes, by its first byte, and the bytes after it.
 fn four_of(b: u8, bytes: &[u8]) -> Result<(u32, &[u8]), Stop>
     requires low { 240 ≤ b }
@@ -170,7 +170,7 @@ fn four_of(b: u8, bytes: &[u8]) -> Result<(u32, &[u8]), Stop>
     tail_of(128, 191, n, rest)
 }
 
-#[tactic(auto, unfolding(crate::specs::Reader::plain_at))]
+#[tactic(auto, unfolding(crate::specs::inner::Reader::plain_at))]
 /// The character that stands for itself, by its first byte, and the bytes after it.
 fn plain_of(b: u8, bytes: &[u8]) -> Result<(u32, &[u8]), Stop>
     ensures { GivesAs (λ x. (x.0, x.1.now)) cause result (plain_at b bytes.now) }
@@ -193,7 +193,7 @@ fn plain_of(b: u8, bytes: &[u8]) -> Result<(u32, &[u8]), Stop>
     Err(fault_at(bytes))
 }
 
-#[tactic(auto, unfolding(crate::specs::Reader::char_at))]
+#[tactic(auto, unfolding(crate::specs::inner::Reader::char_at))]
 /// The character at the front, and the bytes after it.
 pub fn char_of(bytes: &[u8]) -> Result<(u32, &[u8]), Stop>
     ensures { GivesAs (λ x. (x.0, x.1.now)) cause result (char_at bytes.now) }

@@ -23,5 +23,3 @@ pub use writing::{what_was_written_is_read, write};
 mod path_tests;
 #[cfg(test)]
 mod tests;
-#[cfg(test)]
-mod writing_tests;

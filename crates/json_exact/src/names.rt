@@ -4,7 +4,7 @@ ghost use Rattle.std.specs.Prelude.{◌≡◌, [], ◌∷◌, ◌++◌, drop, Li
 ghost use Rattle.std.specs.List.{list_any};
 ghost use Rattle.std.specs.Str.{bytes_eq};
 ghost use Rattle.std.specs.BTreeSet.{contains_text};
-ghost use Rattle.json_exact.specs.Reader.{names_of};
+ghost use Rattle.json_exact.specs.inner.Reader.{names_of};
 
 use crate::json::Member;
 use std::alloc::Global;

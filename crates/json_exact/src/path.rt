@@ -5,8 +5,8 @@ ghost use Rattle.std.specs.Option.{option_copied, option_and_then};
 ghost use Rattle.std.specs.List.{list_all};
 ghost use Rattle.std.specs.Char.{is_ascii_digit};
 ghost use Rattle.fixed_num.specs.JsonNumber.{number_of};
-ghost use Rattle.json_exact.specs.Path.{words_of, name_of, is_index, item_of, value_of, child_of, led_by, at_path};
-ghost use Rattle.json_exact.specs.Along.{words_after, is_name, front_of, front_rest};
+ghost use Rattle.json_exact.specs.Path.{words_of, name_of, is_index, item_of, member_value, child_of, led_by, at_path};
+ghost use Rattle.json_exact.specs.inner.Along.{words_after, is_name, front_of, front_rest};
 
 use crate::json::{Json, Member};
 use crate::words::first_of;
@@ -113,7 +113,7 @@ fn number_of(digits: &[u8]) -> usize
 
 /// The value of the first member for whose name a word stands.
 fn value_at<'a>(members: &'a [Member], word: &[u8]) -> Option<&'a Json>
-    ensures { option_copied result ≡ option_and_then (value_of members.now) (name_of word.now) }
+    ensures { option_copied result ≡ option_and_then (member_value members.now) (name_of word.now) }
 {
     for member in members {
         if stands_for(word, member.name.as_str().as_bytes()) {

@@ -1,7 +1,7 @@
 ghost use Rattle.std.specs.Prelude.{◌≡◌, ◌⊎◌, List, ℕ, IfOk, Ok, Err};
 ghost use Rattle.text_kit.specs.Answer.{GivesAs};
 ghost use Rattle.json_exact.specs.Reading.{Reads, FaultsAt};
-ghost use Rattle.json_exact.specs.Reader.{cause, text_at};
+ghost use Rattle.json_exact.specs.inner.Reader.{cause, text_at};
 ghost use Rattle.json_exact.specs.declared.json.Json.{Json as Tree};
 ghost use Rattle.json_exact.specs.declared.error.JsonError.TheVariants.{Fault, Memory};
 
@@ -14,14 +14,11 @@ use std::alloc::Global;
 const DEEPEST: u32 = 128;
 
 /// The tree that all of the bytes spell.
-#[tactic(auto, unfolding(crate::specs::Reader::text_at))]
+#[tactic(auto, unfolding(crate::specs::inner::Reader::text_at))]
 fn text_of(alloc: Global, bytes: &[u8]) -> Result<Json, Stop>
     ensures { GivesAs (λ tree. tree) cause result (text_at bytes.now) }
 {
-    let (tree, rest) = match padded_of(alloc, DEEPEST, bytes) {
-        Ok(read) => read,
-        Err(error) => return Err(error),
-    };
+    let (tree, rest) = padded_of(alloc, DEEPEST, bytes)?;
     if !rest.is_empty() {
         return Err(fault_at(rest));
     }

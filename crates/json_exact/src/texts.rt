@@ -2,7 +2,7 @@
 
 ghost use Rattle.std.specs.Prelude.{◌≡◌, [], length, IfOk};
 ghost use Rattle.text_kit.specs.Answer.{GivesAs};
-ghost use Rattle.json_exact.specs.Reader.{cause, chars_at, quoted_at, names_of};
+ghost use Rattle.json_exact.specs.inner.Reader.{cause, chars_at, quoted_at, names_of};
 
 use crate::characters::char_of;
 use crate::error::{Stop, fault_at};
@@ -21,10 +21,7 @@ fn chars_of(alloc: Global, bytes: &[u8]) -> Result<(Text, &[u8]), Stop>
         if first_of(rest) == b'"' {
             return Ok((Text::from_string(out), rest));
         }
-        let (code, after) = match char_of(rest) {
-            Ok(read) => read,
-            Err(error) => return Err(error),
-        };
+        let (code, after) = char_of(rest)?;
         match char::from_u32(code) {
             Some(c) => out.push(c)?,
             None => unreachable!(),
@@ -34,7 +31,7 @@ fn chars_of(alloc: Global, bytes: &[u8]) -> Result<(Text, &[u8]), Stop>
     Err(fault_at(rest))
 }
 
-#[tactic(auto, unfolding(crate::specs::Reader::quoted_at))]
+#[tactic(auto, unfolding(crate::specs::inner::Reader::quoted_at))]
 /// The text between quotes at the front, and the bytes after it.
 pub fn quoted_of(alloc: Global, bytes: &[u8]) -> Result<(Text, &[u8]), Stop>
     ensures { GivesAs (λ x. (x.0, x.1.now)) cause result (quoted_at [] bytes.now) }
@@ -42,13 +39,11 @@ pub fn quoted_of(alloc: Global, bytes: &[u8]) -> Result<(Text, &[u8]), Stop>
     if first_of(bytes) != b'"' {
         return Err(fault_at(bytes));
     }
-    match chars_of(alloc, after_first(bytes)) {
-        Ok((text, rest)) => Ok((text, after_first(rest))),
-        Err(error) => Err(error),
-    }
+    let (text, rest) = chars_of(alloc, after_first(bytes))?;
+    Ok((text, after_first(rest)))
 }
 
-#[tactic(auto, unfolding(crate::specs::Reader::quoted_at))]
+#[tactic(auto, unfolding(crate::specs::inner::Reader::quoted_at))]
 /// The text between quotes at the front, which is the name of none of the members, and the bytes after it.
 pub fn name_of<'a>(
     alloc: Global,
@@ -60,10 +55,7 @@ pub fn name_of<'a>(
     if first_of(bytes) != b'"' {
         return Err(fault_at(bytes));
     }
-    let (text, rest) = match chars_of(alloc, after_first(bytes)) {
-        Ok(read) => read,
-        Err(error) => return Err(error),
-    };
+    let (text, rest) = chars_of(alloc, after_first(bytes))?;
     if members.have(text.as_str()) {
         return Err(fault_at(rest));
     }

@@ -1,7 +1,7 @@
 //! Values, lists and objects, each read from the front of the bytes.
 
 ghost use Rattle.text_kit.specs.Answer.{GivesAs};
-ghost use Rattle.json_exact.specs.Reader.{cause, padded_at, value_at, flat_at, list_at, object_at, member_at, sequence_at};
+ghost use Rattle.json_exact.specs.inner.Reader.{cause, padded_at, value_at, flat_at, list_at, object_at, member_at, sequence_at};
 
 use crate::error::{Stop, fault_at};
 use crate::json::{Json, Member};
@@ -26,7 +26,7 @@ fn value_of(alloc: Global, level: u32, bytes: &[u8]) -> Result<(Json, &[u8]), St
 }
 
 /// The value at the front that is neither a list nor an object, and the bytes after it.
-#[tactic(auto, unfolding(crate::specs::Reader::flat_at))]
+#[tactic(auto, unfolding(crate::specs::inner::Reader::flat_at))]
 fn flat_of(alloc: Global, bytes: &[u8]) -> Result<(Json, &[u8]), Stop>
     ensures { GivesAs (λ x. (x.0, x.1.now)) cause result (flat_at bytes.now) }
 {
@@ -64,7 +64,7 @@ pub fn padded_of(alloc: Global, level: u32, bytes: &[u8]) -> Result<(Json, &[u8]
 
 /// The list whose opening bracket stands before the bytes, and the bytes after it.
 #[cycle(values)]
-#[tactic(auto, unfolding(crate::specs::Reader::list_at))]
+#[tactic(auto, unfolding(crate::specs::inner::Reader::list_at))]
 fn list_of(alloc: Global, level: u32, bytes: &[u8]) -> Result<(Json, &[u8]), Stop>
     ensures { GivesAs (λ x. (x.0, x.1.now)) cause result (list_at (value_at level) bytes.now) }
 {
@@ -86,10 +86,7 @@ fn items_of(alloc: Global, level: u32, bytes: &[u8]) -> Result<(Seq<Json>, &[u8]
     // Room for one, since most have few: a nest of lists of one each would else take four times as much.
     let mut items = Seq::with_capacity(alloc, 1)?;
     for _ in 0..bytes.len() {
-        let (item, after) = match padded_of(alloc, level, rest) {
-            Ok(read) => read,
-            Err(error) => return Err(error),
-        };
+        let (item, after) = padded_of(alloc, level, rest)?;
         items.push(item)?;
         match first_of(after) {
             b',' => rest = after_first(after),
@@ -102,7 +99,7 @@ fn items_of(alloc: Global, level: u32, bytes: &[u8]) -> Result<(Seq<Json>, &[u8]
 
 /// A name that none of the members has, a colon and a value, and the bytes after them.
 #[cycle(values)]
-#[tactic(auto, unfolding(crate::specs::Reader::member_at))]
+#[tactic(auto, unfolding(crate::specs::inner::Reader::member_at))]
 fn member_of<'a>(
     alloc: Global,
     level: u32,
@@ -111,30 +108,23 @@ fn member_of<'a>(
 ) -> Result<(Member, &'a [u8]), Stop>
     ensures { GivesAs (λ x. (x.0, x.1.now)) cause result (member_at (value_at level) members.now.members bytes.now) }
 {
-    let (name, rest) = match name_of(alloc, members, skip_white(bytes)) {
-        Ok(read) => read,
-        Err(error) => return Err(error),
-    };
+    let (name, rest) = name_of(alloc, members, skip_white(bytes))?;
     let rest = skip_white(rest);
     if first_of(rest) != b':' {
         return Err(fault_at(rest));
     }
-    match padded_of(alloc, level, after_first(rest)) {
-        Ok((value, rest)) => Ok((Member { name, value }, rest)),
-        Err(error) => Err(error),
-    }
+    let (value, rest) = padded_of(alloc, level, after_first(rest))?;
+    Ok((Member { name, value }, rest))
 }
 
 /// The object whose opening brace stands before the bytes, and the bytes after it.
 #[cycle(values)]
-#[tactic(auto, unfolding(crate::specs::Reader::object_at))]
+#[tactic(auto, unfolding(crate::specs::inner::Reader::object_at))]
 fn object_of(alloc: Global, level: u32, bytes: &[u8]) -> Result<(Json, &[u8]), Stop>
     ensures { GivesAs (λ x. (x.0, x.1.now)) cause result (object_at (value_at level) bytes.now) }
 {
-    match members_of(alloc, level, bytes) {
-        Ok((members, rest)) => Ok((Json::Object(members), rest)),
-        Err(error) => Err(error),
-    }
+    let (members, rest) = members_of(alloc, level, bytes)?;
+    Ok((Json::Object(members), rest))
 }
 
 /// The members up to the closing brace, and the bytes after it.
@@ -148,10 +138,7 @@ fn members_of(alloc: Global, level: u32, bytes: &[u8]) -> Result<(Seq<Member>, &
     }
     let mut members = Members::new(alloc)?;
     for _ in 0..bytes.len() {
-        let (member, after) = match member_of(alloc, level, &members, rest) {
-            Ok(read) => read,
-            Err(error) => return Err(error),
-        };
+        let (member, after) = member_of(alloc, level, &members, rest)?;
         members = members.with(alloc, member)?;
         match first_of(after) {
             b',' => rest = after_first(after),

@@ -3,7 +3,8 @@
 ghost use Rattle.std.specs.Prelude.{◌≡◌, drop};
 ghost use Rattle.text_kit.specs.Answer.{GivesAs};
 ghost use Rattle.json_exact.specs.Reading.{is_white};
-ghost use Rattle.json_exact.specs.Reader.{cause, first, skip_white, after_word};
+ghost use Rattle.fixed_num.specs.Front.{first};
+ghost use Rattle.json_exact.specs.inner.Reader.{cause, skip_white, after_word};
 
 use crate::error::{Stop, fault_at};
 

@@ -1,16 +1,13 @@
 //! The text of a tree.
 
-ghost use Rattle.std.specs.Prelude.{◌≡◌, ◌∷◌, [], ◌++◌, ◌<◌, ◌/◌, ◌%◌, List, ℕ, codes, encode_utf8, IfOk, OnOk};
+ghost use Rattle.std.specs.Prelude.{◌≡◌, ◌∷◌, [], ◌++◌, ◌<◌, ◌/◌, ◌%◌, List, ℕ, map, codes, encode_utf8, IfOk, OnOk};
 ghost use Rattle.std.specs.Char.{digit_char};
-ghost use Rattle.fixed_num.specs.Decimal.{spelling};
 ghost use Rattle.json_exact.specs.Reading.{Reads};
 ghost use Rattle.json_exact.specs.declared.json.Json.{Json as Tree};
 ghost use Rattle.json_exact.specs.Writing.{escaped, quoted, text_of, member_text, with_commas};
 
 use crate::json::{Json, Member};
-use fixed_num::Num;
 use std::alloc::Global;
-use std::str;
 use text_kit::{OutOfMemory, Text};
 
 /// The JSON text (RFC 8259) of a tree, without spaces. A number out of range is written `1e99`.
@@ -37,7 +34,7 @@ fn push_value(out: &mut Text, tree: &Json) -> Result<(), OutOfMemory>
         Json::Null => out.push_str("null"),
         Json::Flag(true) => out.push_str("true"),
         Json::Flag(false) => out.push_str("false"),
-        Json::Number(number) => push_number(out, *number),
+        Json::Number(number) => out.push_str(number.decimal().as_str()),
         Json::Huge => out.push_str("1e99"),
         Json::Text(text) => push_quoted(out, text),
         Json::List(items) => {
@@ -55,7 +52,7 @@ fn push_value(out: &mut Text, tree: &Json) -> Result<(), OutOfMemory>
 
 #[cycle(writing)]
 fn push_items(out: &mut Text, items: &[Json]) -> Result<(), OutOfMemory>
-    ensures { OnOk result (out.new ≡ out.old ++ with_commas text_of items.now) }
+    ensures { OnOk result (out.new ≡ out.old ++ with_commas (map text_of items.now)) }
 {
     let [first, others @ ..] = items else {
         return Ok(());
@@ -70,7 +67,7 @@ fn push_items(out: &mut Text, items: &[Json]) -> Result<(), OutOfMemory>
 
 #[cycle(writing)]
 fn push_members(out: &mut Text, members: &[Member]) -> Result<(), OutOfMemory>
-    ensures { OnOk result (out.new ≡ out.old ++ with_commas member_text members.now) }
+    ensures { OnOk result (out.new ≡ out.old ++ with_commas (map member_text members.now)) }
 {
     let [first, others @ ..] = members else {
         return Ok(());
@@ -90,17 +87,6 @@ fn push_member(out: &mut Text, member: &Member) -> Result<(), OutOfMemory>
     push_quoted(out, &member.name)?;
     out.push_str(":")?;
     push_value(out, &member.value)
-}
-
-fn push_number(out: &mut Text, number: Num) -> Result<(), OutOfMemory>
-    ensures { OnOk result (out.new ≡ out.old ++ spelling number) }
-{
-    let mut buf = [0u8; 32];
-    let len = number.write_decimal(&mut buf);
-    match str::from_utf8(&buf[..len]) {
-        Ok(decimal) => out.push_str(decimal),
-        Err(_) => unreachable!(),
-    }
 }
 
 fn push_quoted(out: &mut Text, text: &Text) -> Result<(), OutOfMemory>

@@ -1,5 +1,5 @@
 -- What comes of drawing a chart.
-use Rattle.std.specs.Prelude.{ℕ, Option, Some, None}
+use Rattle.std.specs.Prelude.{ℕ, Option, Some, None, List, [], ◌∷◌}
 
 -- a picture or a part of one; a number out of range; or more panels than a chart may have
 pub data Outcome (X : Type 0) : Type 0 where
@@ -22,6 +22,14 @@ outcome_map f outcome = outcome >>= (λ x. Drawn (f x))
 abbrev pub in_reach : {X : Type 0} → Option X → Outcome X
 in_reach (Some x) = Drawn x
 in_reach None = Overflow
+
+-- all of the parts, if each is drawn; else what comes of the first that isn't
+abbrev pub all_drawn : {X : Type 0} → List (Outcome X) → Outcome (List X)
+all_drawn [] = Drawn []
+all_drawn (outcome ∷ outcomes) = do
+  x ← outcome
+  xs ← all_drawn outcomes
+  Drawn (x ∷ xs)
 
 -- it is drawn, and this holds of it
 abbrev pub IsDrawn : {X : Type 0} → Outcome X → (X → Type 0) → Type 0

@@ -1,7 +1,6 @@
 //! A scene: the panels of a picture with what is drawn in them. Places and sizes are numbers of pixels.
 #![tactic(auto)]
 
-mod copies;
 mod scene;
 mod shape;
 #[cfg(test)]

@@ -2,11 +2,10 @@
 ghost use Rattle.std.specs.Prelude.{◌≡◌, IfOk};
 
 use crate::Shape;
-use crate::copies::{copy_row, copy_text};
-use cell_value::{Copies, Key, Row, copy_list};
+use cell_value::{Key, Row};
 use fixed_num::Num;
 use std::alloc::Global;
-use text_kit::{OutOfMemory, Seq, Text};
+use text_kit::{Copies, OutOfMemory, Seq, Text, copy_list};
 
 /// A picture of this size, in pixels. Its panels are drawn in order.
 #[derive(Debug, Drop)]
@@ -82,7 +81,7 @@ impl Panel {
             width: self.width,
             height: self.height,
             view: self.view,
-            facet: copy_row(&self.facet)?,
+            facet: Copies::copied(&self.facet, alloc)?,
             items: copy_list(alloc, self.items.as_slice())?,
         })
     }
@@ -95,8 +94,8 @@ impl Item {
     {
         Ok(Item {
             shape: self.shape.copy(alloc)?,
-            fill: copy_text(&self.fill)?,
-            stroke: copy_text(&self.stroke)?,
+            fill: Copies::copied(&self.fill, alloc)?,
+            stroke: Copies::copied(&self.stroke, alloc)?,
             stroke_width: self.stroke_width,
             opacity: self.opacity,
             unit: self.unit,

@@ -102,14 +102,3 @@ fn a_copied_scene_has_all_of_its_parts(rt: HostRuntime) -> Result<(), Fail> {
     assert_eq!(rt; text.as_str(), "b");
     Ok(())
 }
-
-#[test]
-fn a_scene_without_panels_is_copied(rt: HostRuntime) -> Result<(), Fail> {
-    let scene = Scene {
-        width: pixels(10),
-        height: pixels(10),
-        panels: Seq::new(rt.alloc()),
-    };
-    assert!(rt; scene.copy(rt.alloc())?.panels.is_empty());
-    Ok(())
-}

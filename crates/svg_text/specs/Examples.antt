@@ -1,16 +1,18 @@
 -- Items and scenes as text, worked out.
-use Rattle.std.specs.Prelude.{◌≡◌, ℕ, ◌*◌, ℤ, pos, neg_ℤ, true, false, Option, Some, None, List, [], ◌∷◌, ◌++◌, codes, refl}
+use Rattle.std.specs.Prelude.{◌≡◌, ℕ, ◌*◌, ℤ, pos, neg_ℤ, Bool, true, false, Option, Some, None, List, [], ◌∷◌, ◌++◌, codes, refl}
 use Rattle.std.specs.Fmt.{digits}
 use Rattle.std.specs.Str.{chars}
 use lib.Utf8.{encode}
 use Rattle.fixed_num.specs.Number.{million}
 use Rattle.fixed_num.specs.Decimal.{spelling, size_spelling, fraction_spelling, fraction_digits}
 use Rattle.scene_tree.specs.declared.scene.Item.{Item}
+use Rattle.scene_tree.specs.declared.scene.Panel.{Panel}
 use Rattle.scene_tree.specs.declared.shape.Shape.{Shape}
 use Rattle.scene_tree.specs.declared.shape.Shape.TheVariants.{Rect, Circle, Path, Line, Words}
+use Rattle.scene_tree.specs.declared.shape.Point.{Point}
 use Rattle.scene_tree.specs.declared.shape.Point.TheVariants as point
 use Rattle.scene_tree.specs.declared.shape.Anchor.TheVariants.{Middle}
-use Rattle.svg_text.specs.SceneText.{item_text}
+use Rattle.svg_text.specs.SceneText.{xml_text, item_text, svg_of}
 
 abbrev pixels : ℕ → ℤ
 pixels n = pos (n * million)
@@ -28,12 +30,19 @@ a_circle : item_text (item (Circle (pixels 100) (pixels 10) (pos 2738613)) (Some
 unfolding spelling size_spelling fraction_spelling fraction_digits digits chars encode
 a_circle = refl
 
-a_path : item_text (item (Path (point.Move (pixels 0) (pixels 200) ∷ point.Line (pos 66666667) (pixels 100) ∷ point.Move (pixels 200) (pixels 0) ∷ []) None) None (Some (codes "#4c78a8")) (pixels 2) (pixels 1))
+abbrev steps : List Point
+steps = point.Move (pixels 0) (pixels 200) ∷ point.Line (pos 66666667) (pixels 100) ∷ point.Move (pixels 200) (pixels 0) ∷ []
+
+a_path : item_text (item (Path steps None) None (Some (codes "#4c78a8")) (pixels 2) (pixels 1))
     ≡ line (codes "<path d=\"M0,200 L66.666667,100 M200,0\" fill=\"none\" stroke=\"#4c78a8\" stroke-width=\"2\"/>")
 unfolding spelling size_spelling fraction_spelling fraction_digits digits chars encode
 a_path = refl
 
-a_header : item_text (item (Words (pixels 50) (neg_ℤ (pixels 5)) false Middle 10 false (codes "u")) (Some (codes "#000")) None (pixels 1) (pixels 1))
+-- a black text
+abbrev words : ℤ → ℤ → Bool → ℕ → List ℕ → Item
+words x y is_title size text = item (Words x y is_title Middle size is_title text) (Some (codes "#000")) None (pixels 1) (pixels 1)
+
+a_header : item_text (words (pixels 50) (neg_ℤ (pixels 5)) false 10 (codes "u"))
     ≡ line (codes "<text x=\"50\" y=\"-5\" text-anchor=\"middle\" font-size=\"10\" fill=\"#000\">u</text>")
 unfolding spelling size_spelling fraction_spelling fraction_digits digits chars encode
 a_header = refl
@@ -48,7 +57,29 @@ a_tick : item_text (item (Line (neg_ℤ (pixels 5)) (pixels 80) (pixels 0) (pixe
 unfolding spelling size_spelling fraction_spelling fraction_digits digits chars encode
 a_tick = refl
 
-a_turned_title : item_text (item (Words (neg_ℤ (pixels 17)) (pixels 40) true Middle 11 true (codes "b")) (Some (codes "#000")) None (pixels 1) (pixels 1))
-    ≡ line (codes "<text transform=\"translate(-17,40) rotate(-90)\" text-anchor=\"middle\" font-size=\"11\" font-weight=\"bold\" fill=\"#000\">b</text>")
+a_turned_title : item_text (words (neg_ℤ (pixels 17)) (pixels 40) true 11 (codes "b"))
+    ≡ line (codes "<text transform=\"translate(-17,40) rotate(-90)\" text-anchor=\"middle\""
+    ++ codes " font-size=\"11\" font-weight=\"bold\" fill=\"#000\">b</text>")
 unfolding spelling size_spelling fraction_spelling fraction_digits digits chars encode
 a_turned_title = refl
+
+-- whole pictures
+
+a_picture_without_panels : svg_of (record { width = pixels 10; height = pixels 210; panels = [] })
+    ≡ line (codes "<svg xmlns=\"http://www.w3.org/2000/svg\" version=\"1.1\" width=\"10\" height=\"210\" viewBox=\"0 0 10 210\">")
+    ++ line (codes "</svg>")
+unfolding spelling size_spelling fraction_spelling fraction_digits digits
+a_picture_without_panels = refl
+
+abbrev bare_panel : Panel
+bare_panel = record { x = pixels 5; y = pixels 5; width = pixels 1; height = pixels 2; view = None; facet = None; items = [] }
+
+a_picture_of_one_panel : svg_of (record { width = pixels 11; height = pixels 12; panels = bare_panel ∷ [] })
+    ≡ line (codes "<svg xmlns=\"http://www.w3.org/2000/svg\" version=\"1.1\" width=\"11\" height=\"12\" viewBox=\"0 0 11 12\">")
+    ++ line (codes "<g transform=\"translate(5,5)\">") ++ line (codes "</g>") ++ line (codes "</svg>")
+unfolding spelling size_spelling fraction_spelling fraction_digits digits
+a_picture_of_one_panel = refl
+
+markup_in_a_text : xml_text (codes "0 < &\"") ≡ codes "0 &lt; &amp;&quot;"
+unfolding chars encode
+markup_in_a_text = refl

@@ -1,4 +1,3 @@
-pub mod Examples
-pub mod Pieces
-pub mod Printing
 pub mod SceneText
+pub mod Examples
+pub mod inner

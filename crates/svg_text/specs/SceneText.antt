@@ -1,5 +1,5 @@
--- The SVG text of a scene.
-use Rattle.std.specs.Prelude.{ℕ, ◌*◌, ◌==◌, not, ◌||◌, ◌&&◌, ℤ, pos, Bool, true, false, Option, Some, None, List, [], ◌∷◌, ◌++◌, nat_lt, nat_le, if◌then◌else◌, codes, encode_utf8}
+-- The SVG text of a scene: SVG 1.1, in UTF-8.
+use Rattle.std.specs.Prelude.{◌≡◌, refl, ℕ, ◌*◌, ◌==◌, not, ◌||◌, ◌&&◌, ℤ, pos, Bool, true, false, Option, Some, None, List, [], ◌∷◌, ◌++◌, nat_lt, nat_le, if◌then◌else◌, codes, encode_utf8}
 use Rattle.std.specs.List.{flat_map}
 use Rattle.std.specs.Str.{chars}
 use Rattle.fixed_num.specs.Number.{million}
@@ -18,19 +18,35 @@ use Rattle.scene_tree.specs.declared.shape.Anchor.TheVariants.{Start, Middle, En
 abbrev pub is_control : ℕ → Bool
 is_control c = nat_lt c 32 || (nat_le 127 c && nat_lt c 160)
 
--- a control other than tab, line feed and carriage return, or one of U+FFFE and U+FFFF
+-- what is printed as U+FFFD: a control other than tab, line feed and carriage return, and U+FFFE and U+FFFF, which XML 1.0 can't hold
 abbrev pub is_unprintable : ℕ → Bool
 is_unprintable c = (is_control c && not (c == 9 || c == 10 || c == 13)) || c == 65534 || c == 65535
 
--- a character in a text of XML: markup as entities, and what XML can't hold as U+FFFD
-abbrev pub escape_of : ℕ → List ℕ
-escape_of c =
-    if c == 38 then codes "&amp;" else (if c == 60 then codes "&lt;" else (if c == 62 then codes "&gt;" else (if c == 34 then codes "&quot;"
-    else (if is_unprintable c then encode_utf8 65533 else encode_utf8 c))))
+-- a character in a text of XML 1.0: markup as entities, and any other as it is where it is printable
+abbrev pub xml_char : ℕ → List ℕ
+xml_char c =
+    if c == 38 then codes "&amp;"
+    else (if c == 60 then codes "&lt;"
+    else (if c == 62 then codes "&gt;"
+    else (if c == 34 then codes "&quot;"
+    else (if is_unprintable c then encode_utf8 65533
+    else encode_utf8 c))))
+
+a_delete : is_unprintable 127 ≡ true
+a_delete = refl
+
+the_first_after_the_controls : is_unprintable 160 ≡ false
+the_first_after_the_controls = refl
+
+a_line_feed : is_unprintable 10 ≡ false
+a_line_feed = refl
+
+no_character : is_unprintable 0xFFFE ≡ true
+no_character = refl
 
 -- a text in XML
-abbrev pub escaped : List ℕ → List ℕ
-escaped text = flat_map escape_of (chars text)
+abbrev pub xml_text : List ℕ → List ℕ
+xml_text text = flat_map xml_char (chars text)
 
 -- an attribute, with a space before it
 abbrev pub attribute : List ℕ → List ℕ → List ℕ
@@ -54,10 +70,14 @@ abbrev pub path_text : List Point → List ℕ
 path_text [] = []
 path_text (first ∷ others) = point_text first ++ flat_map (λ p. codes " " ++ point_text p) others
 
+-- the way to where a turned text stands
+abbrev pub turned_text : ℤ → ℤ → List ℕ
+turned_text x y = attribute (codes "transform") (codes "translate(" ++ pair_text x y ++ codes ") rotate(-90)")
+
 -- where a text stands: its place, or for a turned one the way there
 abbrev pub place_text : Bool → ℤ → ℤ → List ℕ
 place_text false x y = numeric_attribute (codes "x") x ++ numeric_attribute (codes "y") y
-place_text true x y = attribute (codes "transform") (codes "translate(" ++ pair_text x y ++ codes ") rotate(-90)")
+place_text true x y = turned_text x y
 
 -- which part of a text stands at its place
 abbrev pub anchor_text : Anchor → List ℕ
@@ -70,27 +90,51 @@ abbrev pub weight_text : Bool → List ℕ
 weight_text true = attribute (codes "font-weight") (codes "bold")
 weight_text false = []
 
+-- which part of a text stands at its place, and its size
+abbrev pub font_text : List ℕ → ℤ → List ℕ
+font_text anchor size = attribute (codes "text-anchor") anchor ++ numeric_attribute (codes "font-size") size
+
+-- how a text is written: its anchor, its size in pixels, and whether it is bold
+abbrev pub letters_text : Anchor → ℕ → Bool → List ℕ
+letters_text anchor size bold = font_text (anchor_text anchor) (pos (size * million)) ++ weight_text bold
+
+-- where a text stands and how it is written
+abbrev pub words_text : ℤ → ℤ → Bool → Anchor → ℕ → Bool → List ℕ
+words_text x y turned anchor size bold = codes "text" ++ place_text turned x y ++ letters_text anchor size bold
+
+-- a path, by its steps
+abbrev pub path_element : List Point → List ℕ
+path_element points = codes "path" ++ attribute (codes "d") (path_text points)
+
+-- a circle, by its centre and its radius
+abbrev pub circle_text : ℤ → ℤ → ℤ → List ℕ
+circle_text x y r =
+    codes "circle" ++ numeric_attribute (codes "cx") x ++ numeric_attribute (codes "cy") y ++ numeric_attribute (codes "r") r
+
 -- a shape, as an element's name and the attributes of its place
 abbrev pub shape_text : Shape → List ℕ
 shape_text (Rect x y width height) = codes "rect" ++ numeric_attribute (codes "x") x ++ numeric_attribute (codes "y") y
     ++ numeric_attribute (codes "width") width ++ numeric_attribute (codes "height") height
-shape_text (Circle x y r) = codes "circle" ++ numeric_attribute (codes "cx") x ++ numeric_attribute (codes "cy") y ++ numeric_attribute (codes "r") r
-shape_text (Path points picked) = codes "path" ++ attribute (codes "d") (path_text points)
+shape_text (Circle x y r) = circle_text x y r
+shape_text (Path points picked) = path_element points
 shape_text (Line x1 y1 x2 y2) = codes "line" ++ numeric_attribute (codes "x1") x1 ++ numeric_attribute (codes "y1") y1
     ++ numeric_attribute (codes "x2") x2 ++ numeric_attribute (codes "y2") y2
-shape_text (Words x y turned anchor size bold text) = codes "text" ++ place_text turned x y ++ attribute (codes "text-anchor") (anchor_text anchor)
-    ++ numeric_attribute (codes "font-size") (pos (size * million)) ++ weight_text bold
+shape_text (Words x y turned anchor size bold text) = words_text x y turned anchor size bold
 
 -- the fill, or `none` where there is only a stroke; a line has none
 abbrev pub fill_text : Shape → Option (List ℕ) → Option (List ℕ) → List ℕ
 fill_text (Line x1 y1 x2 y2) fill stroke = []
-fill_text shape (Some fill) stroke = attribute (codes "fill") (escaped fill)
+fill_text shape (Some fill) stroke = attribute (codes "fill") (xml_text fill)
 fill_text shape None (Some stroke) = attribute (codes "fill") (codes "none")
 fill_text shape None None = []
 
--- the stroke with its width, if there is one
+-- a stroke with its width
+abbrev pub outline_text : List ℕ → ℤ → List ℕ
+outline_text stroke width = attribute (codes "stroke") (xml_text stroke) ++ numeric_attribute (codes "stroke-width") width
+
+-- the stroke, if there is one
 abbrev pub stroke_text : Option (List ℕ) → ℤ → List ℕ
-stroke_text (Some stroke) width = attribute (codes "stroke") (escaped stroke) ++ numeric_attribute (codes "stroke-width") width
+stroke_text (Some stroke) width = outline_text stroke width
 stroke_text None width = []
 
 -- the opacity, unless it is 1
@@ -100,18 +144,24 @@ opacity_text m = numeric_attribute (codes "opacity") m
 
 -- the end of an element: a text holds its words, and all others hold nothing
 abbrev pub end_text : Shape → List ℕ
-end_text (Words x y turned anchor size bold text) = codes ">" ++ escaped text ++ codes "</text>\n"
+end_text (Words x y turned anchor size bold text) = codes ">" ++ xml_text text ++ codes "</text>\n"
 end_text shape = codes "/>\n"
+
+-- the colours of an item
+abbrev pub paint_text : Item → List ℕ
+paint_text item = fill_text item.shape item.fill item.stroke ++ stroke_text item.stroke item.stroke_width ++ opacity_text item.opacity
 
 -- an item is one line
 abbrev pub item_text : Item → List ℕ
-item_text item = codes "<" ++ shape_text item.shape ++ fill_text item.shape item.fill item.stroke ++ stroke_text item.stroke item.stroke_width
-    ++ opacity_text item.opacity ++ end_text item.shape
+item_text item = codes "<" ++ shape_text item.shape ++ paint_text item ++ end_text item.shape
+
+-- the beginning of a group that is moved to an origin
+abbrev pub origin_text : ℤ → ℤ → List ℕ
+origin_text x y = codes "<g transform=\"translate(" ++ pair_text x y ++ codes ")\">\n"
 
 -- a panel is a group, moved to its origin
 abbrev pub panel_text : Panel → List ℕ
-panel_text panel = codes "<g transform=\"translate(" ++ pair_text panel.x panel.y ++ codes ")\">\n"
-    ++ flat_map item_text panel.items ++ codes "</g>\n"
+panel_text panel = origin_text panel.x panel.y ++ flat_map item_text panel.items ++ codes "</g>\n"
 
 -- the first line, with the size of the picture
 abbrev pub head_text : ℤ → ℤ → List ℕ

@@ -1,7 +1,6 @@
 // A page of text, on its way to a sink.
-ghost use Rattle.std.specs.Prelude.{◌≡◌, [], ◌++◌, ◌-◌, ◌<◌, ◌≤◌, length, nat_le, min, take, IfOk, OnOk, OnErr};
-ghost use Rattle.chart_io.specs.Outside.{Rose, Kept, Appended};
-ghost use Rattle.svg_text.specs.Printing.{printed, Grown, Begins};
+ghost use Rattle.std.specs.Prelude.{◌≡◌, [], ◌++◌, ◌-◌, ◌<◌, ◌≤◌, length, nat_le, min, take, OnOk};
+ghost use Rattle.svg_text.specs.inner.Printing.{Prints};
 ghost use Rattle.svg_text.specs.declared.page.TheConstants.{PAGE_SIZE};
 
 use chart_io::{Sink, WriteFault, write_all};
@@ -73,14 +72,9 @@ impl Page {
 }
 
 // Hands what waits on the page on to the sink, and makes it empty.
-#[tactic(auto, using(crate::proofs::Steps::handed_on, crate::proofs::Steps::handed_on_some))]
 pub fn hand_on<K: Sink>(out: &mut K, page: &mut Page) -> Result<(), WriteFault>
-    ensures counted { K.faults out.old ≤ K.faults out.new }
-    ensures cause { OnErr result (Rose (K.faults out.old) (K.faults out.new)) }
+    ensures prints { Prints K.faults K.held out.old page.old out.new page.new result [] }
     ensures emptied { OnOk result (page.new ≡ []) }
-    ensures ok { OnOk result (Kept (printed (K.held out.old) page.old) (printed (K.held out.new) page.new)) }
-    ensures grown { Grown (K.held out.old) (K.held out.new) }
-    ensures prefix { Begins (printed (K.held out.old) page.old) (K.held out.new) [] }
 {
     write_all(out, page.waiting())?;
     page.clear();
@@ -88,14 +82,9 @@ pub fn hand_on<K: Sink>(out: &mut K, page: &mut Page) -> Result<(), WriteFault>
 }
 
 // Hands the page on where it is full.
-#[tactic(auto, using(crate::proofs::Steps::holds))]
 fn make_room<K: Sink>(out: &mut K, page: &mut Page) -> Result<(), WriteFault>
-    ensures counted { K.faults out.old ≤ K.faults out.new }
-    ensures cause { OnErr result (Rose (K.faults out.old) (K.faults out.new)) }
+    ensures prints { Prints K.faults K.held out.old page.old out.new page.new result [] }
     ensures room { OnOk result (length page.new < PAGE_SIZE) }
-    ensures ok { OnOk result (Kept (printed (K.held out.old) page.old) (printed (K.held out.new) page.new)) }
-    ensures grown { Grown (K.held out.old) (K.held out.new) }
-    ensures prefix { Begins (printed (K.held out.old) page.old) (K.held out.new) [] }
 {
     if !page.is_full() {
         return Ok(());
@@ -103,33 +92,14 @@ fn make_room<K: Sink>(out: &mut K, page: &mut Page) -> Result<(), WriteFault>
     hand_on(out, page)
 }
 
-// Prints a front of the bytes, as long as the page has room for, and says how long it is.
-#[tactic(auto, using(crate::proofs::Steps::more_waits))]
-fn put_front<K: Sink>(out: &mut K, page: &mut Page, bytes: &[u8]) -> Result<usize, WriteFault>
-    requires { 0 < length bytes.now }
-    ensures counted { K.faults out.old ≤ K.faults out.new }
-    ensures cause { OnErr result (Rose (K.faults out.old) (K.faults out.new)) }
-    ensures within { IfOk result (λ n. (1 ≤ n) × (n ≤ length bytes.now)) }
-    ensures ok { IfOk result (λ n. Appended (printed (K.held out.old) page.old) (printed (K.held out.new) page.new) (take n bytes.now)) }
-    ensures grown { Grown (K.held out.old) (K.held out.new) }
-    ensures prefix { Begins (printed (K.held out.old) page.old) (K.held out.new) [] }
-{
-    make_room(out, page)?;
-    Ok(page.fill(bytes))
-}
-
 // Prints the bytes by way of the page, and hands it on each time it is full.
-#[tactic(auto, using(crate::proofs::Steps::holds, crate::proofs::Steps::nothing_printed, crate::proofs::Steps::grown_not))]
 pub fn put<K: Sink>(out: &mut K, page: &mut Page, bytes: &[u8]) -> Result<(), WriteFault>
-    ensures counted { K.faults out.old ≤ K.faults out.new }
-    ensures cause { OnErr result (Rose (K.faults out.old) (K.faults out.new)) }
-    ensures ok { OnOk result (Appended (printed (K.held out.old) page.old) (printed (K.held out.new) page.new) bytes.now) }
-    ensures grown { Grown (K.held out.old) (K.held out.new) }
-    ensures prefix { Begins (printed (K.held out.old) page.old) (K.held out.new) bytes.now }
+    ensures { Prints K.faults K.held out.old page.old out.new page.new result bytes.now }
 {
     let mut at = 0;
     while at < bytes.len() {
-        at += put_front(out, page, &bytes[at..])?;
+        make_room(out, page)?;
+        at += page.fill(&bytes[at..]);
     }
     Ok(())
 }

@@ -1,11 +1,10 @@
 // Texts in pieces, printed by way of a page.
-ghost use Rattle.std.specs.Prelude.{◌≡◌, ◌≤◌, encode_utf8, OnOk, OnErr};
+ghost use Rattle.std.specs.Prelude.{◌≡◌, encode_utf8};
 ghost use Rattle.std.specs.List.{flat_map};
 ghost use Rattle.fixed_num.specs.Decimal.{spelling};
-ghost use Rattle.chart_io.specs.Outside.{Rose, Appended};
-ghost use Rattle.svg_text.specs.Pieces.{piece_text, attribute_text};
-ghost use Rattle.svg_text.specs.Printing.{printed, Grown, Begins};
-ghost use Rattle.svg_text.specs.SceneText.{escape_of, escaped};
+ghost use Rattle.svg_text.specs.inner.Pieces.{piece_text, attribute_text};
+ghost use Rattle.svg_text.specs.inner.Printing.{Prints};
+ghost use Rattle.svg_text.specs.SceneText.{xml_char, xml_text};
 
 use crate::page::{Page, put};
 use chart_io::{Sink, WriteFault};
@@ -45,35 +44,21 @@ pub fn numeric(name: &str, number: Num) -> Attribute<'_>
 
 // The text as it stands.
 pub fn put_text<K: Sink>(out: &mut K, page: &mut Page, text: &str) -> Result<(), WriteFault>
-    ensures counted { K.faults out.old ≤ K.faults out.new }
-    ensures cause { OnErr result (Rose (K.faults out.old) (K.faults out.new)) }
-    ensures ok { OnOk result (Appended (printed (K.held out.old) page.old) (printed (K.held out.new) page.new) text.now) }
-    ensures grown { Grown (K.held out.old) (K.held out.new) }
-    ensures prefix { Begins (printed (K.held out.old) page.old) (K.held out.new) text.now }
+    ensures { Prints K.faults K.held out.old page.old out.new page.new result text.now }
 {
     put(out, page, text.as_bytes())
 }
 
 // The number.
 fn put_number<K: Sink>(out: &mut K, page: &mut Page, number: Num) -> Result<(), WriteFault>
-    ensures counted { K.faults out.old ≤ K.faults out.new }
-    ensures cause { OnErr result (Rose (K.faults out.old) (K.faults out.new)) }
-    ensures ok { OnOk result (Appended (printed (K.held out.old) page.old) (printed (K.held out.new) page.new) (spelling number)) }
-    ensures grown { Grown (K.held out.old) (K.held out.new) }
-    ensures prefix { Begins (printed (K.held out.old) page.old) (K.held out.new) (spelling number) }
+    ensures { Prints K.faults K.held out.old page.old out.new page.new result (spelling number) }
 {
-    let mut buf = [0u8; 32];
-    let len = number.write_decimal(&mut buf);
-    put(out, page, &buf[..len])
+    put_text(out, page, number.decimal().as_str())
 }
 
 // The character as it stands.
 fn put_char<K: Sink>(out: &mut K, page: &mut Page, c: char) -> Result<(), WriteFault>
-    ensures counted { K.faults out.old ≤ K.faults out.new }
-    ensures cause { OnErr result (Rose (K.faults out.old) (K.faults out.new)) }
-    ensures ok { OnOk result (Appended (printed (K.held out.old) page.old) (printed (K.held out.new) page.new) (encode_utf8 c)) }
-    ensures grown { Grown (K.held out.old) (K.held out.new) }
-    ensures prefix { Begins (printed (K.held out.old) page.old) (K.held out.new) (encode_utf8 c) }
+    ensures { Prints K.faults K.held out.old page.old out.new page.new result (encode_utf8 c) }
 {
     let mut buf = [0u8; 4];
     put_text(out, page, c.encode_utf8(&mut buf))
@@ -81,11 +66,7 @@ fn put_char<K: Sink>(out: &mut K, page: &mut Page, c: char) -> Result<(), WriteF
 
 // The character in a text of XML.
 fn put_escape<K: Sink>(out: &mut K, page: &mut Page, c: char) -> Result<(), WriteFault>
-    ensures counted { K.faults out.old ≤ K.faults out.new }
-    ensures cause { OnErr result (Rose (K.faults out.old) (K.faults out.new)) }
-    ensures ok { OnOk result (Appended (printed (K.held out.old) page.old) (printed (K.held out.new) page.new) (escape_of c)) }
-    ensures grown { Grown (K.held out.old) (K.held out.new) }
-    ensures prefix { Begins (printed (K.held out.old) page.old) (K.held out.new) (escape_of c) }
+    ensures { Prints K.faults K.held out.old page.old out.new page.new result (xml_char c) }
 {
     match c {
         '&' => put_text(out, page, "&amp;"),
@@ -101,13 +82,8 @@ fn put_escape<K: Sink>(out: &mut K, page: &mut Page, c: char) -> Result<(), Writ
 }
 
 // The text in XML.
-#[tactic(auto, using(crate::proofs::Steps::nothing_printed, crate::proofs::Steps::grown_not))]
 pub fn put_escaped<K: Sink>(out: &mut K, page: &mut Page, text: &Text) -> Result<(), WriteFault>
-    ensures counted { K.faults out.old ≤ K.faults out.new }
-    ensures cause { OnErr result (Rose (K.faults out.old) (K.faults out.new)) }
-    ensures ok { OnOk result (Appended (printed (K.held out.old) page.old) (printed (K.held out.new) page.new) (escaped text.now)) }
-    ensures grown { Grown (K.held out.old) (K.held out.new) }
-    ensures prefix { Begins (printed (K.held out.old) page.old) (K.held out.new) (escaped text.now) }
+    ensures { Prints K.faults K.held out.old page.old out.new page.new result (xml_text text.now) }
 {
     for c in text.as_str().chars() {
         put_escape(out, page, c)?;
@@ -117,11 +93,7 @@ pub fn put_escaped<K: Sink>(out: &mut K, page: &mut Page, text: &Text) -> Result
 
 // The piece.
 fn put_piece<K: Sink>(out: &mut K, page: &mut Page, piece: &Piece<'_>) -> Result<(), WriteFault>
-    ensures counted { K.faults out.old ≤ K.faults out.new }
-    ensures cause { OnErr result (Rose (K.faults out.old) (K.faults out.new)) }
-    ensures ok { OnOk result (Appended (printed (K.held out.old) page.old) (printed (K.held out.new) page.new) (piece_text piece.now)) }
-    ensures grown { Grown (K.held out.old) (K.held out.new) }
-    ensures prefix { Begins (printed (K.held out.old) page.old) (K.held out.new) (piece_text piece.now) }
+    ensures { Prints K.faults K.held out.old page.old out.new page.new result (piece_text piece.now) }
 {
     match piece {
         Piece::Plain(text) => put_text(out, page, text),
@@ -131,17 +103,12 @@ fn put_piece<K: Sink>(out: &mut K, page: &mut Page, piece: &Piece<'_>) -> Result
 }
 
 // The pieces, one after another.
-#[tactic(auto, using(crate::proofs::Steps::nothing_printed, crate::proofs::Steps::grown_not))]
 pub fn put_pieces<K: Sink>(
     out: &mut K,
     page: &mut Page,
     pieces: &[Piece<'_>],
 ) -> Result<(), WriteFault>
-    ensures counted { K.faults out.old ≤ K.faults out.new }
-    ensures cause { OnErr result (Rose (K.faults out.old) (K.faults out.new)) }
-    ensures ok { OnOk result (Appended (printed (K.held out.old) page.old) (printed (K.held out.new) page.new) (flat_map piece_text pieces.now)) }
-    ensures grown { Grown (K.held out.old) (K.held out.new) }
-    ensures prefix { Begins (printed (K.held out.old) page.old) (K.held out.new) (flat_map piece_text pieces.now) }
+    ensures { Prints K.faults K.held out.old page.old out.new page.new result (flat_map piece_text pieces.now) }
 {
     for piece in pieces {
         put_piece(out, page, piece)?;
@@ -155,11 +122,7 @@ fn put_attribute<K: Sink>(
     page: &mut Page,
     attribute: &Attribute<'_>,
 ) -> Result<(), WriteFault>
-    ensures counted { K.faults out.old ≤ K.faults out.new }
-    ensures cause { OnErr result (Rose (K.faults out.old) (K.faults out.new)) }
-    ensures ok { OnOk result (Appended (printed (K.held out.old) page.old) (printed (K.held out.new) page.new) (attribute_text attribute.now)) }
-    ensures grown { Grown (K.held out.old) (K.held out.new) }
-    ensures prefix { Begins (printed (K.held out.old) page.old) (K.held out.new) (attribute_text attribute.now) }
+    ensures { Prints K.faults K.held out.old page.old out.new page.new result (attribute_text attribute.now) }
 {
     let name = [
         Piece::Plain(" "),
@@ -172,17 +135,12 @@ fn put_attribute<K: Sink>(
 }
 
 // The attributes, one after another.
-#[tactic(auto, using(crate::proofs::Steps::nothing_printed, crate::proofs::Steps::grown_not))]
 pub fn put_attributes<K: Sink>(
     out: &mut K,
     page: &mut Page,
     attributes: &[Attribute<'_>],
 ) -> Result<(), WriteFault>
-    ensures counted { K.faults out.old ≤ K.faults out.new }
-    ensures cause { OnErr result (Rose (K.faults out.old) (K.faults out.new)) }
-    ensures ok { OnOk result (Appended (printed (K.held out.old) page.old) (printed (K.held out.new) page.new) (flat_map attribute_text attributes.now)) }
-    ensures grown { Grown (K.held out.old) (K.held out.new) }
-    ensures prefix { Begins (printed (K.held out.old) page.old) (K.held out.new) (flat_map attribute_text attributes.now) }
+    ensures { Prints K.faults K.held out.old page.old out.new page.new result (flat_map attribute_text attributes.now) }
 {
     for attribute in attributes {
         put_attribute(out, page, attribute)?;

@@ -2,9 +2,9 @@
 ghost use Rattle.std.specs.Prelude.{◌≡◌, ◌++◌, ◌≤◌, codes, OnOk, OnErr};
 ghost use Rattle.std.specs.List.{flat_map};
 ghost use Rattle.chart_io.specs.Outside.{Rose, Appended, AppendedPrefix};
-ghost use Rattle.svg_text.specs.Pieces.{piece_text};
-ghost use Rattle.svg_text.specs.Printing.{printed, Grown, Begins};
-ghost use Rattle.svg_text.specs.SceneText.{escaped, attribute, numeric_attribute, pair_text, shape_text, fill_text, stroke_text, opacity_text, end_text, item_text, panel_text, head_text, svg_of};
+ghost use Rattle.svg_text.specs.inner.Pieces.{piece_text};
+ghost use Rattle.svg_text.specs.inner.Printing.{Prints};
+ghost use Rattle.svg_text.specs.SceneText.{xml_text, attribute, shape_text, fill_text, outline_text, stroke_text, opacity_text, paint_text, end_text, item_text, origin_text, panel_text, head_text, svg_of};
 
 use crate::page::{Page, hand_on};
 use crate::pieces::{Attribute, Piece, numeric, put_attributes, put_pieces, put_text};
@@ -17,7 +17,7 @@ use text_kit::Text;
 // An attribute with this text.
 fn worded<'a>(name: &'a str, text: &'a Text) -> Attribute<'a>
     ensures name { result.name.now ≡ name.now }
-    ensures value { piece_text result.value ≡ escaped text.now }
+    ensures value { piece_text result.value ≡ xml_text text.now }
 {
     Attribute {
         name,
@@ -27,11 +27,7 @@ fn worded<'a>(name: &'a str, text: &'a Text) -> Attribute<'a>
 
 // A fill by a word that needs no escape.
 fn put_no_fill<K: Sink>(out: &mut K, page: &mut Page, none: &str) -> Result<(), WriteFault>
-    ensures counted { K.faults out.old ≤ K.faults out.new }
-    ensures cause { OnErr result (Rose (K.faults out.old) (K.faults out.new)) }
-    ensures ok { OnOk result (Appended (printed (K.held out.old) page.old) (printed (K.held out.new) page.new) (attribute (codes "fill") none.now)) }
-    ensures grown { Grown (K.held out.old) (K.held out.new) }
-    ensures prefix { Begins (printed (K.held out.old) page.old) (K.held out.new) (attribute (codes "fill") none.now) }
+    ensures { Prints K.faults K.held out.old page.old out.new page.new result (attribute (codes "fill") none.now) }
 {
     let fill = Attribute {
         name: "fill",
@@ -41,13 +37,8 @@ fn put_no_fill<K: Sink>(out: &mut K, page: &mut Page, none: &str) -> Result<(), 
 }
 
 // The fill of the item.
-#[tactic(auto, using(crate::proofs::Steps::holds, crate::proofs::Steps::nothing_printed, crate::proofs::Steps::grown_not))]
 fn put_fill<K: Sink>(out: &mut K, page: &mut Page, item: &Item) -> Result<(), WriteFault>
-    ensures counted { K.faults out.old ≤ K.faults out.new }
-    ensures cause { OnErr result (Rose (K.faults out.old) (K.faults out.new)) }
-    ensures ok { OnOk result (Appended (printed (K.held out.old) page.old) (printed (K.held out.new) page.new) (fill_text item.now.shape item.now.fill item.now.stroke)) }
-    ensures grown { Grown (K.held out.old) (K.held out.new) }
-    ensures prefix { Begins (printed (K.held out.old) page.old) (K.held out.new) (fill_text item.now.shape item.now.fill item.now.stroke) }
+    ensures { Prints K.faults K.held out.old page.old out.new page.new result (fill_text item.now.shape item.now.fill item.now.stroke) }
 {
     match (&item.shape, &item.fill, &item.stroke) {
         (Shape::Line { .. }, _, _) => Ok(()),
@@ -64,11 +55,7 @@ fn put_outline<K: Sink>(
     stroke: &Text,
     width: Num,
 ) -> Result<(), WriteFault>
-    ensures counted { K.faults out.old ≤ K.faults out.new }
-    ensures cause { OnErr result (Rose (K.faults out.old) (K.faults out.new)) }
-    ensures ok { OnOk result (Appended (printed (K.held out.old) page.old) (printed (K.held out.new) page.new) (attribute (codes "stroke") (escaped stroke.now) ++ numeric_attribute (codes "stroke-width") width)) }
-    ensures grown { Grown (K.held out.old) (K.held out.new) }
-    ensures prefix { Begins (printed (K.held out.old) page.old) (K.held out.new) (attribute (codes "stroke") (escaped stroke.now) ++ numeric_attribute (codes "stroke-width") width) }
+    ensures { Prints K.faults K.held out.old page.old out.new page.new result (outline_text stroke.now width) }
 {
     put_pieces(
         out,
@@ -80,18 +67,12 @@ fn put_outline<K: Sink>(
             Piece::Number(width),
             Piece::Plain("\""),
         ],
-    )?;
-    Ok(())
+    )
 }
 
 // The stroke of the item.
-#[tactic(auto, using(crate::proofs::Steps::holds, crate::proofs::Steps::nothing_printed, crate::proofs::Steps::grown_not))]
 fn put_stroke<K: Sink>(out: &mut K, page: &mut Page, item: &Item) -> Result<(), WriteFault>
-    ensures counted { K.faults out.old ≤ K.faults out.new }
-    ensures cause { OnErr result (Rose (K.faults out.old) (K.faults out.new)) }
-    ensures ok { OnOk result (Appended (printed (K.held out.old) page.old) (printed (K.held out.new) page.new) (stroke_text item.now.stroke item.now.stroke_width)) }
-    ensures grown { Grown (K.held out.old) (K.held out.new) }
-    ensures prefix { Begins (printed (K.held out.old) page.old) (K.held out.new) (stroke_text item.now.stroke item.now.stroke_width) }
+    ensures { Prints K.faults K.held out.old page.old out.new page.new result (stroke_text item.now.stroke item.now.stroke_width) }
 {
     let Some(stroke) = &item.stroke else {
         return Ok(());
@@ -100,13 +81,8 @@ fn put_stroke<K: Sink>(out: &mut K, page: &mut Page, item: &Item) -> Result<(), 
 }
 
 // The opacity.
-#[tactic(auto, using(crate::proofs::Steps::holds, crate::proofs::Steps::nothing_printed, crate::proofs::Steps::grown_not))]
 fn put_opacity<K: Sink>(out: &mut K, page: &mut Page, opacity: Num) -> Result<(), WriteFault>
-    ensures counted { K.faults out.old ≤ K.faults out.new }
-    ensures cause { OnErr result (Rose (K.faults out.old) (K.faults out.new)) }
-    ensures ok { OnOk result (Appended (printed (K.held out.old) page.old) (printed (K.held out.new) page.new) (opacity_text opacity)) }
-    ensures grown { Grown (K.held out.old) (K.held out.new) }
-    ensures prefix { Begins (printed (K.held out.old) page.old) (K.held out.new) (opacity_text opacity) }
+    ensures { Prints K.faults K.held out.old page.old out.new page.new result (opacity_text opacity) }
 {
     if opacity.millionths() == 1_000_000 {
         return Ok(());
@@ -116,25 +92,16 @@ fn put_opacity<K: Sink>(out: &mut K, page: &mut Page, opacity: Num) -> Result<()
 
 // The colours of the item.
 fn put_paint<K: Sink>(out: &mut K, page: &mut Page, item: &Item) -> Result<(), WriteFault>
-    ensures counted { K.faults out.old ≤ K.faults out.new }
-    ensures cause { OnErr result (Rose (K.faults out.old) (K.faults out.new)) }
-    ensures ok { OnOk result (Appended (printed (K.held out.old) page.old) (printed (K.held out.new) page.new) (fill_text item.now.shape item.now.fill item.now.stroke ++ stroke_text item.now.stroke item.now.stroke_width ++ opacity_text item.now.opacity)) }
-    ensures grown { Grown (K.held out.old) (K.held out.new) }
-    ensures prefix { Begins (printed (K.held out.old) page.old) (K.held out.new) (fill_text item.now.shape item.now.fill item.now.stroke ++ stroke_text item.now.stroke item.now.stroke_width ++ opacity_text item.now.opacity) }
+    ensures { Prints K.faults K.held out.old page.old out.new page.new result (paint_text item.now) }
 {
     put_fill(out, page, item)?;
     put_stroke(out, page, item)?;
-    put_opacity(out, page, item.opacity)?;
-    Ok(())
+    put_opacity(out, page, item.opacity)
 }
 
 // The end of an element.
 fn put_end<K: Sink>(out: &mut K, page: &mut Page, shape: &Shape) -> Result<(), WriteFault>
-    ensures counted { K.faults out.old ≤ K.faults out.new }
-    ensures cause { OnErr result (Rose (K.faults out.old) (K.faults out.new)) }
-    ensures ok { OnOk result (Appended (printed (K.held out.old) page.old) (printed (K.held out.new) page.new) (end_text shape.now)) }
-    ensures grown { Grown (K.held out.old) (K.held out.new) }
-    ensures prefix { Begins (printed (K.held out.old) page.old) (K.held out.new) (end_text shape.now) }
+    ensures { Prints K.faults K.held out.old page.old out.new page.new result (end_text shape.now) }
 {
     match shape {
         Shape::Words { text, .. } => put_pieces(
@@ -154,39 +121,24 @@ fn put_end<K: Sink>(out: &mut K, page: &mut Page, shape: &Shape) -> Result<(), W
 
 // The beginning of an element.
 fn put_element<K: Sink>(out: &mut K, page: &mut Page, shape: &Shape) -> Result<(), WriteFault>
-    ensures counted { K.faults out.old ≤ K.faults out.new }
-    ensures cause { OnErr result (Rose (K.faults out.old) (K.faults out.new)) }
-    ensures ok { OnOk result (Appended (printed (K.held out.old) page.old) (printed (K.held out.new) page.new) (codes "<" ++ shape_text shape.now)) }
-    ensures grown { Grown (K.held out.old) (K.held out.new) }
-    ensures prefix { Begins (printed (K.held out.old) page.old) (K.held out.new) (codes "<" ++ shape_text shape.now) }
+    ensures { Prints K.faults K.held out.old page.old out.new page.new result (codes "<" ++ shape_text shape.now) }
 {
     put_text(out, page, "<")?;
-    put_shape(out, page, shape)?;
-    Ok(())
+    put_shape(out, page, shape)
 }
 
 // The item, as a line.
 fn put_item<K: Sink>(out: &mut K, page: &mut Page, item: &Item) -> Result<(), WriteFault>
-    ensures counted { K.faults out.old ≤ K.faults out.new }
-    ensures cause { OnErr result (Rose (K.faults out.old) (K.faults out.new)) }
-    ensures ok { OnOk result (Appended (printed (K.held out.old) page.old) (printed (K.held out.new) page.new) (item_text item.now)) }
-    ensures grown { Grown (K.held out.old) (K.held out.new) }
-    ensures prefix { Begins (printed (K.held out.old) page.old) (K.held out.new) (item_text item.now) }
+    ensures { Prints K.faults K.held out.old page.old out.new page.new result (item_text item.now) }
 {
     put_element(out, page, &item.shape)?;
     put_paint(out, page, item)?;
-    put_end(out, page, &item.shape)?;
-    Ok(())
+    put_end(out, page, &item.shape)
 }
 
 // The items in order.
-#[tactic(auto, using(crate::proofs::Steps::nothing_printed, crate::proofs::Steps::grown_not))]
 fn put_items<K: Sink>(out: &mut K, page: &mut Page, items: &[Item]) -> Result<(), WriteFault>
-    ensures counted { K.faults out.old ≤ K.faults out.new }
-    ensures cause { OnErr result (Rose (K.faults out.old) (K.faults out.new)) }
-    ensures ok { OnOk result (Appended (printed (K.held out.old) page.old) (printed (K.held out.new) page.new) (flat_map item_text items.now)) }
-    ensures grown { Grown (K.held out.old) (K.held out.new) }
-    ensures prefix { Begins (printed (K.held out.old) page.old) (K.held out.new) (flat_map item_text items.now) }
+    ensures { Prints K.faults K.held out.old page.old out.new page.new result (flat_map item_text items.now) }
 {
     for item in items {
         put_item(out, page, item)?;
@@ -196,11 +148,7 @@ fn put_items<K: Sink>(out: &mut K, page: &mut Page, items: &[Item]) -> Result<()
 
 // The beginning of a group at this origin.
 fn put_origin<K: Sink>(out: &mut K, page: &mut Page, x: Num, y: Num) -> Result<(), WriteFault>
-    ensures counted { K.faults out.old ≤ K.faults out.new }
-    ensures cause { OnErr result (Rose (K.faults out.old) (K.faults out.new)) }
-    ensures ok { OnOk result (Appended (printed (K.held out.old) page.old) (printed (K.held out.new) page.new) (codes "<g transform=\"translate(" ++ pair_text x y ++ codes ")\">\n")) }
-    ensures grown { Grown (K.held out.old) (K.held out.new) }
-    ensures prefix { Begins (printed (K.held out.old) page.old) (K.held out.new) (codes "<g transform=\"translate(" ++ pair_text x y ++ codes ")\">\n") }
+    ensures { Prints K.faults K.held out.old page.old out.new page.new result (origin_text x y) }
 {
     put_pieces(
         out,
@@ -212,32 +160,21 @@ fn put_origin<K: Sink>(out: &mut K, page: &mut Page, x: Num, y: Num) -> Result<(
             Piece::Number(y),
             Piece::Plain(")\">\n"),
         ],
-    )?;
-    Ok(())
+    )
 }
 
 // The panel, as a group.
 fn put_panel<K: Sink>(out: &mut K, page: &mut Page, panel: &Panel) -> Result<(), WriteFault>
-    ensures counted { K.faults out.old ≤ K.faults out.new }
-    ensures cause { OnErr result (Rose (K.faults out.old) (K.faults out.new)) }
-    ensures ok { OnOk result (Appended (printed (K.held out.old) page.old) (printed (K.held out.new) page.new) (panel_text panel.now)) }
-    ensures grown { Grown (K.held out.old) (K.held out.new) }
-    ensures prefix { Begins (printed (K.held out.old) page.old) (K.held out.new) (panel_text panel.now) }
+    ensures { Prints K.faults K.held out.old page.old out.new page.new result (panel_text panel.now) }
 {
     put_origin(out, page, panel.x, panel.y)?;
     put_items(out, page, panel.items.as_slice())?;
-    put_text(out, page, "</g>\n")?;
-    Ok(())
+    put_text(out, page, "</g>\n")
 }
 
 // The panels in order.
-#[tactic(auto, using(crate::proofs::Steps::nothing_printed, crate::proofs::Steps::grown_not))]
 fn put_panels<K: Sink>(out: &mut K, page: &mut Page, panels: &[Panel]) -> Result<(), WriteFault>
-    ensures counted { K.faults out.old ≤ K.faults out.new }
-    ensures cause { OnErr result (Rose (K.faults out.old) (K.faults out.new)) }
-    ensures ok { OnOk result (Appended (printed (K.held out.old) page.old) (printed (K.held out.new) page.new) (flat_map panel_text panels.now)) }
-    ensures grown { Grown (K.held out.old) (K.held out.new) }
-    ensures prefix { Begins (printed (K.held out.old) page.old) (K.held out.new) (flat_map panel_text panels.now) }
+    ensures { Prints K.faults K.held out.old page.old out.new page.new result (flat_map panel_text panels.now) }
 {
     for panel in panels {
         put_panel(out, page, panel)?;
@@ -252,11 +189,7 @@ fn put_head<K: Sink>(
     width: Num,
     height: Num,
 ) -> Result<(), WriteFault>
-    ensures counted { K.faults out.old ≤ K.faults out.new }
-    ensures cause { OnErr result (Rose (K.faults out.old) (K.faults out.new)) }
-    ensures ok { OnOk result (Appended (printed (K.held out.old) page.old) (printed (K.held out.new) page.new) (head_text width height)) }
-    ensures grown { Grown (K.held out.old) (K.held out.new) }
-    ensures prefix { Begins (printed (K.held out.old) page.old) (K.held out.new) (head_text width height) }
+    ensures { Prints K.faults K.held out.old page.old out.new page.new result (head_text width height) }
 {
     put_pieces(
         out,
@@ -272,22 +205,16 @@ fn put_head<K: Sink>(
             Piece::Number(height),
             Piece::Plain("\">\n"),
         ],
-    )?;
-    Ok(())
+    )
 }
 
 // The scene.
 fn put_scene<K: Sink>(out: &mut K, page: &mut Page, scene: &Scene) -> Result<(), WriteFault>
-    ensures counted { K.faults out.old ≤ K.faults out.new }
-    ensures cause { OnErr result (Rose (K.faults out.old) (K.faults out.new)) }
-    ensures ok { OnOk result (Appended (printed (K.held out.old) page.old) (printed (K.held out.new) page.new) (svg_of scene.now)) }
-    ensures grown { Grown (K.held out.old) (K.held out.new) }
-    ensures prefix { Begins (printed (K.held out.old) page.old) (K.held out.new) (svg_of scene.now) }
+    ensures { Prints K.faults K.held out.old page.old out.new page.new result (svg_of scene.now) }
 {
     put_head(out, page, scene.width, scene.height)?;
     put_panels(out, page, scene.panels.as_slice())?;
-    put_text(out, page, "</svg>\n")?;
-    Ok(())
+    put_text(out, page, "</svg>\n")
 }
 
 /// Writes the scene as SVG text. It takes no memory. `WriteFault` comes only where the sink's count of faults rose;

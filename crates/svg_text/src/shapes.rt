@@ -1,11 +1,10 @@
 // Shapes, printed by way of a page.
-ghost use Rattle.std.specs.Prelude.{◌≡◌, ◌*◌, ◌++◌, ◌≤◌, pos, codes, OnOk, OnErr};
+ghost use Rattle.std.specs.Prelude.{◌≡◌, ◌*◌, ◌++◌, pos, codes};
 ghost use Rattle.std.specs.List.{flat_map};
 ghost use Rattle.fixed_num.specs.Number.{million};
-ghost use Rattle.chart_io.specs.Outside.{Rose, Appended};
-ghost use Rattle.svg_text.specs.Pieces.{attribute_text};
-ghost use Rattle.svg_text.specs.Printing.{printed, Grown, Begins};
-ghost use Rattle.svg_text.specs.SceneText.{attribute, numeric_attribute, pair_text, point_text, path_text, place_text, anchor_text, weight_text, shape_text};
+ghost use Rattle.svg_text.specs.inner.Pieces.{attribute_text};
+ghost use Rattle.svg_text.specs.inner.Printing.{Prints};
+ghost use Rattle.svg_text.specs.SceneText.{point_text, path_text, path_element, turned_text, place_text, anchor_text, font_text, weight_text, letters_text, words_text, circle_text, shape_text};
 
 use crate::page::Page;
 use crate::pieces::{Attribute, Piece, numeric, put_attributes, put_pieces, put_text};
@@ -41,11 +40,7 @@ fn put_element<K: Sink>(
     name: &str,
     attributes: &[Attribute<'_>],
 ) -> Result<(), WriteFault>
-    ensures counted { K.faults out.old ≤ K.faults out.new }
-    ensures cause { OnErr result (Rose (K.faults out.old) (K.faults out.new)) }
-    ensures ok { OnOk result (Appended (printed (K.held out.old) page.old) (printed (K.held out.new) page.new) (name.now ++ flat_map attribute_text attributes.now)) }
-    ensures grown { Grown (K.held out.old) (K.held out.new) }
-    ensures prefix { Begins (printed (K.held out.old) page.old) (K.held out.new) (name.now ++ flat_map attribute_text attributes.now) }
+    ensures { Prints K.faults K.held out.old page.old out.new page.new result (name.now ++ flat_map attribute_text attributes.now) }
 {
     put_text(out, page, name)?;
     put_attributes(out, page, attributes)
@@ -53,11 +48,7 @@ fn put_element<K: Sink>(
 
 // The step of a path.
 fn put_point<K: Sink>(out: &mut K, page: &mut Page, point: &Point) -> Result<(), WriteFault>
-    ensures counted { K.faults out.old ≤ K.faults out.new }
-    ensures cause { OnErr result (Rose (K.faults out.old) (K.faults out.new)) }
-    ensures ok { OnOk result (Appended (printed (K.held out.old) page.old) (printed (K.held out.new) page.new) (point_text point.now)) }
-    ensures grown { Grown (K.held out.old) (K.held out.new) }
-    ensures prefix { Begins (printed (K.held out.old) page.old) (K.held out.new) (point_text point.now) }
+    ensures { Prints K.faults K.held out.old page.old out.new page.new result (point_text point.now) }
 {
     match point {
         Point::Move(x, y) => put_pieces(
@@ -86,28 +77,19 @@ fn put_point<K: Sink>(out: &mut K, page: &mut Page, point: &Point) -> Result<(),
 
 // A step of a path after others.
 fn put_next_point<K: Sink>(out: &mut K, page: &mut Page, point: &Point) -> Result<(), WriteFault>
-    ensures counted { K.faults out.old ≤ K.faults out.new }
-    ensures cause { OnErr result (Rose (K.faults out.old) (K.faults out.new)) }
-    ensures ok { OnOk result (Appended (printed (K.held out.old) page.old) (printed (K.held out.new) page.new) (codes " " ++ point_text point.now)) }
-    ensures grown { Grown (K.held out.old) (K.held out.new) }
-    ensures prefix { Begins (printed (K.held out.old) page.old) (K.held out.new) (codes " " ++ point_text point.now) }
+    ensures { Prints K.faults K.held out.old page.old out.new page.new result (codes " " ++ point_text point.now) }
 {
     put_text(out, page, " ")?;
     put_point(out, page, point)
 }
 
 // The steps of a path after its first.
-#[tactic(auto, using(crate::proofs::Steps::nothing_printed, crate::proofs::Steps::grown_not))]
 fn put_next_points<K: Sink>(
     out: &mut K,
     page: &mut Page,
     points: &[Point],
 ) -> Result<(), WriteFault>
-    ensures counted { K.faults out.old ≤ K.faults out.new }
-    ensures cause { OnErr result (Rose (K.faults out.old) (K.faults out.new)) }
-    ensures ok { OnOk result (Appended (printed (K.held out.old) page.old) (printed (K.held out.new) page.new) (flat_map (λ p. codes " " ++ point_text p) points.now)) }
-    ensures grown { Grown (K.held out.old) (K.held out.new) }
-    ensures prefix { Begins (printed (K.held out.old) page.old) (K.held out.new) (flat_map (λ p. codes " " ++ point_text p) points.now) }
+    ensures { Prints K.faults K.held out.old page.old out.new page.new result (flat_map (λ p. codes " " ++ point_text p) points.now) }
 {
     for point in points {
         put_next_point(out, page, point)?;
@@ -116,13 +98,8 @@ fn put_next_points<K: Sink>(
 }
 
 // The steps of a path.
-#[tactic(auto, using(crate::proofs::Steps::holds, crate::proofs::Steps::nothing_printed, crate::proofs::Steps::grown_not))]
 fn put_points<K: Sink>(out: &mut K, page: &mut Page, points: &[Point]) -> Result<(), WriteFault>
-    ensures counted { K.faults out.old ≤ K.faults out.new }
-    ensures cause { OnErr result (Rose (K.faults out.old) (K.faults out.new)) }
-    ensures ok { OnOk result (Appended (printed (K.held out.old) page.old) (printed (K.held out.new) page.new) (path_text points.now)) }
-    ensures grown { Grown (K.held out.old) (K.held out.new) }
-    ensures prefix { Begins (printed (K.held out.old) page.old) (K.held out.new) (path_text points.now) }
+    ensures { Prints K.faults K.held out.old page.old out.new page.new result (path_text points.now) }
 {
     let [first, others @ ..] = points else {
         return Ok(());
@@ -133,25 +110,16 @@ fn put_points<K: Sink>(out: &mut K, page: &mut Page, points: &[Point]) -> Result
 
 // A path.
 fn put_path<K: Sink>(out: &mut K, page: &mut Page, points: &[Point]) -> Result<(), WriteFault>
-    ensures counted { K.faults out.old ≤ K.faults out.new }
-    ensures cause { OnErr result (Rose (K.faults out.old) (K.faults out.new)) }
-    ensures ok { OnOk result (Appended (printed (K.held out.old) page.old) (printed (K.held out.new) page.new) (codes "path" ++ attribute (codes "d") (path_text points.now))) }
-    ensures grown { Grown (K.held out.old) (K.held out.new) }
-    ensures prefix { Begins (printed (K.held out.old) page.old) (K.held out.new) (codes "path" ++ attribute (codes "d") (path_text points.now)) }
+    ensures { Prints K.faults K.held out.old page.old out.new page.new result (path_element points.now) }
 {
     put_text(out, page, "path d=\"")?;
     put_points(out, page, points)?;
-    put_text(out, page, "\"")?;
-    Ok(())
+    put_text(out, page, "\"")
 }
 
 // Where a turned text stands.
 fn put_turned<K: Sink>(out: &mut K, page: &mut Page, x: Num, y: Num) -> Result<(), WriteFault>
-    ensures counted { K.faults out.old ≤ K.faults out.new }
-    ensures cause { OnErr result (Rose (K.faults out.old) (K.faults out.new)) }
-    ensures ok { OnOk result (Appended (printed (K.held out.old) page.old) (printed (K.held out.new) page.new) (attribute (codes "transform") (codes "translate(" ++ pair_text x y ++ codes ") rotate(-90)"))) }
-    ensures grown { Grown (K.held out.old) (K.held out.new) }
-    ensures prefix { Begins (printed (K.held out.old) page.old) (K.held out.new) (attribute (codes "transform") (codes "translate(" ++ pair_text x y ++ codes ") rotate(-90)")) }
+    ensures { Prints K.faults K.held out.old page.old out.new page.new result (turned_text x y) }
 {
     put_pieces(
         out,
@@ -163,8 +131,7 @@ fn put_turned<K: Sink>(out: &mut K, page: &mut Page, x: Num, y: Num) -> Result<(
             Piece::Number(y),
             Piece::Plain(") rotate(-90)\""),
         ],
-    )?;
-    Ok(())
+    )
 }
 
 // Where a text stands.
@@ -175,11 +142,7 @@ fn put_place<K: Sink>(
     x: Num,
     y: Num,
 ) -> Result<(), WriteFault>
-    ensures counted { K.faults out.old ≤ K.faults out.new }
-    ensures cause { OnErr result (Rose (K.faults out.old) (K.faults out.new)) }
-    ensures ok { OnOk result (Appended (printed (K.held out.old) page.old) (printed (K.held out.new) page.new) (place_text turned x y)) }
-    ensures grown { Grown (K.held out.old) (K.held out.new) }
-    ensures prefix { Begins (printed (K.held out.old) page.old) (K.held out.new) (place_text turned x y) }
+    ensures { Prints K.faults K.held out.old page.old out.new page.new result (place_text turned x y) }
 {
     if turned {
         put_turned(out, page, x, y)
@@ -195,11 +158,7 @@ fn put_font<K: Sink>(
     anchor: &str,
     size: Num,
 ) -> Result<(), WriteFault>
-    ensures counted { K.faults out.old ≤ K.faults out.new }
-    ensures cause { OnErr result (Rose (K.faults out.old) (K.faults out.new)) }
-    ensures ok { OnOk result (Appended (printed (K.held out.old) page.old) (printed (K.held out.new) page.new) (attribute (codes "text-anchor") anchor.now ++ numeric_attribute (codes "font-size") size)) }
-    ensures grown { Grown (K.held out.old) (K.held out.new) }
-    ensures prefix { Begins (printed (K.held out.old) page.old) (K.held out.new) (attribute (codes "text-anchor") anchor.now ++ numeric_attribute (codes "font-size") size) }
+    ensures { Prints K.faults K.held out.old page.old out.new page.new result (font_text anchor.now size) }
 {
     put_pieces(
         out,
@@ -211,17 +170,12 @@ fn put_font<K: Sink>(
             Piece::Number(size),
             Piece::Plain("\""),
         ],
-    )?;
-    Ok(())
+    )
 }
 
 // The weight of a text.
 fn put_weight<K: Sink>(out: &mut K, page: &mut Page, bold: bool) -> Result<(), WriteFault>
-    ensures counted { K.faults out.old ≤ K.faults out.new }
-    ensures cause { OnErr result (Rose (K.faults out.old) (K.faults out.new)) }
-    ensures ok { OnOk result (Appended (printed (K.held out.old) page.old) (printed (K.held out.new) page.new) (weight_text bold)) }
-    ensures grown { Grown (K.held out.old) (K.held out.new) }
-    ensures prefix { Begins (printed (K.held out.old) page.old) (K.held out.new) (weight_text bold) }
+    ensures { Prints K.faults K.held out.old page.old out.new page.new result (weight_text bold) }
 {
     put_text(out, page, if bold { " font-weight=\"bold\"" } else { "" })
 }
@@ -234,11 +188,7 @@ fn put_start<K: Sink>(
     y: Num,
     turned: bool,
 ) -> Result<(), WriteFault>
-    ensures counted { K.faults out.old ≤ K.faults out.new }
-    ensures cause { OnErr result (Rose (K.faults out.old) (K.faults out.new)) }
-    ensures ok { OnOk result (Appended (printed (K.held out.old) page.old) (printed (K.held out.new) page.new) (codes "text" ++ place_text turned x y)) }
-    ensures grown { Grown (K.held out.old) (K.held out.new) }
-    ensures prefix { Begins (printed (K.held out.old) page.old) (K.held out.new) (codes "text" ++ place_text turned x y) }
+    ensures { Prints K.faults K.held out.old page.old out.new page.new result (codes "text" ++ place_text turned x y) }
 {
     put_text(out, page, "text")?;
     put_place(out, page, turned, x, y)
@@ -252,15 +202,10 @@ fn put_letters<K: Sink>(
     size: u32,
     bold: bool,
 ) -> Result<(), WriteFault>
-    ensures counted { K.faults out.old ≤ K.faults out.new }
-    ensures cause { OnErr result (Rose (K.faults out.old) (K.faults out.new)) }
-    ensures ok { OnOk result (Appended (printed (K.held out.old) page.old) (printed (K.held out.new) page.new) (attribute (codes "text-anchor") (anchor_text anchor) ++ numeric_attribute (codes "font-size") (pos (size * million)) ++ weight_text bold)) }
-    ensures grown { Grown (K.held out.old) (K.held out.new) }
-    ensures prefix { Begins (printed (K.held out.old) page.old) (K.held out.new) (attribute (codes "text-anchor") (anchor_text anchor) ++ numeric_attribute (codes "font-size") (pos (size * million)) ++ weight_text bold) }
+    ensures { Prints K.faults K.held out.old page.old out.new page.new result (letters_text anchor size bold) }
 {
     put_font(out, page, anchor_word(anchor), pixels(size))?;
-    put_weight(out, page, bold)?;
-    Ok(())
+    put_weight(out, page, bold)
 }
 
 // A circle.
@@ -271,11 +216,7 @@ fn put_circle<K: Sink>(
     y: Num,
     r: Num,
 ) -> Result<(), WriteFault>
-    ensures counted { K.faults out.old ≤ K.faults out.new }
-    ensures cause { OnErr result (Rose (K.faults out.old) (K.faults out.new)) }
-    ensures ok { OnOk result (Appended (printed (K.held out.old) page.old) (printed (K.held out.new) page.new) (codes "circle" ++ numeric_attribute (codes "cx") x ++ numeric_attribute (codes "cy") y ++ numeric_attribute (codes "r") r)) }
-    ensures grown { Grown (K.held out.old) (K.held out.new) }
-    ensures prefix { Begins (printed (K.held out.old) page.old) (K.held out.new) (codes "circle" ++ numeric_attribute (codes "cx") x ++ numeric_attribute (codes "cy") y ++ numeric_attribute (codes "r") r) }
+    ensures { Prints K.faults K.held out.old page.old out.new page.new result (circle_text x y r) }
 {
     put_element(
         out,
@@ -296,24 +237,15 @@ fn put_words<K: Sink>(
     size: u32,
     bold: bool,
 ) -> Result<(), WriteFault>
-    ensures counted { K.faults out.old ≤ K.faults out.new }
-    ensures cause { OnErr result (Rose (K.faults out.old) (K.faults out.new)) }
-    ensures ok { OnOk result (Appended (printed (K.held out.old) page.old) (printed (K.held out.new) page.new) (codes "text" ++ place_text turned x y ++ attribute (codes "text-anchor") (anchor_text anchor) ++ numeric_attribute (codes "font-size") (pos (size * million)) ++ weight_text bold)) }
-    ensures grown { Grown (K.held out.old) (K.held out.new) }
-    ensures prefix { Begins (printed (K.held out.old) page.old) (K.held out.new) (codes "text" ++ place_text turned x y ++ attribute (codes "text-anchor") (anchor_text anchor) ++ numeric_attribute (codes "font-size") (pos (size * million)) ++ weight_text bold) }
+    ensures { Prints K.faults K.held out.old page.old out.new page.new result (words_text x y turned anchor size bold) }
 {
     put_start(out, page, x, y, turned)?;
-    put_letters(out, page, anchor, size, bold)?;
-    Ok(())
+    put_letters(out, page, anchor, size, bold)
 }
 
 // The shape, as an element's name and the attributes of its place.
 pub fn put_shape<K: Sink>(out: &mut K, page: &mut Page, shape: &Shape) -> Result<(), WriteFault>
-    ensures counted { K.faults out.old ≤ K.faults out.new }
-    ensures cause { OnErr result (Rose (K.faults out.old) (K.faults out.new)) }
-    ensures ok { OnOk result (Appended (printed (K.held out.old) page.old) (printed (K.held out.new) page.new) (shape_text shape.now)) }
-    ensures grown { Grown (K.held out.old) (K.held out.new) }
-    ensures prefix { Begins (printed (K.held out.old) page.old) (K.held out.new) (shape_text shape.now) }
+    ensures { Prints K.faults K.held out.old page.old out.new page.new result (shape_text shape.now) }
 {
     match shape {
         Shape::Rect {

@@ -11,8 +11,3 @@ IsFault (Some fault) given = given ≡ Err fault
 abbrev pub GivesAs : {X E Y F : Type 0} → (X → Y) → (E → Option F) → Result X E → Result Y F → Type 0
 GivesAs view cause (Ok x) given = given ≡ Ok (view x)
 GivesAs view cause (Err e) given = IsFault (cause e) given
-
--- the same for a value that contracts see as the definition does
-abbrev pub Gives : {X E F : Type 0} → (E → Option F) → Result X E → Result X F → Type 0
-Gives cause (Ok x) given = given ≡ Ok x
-Gives cause (Err e) given = IsFault (cause e) given

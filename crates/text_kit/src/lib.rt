@@ -4,6 +4,7 @@
 #![tactic(auto)]
 
 mod boxed;
+mod copies;
 mod memory;
 mod seq;
 #[cfg(test)]
@@ -11,6 +12,7 @@ mod tests;
 mod text;
 
 pub use boxed::Boxed;
+pub use copies::{Copies, copy_list};
 pub use memory::OutOfMemory;
 pub use seq::Seq;
 pub use text::Text;

@@ -1,4 +1,4 @@
-use crate::{Boxed, OutOfMemory, Seq, Text};
+use crate::{Boxed, Copies, OutOfMemory, Seq, Text};
 use std::test::Fail;
 
 #[test]
@@ -33,6 +33,18 @@ fn a_list_is_built_and_taken_apart(rt: HostRuntime) -> Result<(), Fail> {
     assert_eq!(rt; same.len(), 3);
     let roomy: Seq<u8> = Seq::with_capacity(rt.alloc(), 8)?;
     assert!(rt; roomy.is_empty());
+    Ok(())
+}
+
+#[test]
+fn pairs_of_what_may_be_there_are_copied(rt: HostRuntime) -> Result<(), OutOfMemory> {
+    let mut pairs = Seq::new(rt.alloc());
+    pairs.push((Text::of(rt.alloc(), "a")?, None))?;
+    pairs.push((Text::of(rt.alloc(), "b")?, Some(Text::of(rt.alloc(), "é")?)))?;
+    let copies = pairs.copied(rt.alloc())?;
+    assert_eq!(rt; copies.len(), 2);
+    let last = copies.get(1).expect(&rt, "two pairs");
+    assert_eq!(rt; last.1.as_ref().expect(&rt, "a text").as_str(), "é");
     Ok(())
 }
 

@@ -2,7 +2,7 @@ use Rattle.std.proofs.Common.{◌≡◌}
 use Rattle.std.specs.List.{fold}
 use Rattle.std.specs.FinMap.{insert}
 use Rattle.std.specs.Vec.Iter.{into_iter_items}
-use Rattle.cell_value.specs.Gather.{seen_row}
+use Rattle.cell_value.specs.inner.Gather.{seen_row}
 use Rattle.cell_value.specs.Row.{row_of}
 use Rattle.cell_value.proofs.gather.gathered.Given as goal
 

@@ -3,7 +3,7 @@ use Rattle.std.proofs.lemmas.Grind.{common_steps}
 use Rattle.std.specs.Ordering.{nat_cmp}
 use Rattle.std.specs.Cmp.Lexicographic.{slice_cmp}
 use Rattle.std.specs.FinMap.{is_sorted}
-use Rattle.cell_value.specs.Gather.{named}
+use Rattle.cell_value.specs.inner.Gather.{named}
 use Rattle.cell_value.proofs.GatherLemmas.{named_sorted}
 use Rattle.cell_value.proofs.gather.listed.Goals as goal
 

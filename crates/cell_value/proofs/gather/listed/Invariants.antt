@@ -1,5 +1,5 @@
 use Rattle.std.proofs.Common.{◌≡◌, ◌++◌, map}
-use Rattle.cell_value.specs.Gather.{named}
+use Rattle.cell_value.specs.inner.Gather.{named}
 use Rattle.cell_value.proofs.gather.listed.Given as goal
 
 abbrev pub invariant-loop-name : goal.invariant-loop-name

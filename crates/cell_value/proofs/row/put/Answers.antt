@@ -2,7 +2,7 @@ use Rattle.std.proofs.Common.{subst, ◌∙◌}
 use Rattle.std.specs.Ordering.{nat_cmp}
 use Rattle.std.specs.Cmp.Lexicographic.{slice_cmp, nat_list_cmp_total}
 use Rattle.std.specs.FinMap.{slice_cmp-IsAntisymmetric, nat_cmp-IsAntisymmetric}
-use Rattle.cell_value.specs.Place.{IsAt, IsGap}
+use Rattle.cell_value.specs.inner.Place.{IsAt, IsGap}
 use Rattle.cell_value.proofs.Place.{put_at, put_gap}
 use Rattle.cell_value.proofs.row.put.Goals as goal
 

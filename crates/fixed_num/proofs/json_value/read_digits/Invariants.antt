@@ -1,7 +1,7 @@
 use Rattle.std.proofs.Common.{◌≡◌, ◌≤◌, drop}
 use Rattle.fixed_num.specs.Number.{limit}
 use Rattle.fixed_num.specs.JsonNumber.{AreDigits}
-use Rattle.fixed_num.specs.JsonDigits.{number_after}
+use Rattle.fixed_num.specs.inner.Digits.{number_after}
 use Rattle.fixed_num.proofs.json_value.read_digits.Given as goal
 
 abbrev pub invariant-loop-digit : goal.invariant-loop-digit

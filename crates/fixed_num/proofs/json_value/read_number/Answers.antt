@@ -1,7 +1,7 @@
 use Rattle.std.proofs.Common.{sym, subst, ap, ◌∙◌, ◌≤◌, ℕ, arith}
 use Rattle.std.specs.Option.{SomeIff}
 use Rattle.fixed_num.specs.Number.{limit}
-use Rattle.fixed_num.specs.JsonDigits.{number_after}
+use Rattle.fixed_num.specs.inner.Digits.{number_after}
 use Rattle.fixed_num.proofs.DigitLemmas.{number_joined, number_after-ge}
 use Rattle.fixed_num.proofs.json_value.read_number.Goals as goal
 

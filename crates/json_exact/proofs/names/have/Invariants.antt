@@ -1,7 +1,7 @@
 use Rattle.std.proofs.Common.{◌≡◌, drop}
 use Rattle.std.specs.List.{list_any}
 use Rattle.std.specs.Str.{bytes_eq}
-use Rattle.json_exact.specs.Reader.{names_of}
+use Rattle.json_exact.specs.inner.Reader.{names_of}
 use Rattle.json_exact.proofs.names.have.Given as goal
 
 abbrev pub invariant-loop-member : goal.invariant-loop-member

@@ -1,7 +1,7 @@
 use Rattle.std.proofs.Common.{◌≡◌, length, ap, sym, ◌∙◌, arith}
 use Rattle.json_exact.specs.Path.{led_by}
-use Rattle.json_exact.specs.Along.{words_after}
-use Rattle.json_exact.specs.Reader.{first}
+use Rattle.json_exact.specs.inner.Along.{words_after}
+use Rattle.fixed_num.specs.Front.{first}
 use Rattle.json_exact.proofs.Paths.{path_empty, path_led, path_none, empty_by_length}
 use Rattle.json_exact.proofs.path.at_path.Goals as goal
 

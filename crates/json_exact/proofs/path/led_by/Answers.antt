@@ -1,7 +1,7 @@
 use Rattle.std.proofs.Common.{ap, sym, ◌∙◌, arith}
 use Rattle.std.specs.Option.{option_and_then}
 use Rattle.json_exact.specs.Path.{led_by}
-use Rattle.json_exact.specs.Along.{words_after}
+use Rattle.json_exact.specs.inner.Along.{words_after}
 use Rattle.json_exact.proofs.Paths.{led_ends, led_step}
 use Rattle.json_exact.proofs.path.led_by.Goals as goal
 

@@ -1,6 +1,6 @@
 use Rattle.std.proofs.Common.{◌≡◌, length}
 use Rattle.json_exact.specs.Path.{led_by}
-use Rattle.json_exact.specs.Along.{words_after}
+use Rattle.json_exact.specs.inner.Along.{words_after}
 use Rattle.json_exact.proofs.path.led_by.Given as goal
 
 abbrev pub invariant-loop-rest : goal.invariant-loop-rest

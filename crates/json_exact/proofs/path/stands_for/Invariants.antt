@@ -1,6 +1,6 @@
 use Rattle.std.proofs.Common.{◌≡◌, drop}
 use Rattle.json_exact.specs.Path.{name_of}
-use Rattle.json_exact.specs.Along.{is_name}
+use Rattle.json_exact.specs.inner.Along.{is_name}
 use Rattle.json_exact.proofs.path.stands_for.Given as goal
 
 abbrev pub invariant-loop-byte : goal.invariant-loop-byte

@@ -1,7 +1,7 @@
 -- Both trees are what the one function of the bytes gives.
 use Rattle.std.proofs.Common.{sym, ◌∙◌}
 use Rattle.json_exact.proofs.Complete.{text_again-whole}
-use Rattle.json_exact.proofs.Steps.{ok_is}
+use Rattle.fixed_num.proofs.Steps.{ok_is}
 use Rattle.json_exact.proofs.reading.one_reading.Goals as goal
 
 pub returns : goal.returns

@@ -1,5 +1,5 @@
 use Rattle.std.proofs.Common.{◌≡◌, ◌-◌, [], length, string_bytes}
-use Rattle.json_exact.specs.Reader.{chars_at}
+use Rattle.json_exact.specs.inner.Reader.{chars_at}
 use Rattle.json_exact.proofs.texts.chars_of.Given as goal
 
 abbrev pub invariant-loop : goal.invariant-loop

@@ -1,5 +1,5 @@
 use Rattle.std.proofs.Common.{◌≡◌, ◌+◌, ◌-◌, ◌*◌, length}
-use Rattle.json_exact.specs.Reader.{member_at, value_at, run_at, sequence_at}
+use Rattle.json_exact.specs.inner.Reader.{member_at, value_at, run_at, sequence_at}
 use Rattle.json_exact.proofs.Complete.{item_at}
 use Rattle.json_exact.proofs.values.+values.Given as goal
 

@@ -1,5 +1,5 @@
 use Rattle.std.proofs.Common.{◌≡◌, drop}
-use Rattle.json_exact.specs.Reader.{after_word}
+use Rattle.json_exact.specs.inner.Reader.{after_word}
 use Rattle.json_exact.proofs.words.after_word.Given as goal
 
 abbrev pub invariant-loop-b : goal.invariant-loop-b

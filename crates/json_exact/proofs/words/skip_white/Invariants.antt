@@ -1,5 +1,5 @@
 use Rattle.std.proofs.Common.{◌≡◌, drop}
-use Rattle.json_exact.specs.Reader.{skip_white}
+use Rattle.json_exact.specs.inner.Reader.{skip_white}
 use Rattle.json_exact.proofs.words.skip_white.Given as goal
 
 abbrev pub invariant-loop-i : goal.invariant-loop-i

@@ -1,20 +1,19 @@
-use Rattle.std.proofs.Common.{arith, length-take, length-drop}
-use Rattle.chart_io.proofs.Written.{appended_more}
-use Rattle.svg_text.proofs.Steps.{begins_later, grown_more}
+use Rattle.std.proofs.Common.{arith, length, ◌-◌, length-take, length-drop}
+use Rattle.svg_text.proofs.Steps.{prints_nothing, prints_piece, prints_some}
 use Rattle.svg_text.proofs.page.put.Goals as goal
 
-pub returns-in_err-at-clause-prefix : goal.returns-in_err-at-clause-prefix
-returns-in_err-at-clause-prefix g c = begins_later _ _ _ _ c.loop-at.at c.loop-at.invariant.written c.in_err-at.ensures.prefix
+pub loop-at-init : goal.loop-at-init
+loop-at-init g c = record { within = omega arith; printed = prints_nothing c.args.out.now c.args.page.now _ }
+
+pub returns-in_err-make_room : goal.returns-in_err-make_room
+returns-in_err-make_room g c = prints_some c.args.bytes.now c.loop-at.at c.from_residual.ensures.0 c.loop-at.invariant.printed c.in_err-make_room.ensures.prints
 
 pub loop-at-preserved : goal.loop-at-preserved
 loop-at-preserved g c =
-    let loop = c.loop-at.invariant in
-    let taken = c.in_ok-at.ensures.within.1 in
-    let short = simp (length-take, length-drop) at taken in
+    let bytes = c.args.bytes.now in
+    let room = length bytes - c.loop-at.at in
+    let count = simp (length-take, length-drop) at c.fill-at.ensures.count in
     record {
-      counted = omega (arith, loop.counted, c.in_ok-at.ensures.counted);
-      within = omega arith;
-      written = appended_more _ _ _ _ c.loop-at.at _ _ (omega arith) loop.written c.in_ok-at.ensures.ok;
-      grown = grown_more _ _ _ loop.grown c.in_ok-at.ensures.grown;
-      begun = begins_later _ _ _ _ c.loop-at.at loop.written c.in_ok-at.ensures.prefix;
+      within = omega (arith, count, c.loop-at-test.true);
+      printed = rw c.fill-at.ensures.filled (prints_piece bytes c.loop-at.at c.fill-at.result room (omega (arith, count)) c.loop-at.invariant.printed c.in_ok-make_room.ensures.prints);
     }

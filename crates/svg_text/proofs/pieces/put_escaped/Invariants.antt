@@ -1,13 +1,9 @@
-use Rattle.std.proofs.Common.{◌≤◌}
+use Rattle.std.proofs.Common.{Ok}
 use Rattle.std.specs.List.{flat_map}
-use Rattle.chart_io.specs.Outside.{Appended}
-use Rattle.svg_text.specs.Printing.{printed, Grown}
-use Rattle.svg_text.specs.SceneText.{escape_of}
+use Rattle.chart_io.specs.declared.writing.WriteFault.{WriteFault}
+use Rattle.svg_text.specs.SceneText.{xml_char}
+use Rattle.svg_text.specs.inner.Printing.{Prints}
 use Rattle.svg_text.proofs.pieces.put_escaped.Given as goal
 
 abbrev pub invariant-loop-c : goal.invariant-loop-c
-invariant-loop-c g l = record {
-  counted : g.K.Sink.faults l.initial.out ≤ g.K.Sink.faults l.out;
-  written : Appended (printed (g.K.Sink.held l.initial.out) l.initial.page) (printed (g.K.Sink.held l.out) l.page) (flat_map escape_of l.yielded);
-  grown : Grown (g.K.Sink.held l.initial.out) (g.K.Sink.held l.out);
-}
+invariant-loop-c g l = Prints {T = Unit {0}} {E = WriteFault} g.K.Sink.faults g.K.Sink.held l.initial.out l.initial.page l.out l.page (Ok tt) (flat_map xml_char l.yielded)

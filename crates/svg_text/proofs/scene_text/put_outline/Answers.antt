@@ -1,15 +1,8 @@
 use Rattle.std.specs.Prelude.{codes}
 use Rattle.fixed_num.specs.Decimal.{spelling}
-use Rattle.svg_text.specs.SceneText.{escaped}
-use Rattle.svg_text.proofs.Steps.{attributes_joined}
-use Rattle.svg_text.proofs.Steps.{begins_same, appended_same}
+use Rattle.svg_text.specs.SceneText.{xml_text}
+use Rattle.svg_text.proofs.Steps.{prints_same, attributes_joined}
 use Rattle.svg_text.proofs.scene_text.put_outline.Goals as goal
 
-pub returns-in_err-put_pieces-clause-prefix : goal.returns-in_err-put_pieces-clause-prefix
-returns-in_err-put_pieces-clause-prefix g c = begins_same _ _ _ _ (attributes_joined (codes " ") (codes "stroke") (codes "=\"") (escaped c.args.stroke.now) (codes "\"") (codes "stroke-width") (spelling c.args.width)) c.in_err-put_pieces.ensures.prefix
-
-pub returns-clause-ok : goal.returns-clause-ok
-returns-clause-ok g c = appended_same _ _ _ _ (attributes_joined (codes " ") (codes "stroke") (codes "=\"") (escaped c.args.stroke.now) (codes "\"") (codes "stroke-width") (spelling c.args.width)) c.in_ok-put_pieces.ensures.ok
-
-pub returns-clause-prefix : goal.returns-clause-prefix
-returns-clause-prefix g c = begins_same _ _ _ _ (attributes_joined (codes " ") (codes "stroke") (codes "=\"") (escaped c.args.stroke.now) (codes "\"") (codes "stroke-width") (spelling c.args.width)) c.in_ok-put_pieces.ensures.prefix
+pub returns : goal.returns
+returns g c = prints_same (attributes_joined (codes " ") (codes "stroke") (codes "=\"") (xml_text c.args.stroke.now) (codes "\"") (codes "stroke-width") (spelling c.args.width)) c.put_pieces.ensures

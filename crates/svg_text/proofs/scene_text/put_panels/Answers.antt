@@ -1,18 +1,15 @@
-use Rattle.std.proofs.Common.{arith}
 use Rattle.svg_text.specs.SceneText.{panel_text}
-use Rattle.svg_text.proofs.Steps.{item_begun, items_begun, items_more, grown_more}
+use Rattle.svg_text.proofs.Steps.{prints_nothing, prints_item, prints_to_item, prints_all}
 use Rattle.svg_text.proofs.scene_text.put_panels.Goals as goal
 
-pub returns-in_err-put_panel-clause-prefix : goal.returns-in_err-put_panel-clause-prefix
-returns-in_err-put_panel-clause-prefix g c =
-    item_begun panel_text c.args.panels.now c.loop-panel.panel-index _ _ _ _ c.loop-panel-test.true c.panel-item.is c.loop-panel.invariant.written c.in_err-put_panel.ensures.prefix
+pub loop-panel-init : goal.loop-panel-init
+loop-panel-init g c = prints_nothing c.args.out.now c.args.page.now _
 
-pub returns-clause-prefix : goal.returns-clause-prefix
-returns-clause-prefix g c = items_begun panel_text c.args.panels.now c.loop-panel.panel-index _ _ c.loop-panel.page c.loop-panel.invariant.written
+pub returns-in_err-put_panel : goal.returns-in_err-put_panel
+returns-in_err-put_panel g c = prints_to_item panel_text c.args.panels.now c.loop-panel.panel-index c.panel-item.result c.loop-panel-test.true c.panel-item.is c.from_residual.ensures.0 c.loop-panel.invariant c.in_err-put_panel.ensures
 
 pub loop-panel-preserved : goal.loop-panel-preserved
-loop-panel-preserved g c = record {
-  counted = omega (arith, c.loop-panel.invariant.counted, c.in_ok-put_panel.ensures.counted);
-  written = items_more panel_text c.args.panels.now c.loop-panel.panel-index _ _ _ _ c.loop-panel-test.true c.panel-item.is c.loop-panel.invariant.written c.in_ok-put_panel.ensures.ok;
-  grown = grown_more _ _ _ c.loop-panel.invariant.grown c.in_ok-put_panel.ensures.grown;
-}
+loop-panel-preserved g c = prints_item panel_text c.args.panels.now c.loop-panel.panel-index c.panel-item.result c.loop-panel-test.true c.panel-item.is c.loop-panel.invariant c.in_ok-put_panel.ensures
+
+pub returns : goal.returns
+returns g c = prints_all panel_text c.args.panels.now c.loop-panel.panel-index c.loop-panel-test.false c.loop-panel.invariant

@@ -1,13 +1,9 @@
-use Rattle.std.proofs.Common.{take, ◌≤◌}
+use Rattle.std.proofs.Common.{take, Ok}
 use Rattle.std.specs.List.{flat_map}
-use Rattle.chart_io.specs.Outside.{Appended}
-use Rattle.svg_text.specs.Printing.{printed, Grown}
+use Rattle.chart_io.specs.declared.writing.WriteFault.{WriteFault}
+use Rattle.svg_text.specs.inner.Printing.{Prints}
 use Rattle.svg_text.specs.SceneText.{panel_text}
 use Rattle.svg_text.proofs.scene_text.put_panels.Given as goal
 
 abbrev pub invariant-loop-panel : goal.invariant-loop-panel
-invariant-loop-panel g l = record {
-  counted : g.K.Sink.faults l.initial.out ≤ g.K.Sink.faults l.out;
-  written : Appended (printed (g.K.Sink.held l.initial.out) l.initial.page) (printed (g.K.Sink.held l.out) l.page) (flat_map panel_text (take l.panel-index l.panels));
-  grown : Grown (g.K.Sink.held l.initial.out) (g.K.Sink.held l.out);
-}
+invariant-loop-panel g l = Prints {T = Unit {0}} {E = WriteFault} g.K.Sink.faults g.K.Sink.held l.initial.out l.initial.page l.out l.page (Ok tt) (flat_map panel_text (take l.panel-index l.panels))

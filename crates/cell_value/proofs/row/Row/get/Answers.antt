@@ -1,7 +1,7 @@
 use Rattle.std.proofs.Common.{Some, ap, sym, subst, ◌∙◌}
 use Rattle.std.specs.Ordering.{nat_cmp}
 use Rattle.std.specs.Cmp.Lexicographic.{slice_cmp, nat_list_cmp_total}
-use Rattle.cell_value.specs.Place.{IsAt, IsGap}
+use Rattle.cell_value.specs.inner.Place.{IsAt, IsGap}
 use Rattle.cell_value.proofs.Place.{get_seen, find_at, find_gap}
 use Rattle.cell_value.proofs.row.Row.get.Goals as goal
 

@@ -1,7 +1,7 @@
 use Rattle.std.proofs.Common.{◌∙◌, ◌++◌, sym, ap, arith}
 use Rattle.fixed_num.specs.Number.{signed}
 use Rattle.fixed_num.specs.JsonNumber.{number_of}
-use Rattle.fixed_num.specs.JsonView.{parts}
+use Rattle.fixed_num.specs.inner.View.{parts}
 use Rattle.fixed_num.proofs.RoundingLemmas.{exact_at}
 use Rattle.fixed_num.proofs.DigitLemmas.{digits_together, zeros_are_nothing, others_are_something}
 use Rattle.fixed_num.proofs.ScaleLemmas.{value_far_left, value_far_zeros, value_far_right}

@@ -1,7 +1,7 @@
 use Rattle.std.proofs.Common.{◌≡◌, Bool, false, take, drop, sym, ap, ◌∙◌, ◌||◌}
 use Rattle.std.specs.List.{list_any}
 use Rattle.std.specs.Str.{bytes_eq}
-use Rattle.json_exact.specs.Reader.{names_of}
+use Rattle.json_exact.specs.inner.Reader.{names_of}
 use Rattle.json_exact.proofs.Apart.{any_split}
 use Rattle.json_exact.proofs.names.Members.have.Goals as goal
 
