@@ -1,0 +1,4 @@
+pub mod Case
+pub mod Names
+pub mod Arguments
+pub mod inner

@@ -1,0 +1,4 @@
+pub mod CalendarLemmas
+pub mod DatetimeLemmas
+pub mod FormLemmas
+pub mod InstantLemmas

@@ -1,0 +1,9 @@
+pub mod Calendar
+pub mod CalendarLaws
+pub mod Instants
+pub mod InstantLaws
+pub mod Parts
+pub mod Datetime
+pub mod Forms
+pub mod Texts
+pub mod inner

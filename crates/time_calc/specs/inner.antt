@@ -1,0 +1,3 @@
+pub mod Datetime
+pub mod Forms
+pub mod Texts
