@@ -1,0 +1,5 @@
+pub mod RangeLemmas
+pub mod NumberTexts
+pub mod Several
+pub mod TableLemmas
+pub mod ValueLaws

@@ -1,0 +1,12 @@
+pub mod Ranges
+pub mod Values
+pub mod Plain
+pub mod Numbers
+pub mod Answers
+pub mod Operations
+pub mod Builtins
+pub mod Table
+pub mod Value
+pub mod Reads
+pub mod Examples
+pub mod Laws

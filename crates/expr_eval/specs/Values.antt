@@ -1,0 +1,19 @@
+-- What an expression reads of the parameters of a chart.
+use Rattle.std.specs.Prelude.{ℕ, List, Bool}
+use Rattle.cell_value.specs.declared.cell.Cell.{Cell}
+use Rattle.cell_value.specs.Datum.{CellAt}
+
+-- what is read of parameters, of the stores of selections, and of the domains of scales, each by its name
+pub record Values : Type 0 where
+  -- the value of a parameter; of a selection it is null
+  pub value : List ℕ → Cell
+  -- the two ends that an interval selection has of a channel, else null
+  pub member : List ℕ → List ℕ → Cell
+  -- how many tuples a store has
+  pub stored : List ℕ → ℕ
+  -- whether a store holds the row
+  pub selects : List ℕ → CellAt → Bool
+  -- how many fields a store has
+  pub fields : List ℕ → ℕ
+  -- how many cells the domain of a scale has
+  pub domain_length : List ℕ → ℕ

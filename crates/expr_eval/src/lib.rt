@@ -1,0 +1,22 @@
+//! The values of expressions over a row and values of parameters.
+#![tactic(auto)]
+
+mod builtins;
+mod error;
+mod laws;
+mod lists;
+mod numbers;
+mod operations;
+mod plain;
+mod ranges;
+mod readers;
+mod table;
+#[cfg(test)]
+mod tests;
+mod value;
+
+pub use error::EvalError;
+pub use laws::laws_of_values;
+pub use plain::{NoParams, NoRow, PlainRow};
+pub use readers::{ParamReader, RowReader};
+pub use value::eval;
