@@ -59,7 +59,8 @@ change_of source rows = None
 abbrev pub command_in : Option (List Json) → Option Command
 command_in (Some (word ∷ [])) = if is_word (codes "print") (text_in (out-Json word)) then Some Print else None
 command_in (Some (word ∷ source ∷ change ∷ [])) =
-    if is_word (codes "change") (text_in (out-Json word)) then change_of (text_in (out-Json source)) (insert_of (members_in (out-Json change))) else None
+    if is_word (codes "change") (text_in (out-Json word))
+    then change_of (text_in (out-Json source)) (insert_of (members_in (out-Json change))) else None
 command_in other = None
 
 -- the command that a value is

@@ -1,5 +1,7 @@
 pub mod Rows
+pub mod Semantics
 pub mod Machine
 pub mod Commands
 pub mod Script
-pub mod Alike
+pub mod Playing
+pub mod UnitRows

@@ -10,6 +10,7 @@ use Rattle.json_exact.specs.declared.json.Member.{Member}
 use Rattle.cell_value.specs.declared.cell.Cell.{Cell}
 use Rattle.cell_value.specs.declared.cell.Cell.TheVariants as cell
 use Rattle.cell_value.specs.Row.{Cells, row_of}
+use Rattle.cell_value.specs.Datum.{id_name}
 
 -- the cell of a value; a list or an object in a row is read as null, whatever it holds
 abbrev pub cell_in : Json-F Json Member → Cell
@@ -23,13 +24,10 @@ abbrev pub is_huge : Json-F Json Member → Bool
 is_huge level.Huge = true
 is_huge other = false
 
--- the name under which every row has its id; a member of this name is dropped
-abbrev pub id_name : List ℕ
-id_name = codes "_vgsid_"
-
--- the cells that an object gives to its row
+-- the cells that an object gives to its row; a member of the name under which every row has its id is dropped
 abbrev pub cells_of : List Member → List (List ℕ × Cell)
-cells_of members = map (λ (m : Member). (m.name, cell_in (out-Json m.value))) (filter (λ (m : Member). not (bytes_eq m.name id_name)) members)
+cells_of members =
+    map (λ (m : Member). (m.name, cell_in (out-Json m.value))) (filter (λ (m : Member). not (bytes_eq m.name id_name)) members)
 
 -- the row of a value: an object's cells; any other value stands under `data`
 abbrev pub row_in : Json-F Json Member → Cells
@@ -65,10 +63,16 @@ a_list_is_no_row : bad_field (json.List []) ≡ Some []
 unfolding out-Json denote.Hole.Carrier.out
 a_list_is_no_row = refl
 
-a_number_out_of_range : bad_field_in (level.Object (record { name = codes "a"; value = json.Null } ∷ record { name = codes "b"; value = json.Huge } ∷ [])) ≡ Some (codes "b")
+a_number_out_of_range : bad_field_in (level.Object (record { name = codes "a"; value = json.Null } ∷ record {
+  name = codes "b";
+  value = json.Huge;
+} ∷ [])) ≡ Some (codes "b")
 unfolding out-Json denote.Hole.Carrier.out
 a_number_out_of_range = refl
 
-a_nested_member : cells_of (record { name = codes "a"; value = json.List (json.Huge ∷ []) } ∷ record { name = codes "_vgsid_"; value = json.Flag true } ∷ []) ≡ (codes "a", cell.Null) ∷ []
+a_nested_member : cells_of (record { name = codes "a"; value = json.List (json.Huge ∷ []) } ∷ record {
+  name = codes "_vgsid_";
+  value = json.Flag true;
+} ∷ []) ≡ (codes "a", cell.Null) ∷ []
 unfolding out-Json denote.Hole.Carrier.out
 a_nested_member = refl

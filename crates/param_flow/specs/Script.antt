@@ -1,17 +1,6 @@
--- Scripts: their lines, what is replied to each, and the output.
-use Rattle.std.specs.Prelude.{◌≡◌, ◌≢◌, refl, ℕ, ◌≤◌, ◌^◌, ◌==◌, ◌&&◌, Bool, true, false, List, [], ◌∷◌, ◌++◌, length, if◌then◌else◌, codes}
+-- Scripts of lines, whatever the lines say and whatever they are done to.
+use Rattle.std.specs.Prelude.{◌≡◌, refl, ℕ, suc, ◌<◌, ◌≤◌, ◌^◌, ◌==◌, ◌&&◌, Bool, true, false, List, [], ◌∷◌, ◌++◌, length, if◌then◌else◌, codes}
 use Rattle.std.specs.List.{slice_split}
-use Rattle.std.specs.Fmt.{decimal}
-use Rattle.json_exact.specs.Writing.{quoted}
-use Rattle.cell_value.specs.declared.state.ChartState.{ChartState}
-use Rattle.scene_tree.specs.Outcome.{Outcome, Drawn}
-use Rattle.param_flow.specs.declared.command.Command.{Command}
-use Rattle.param_flow.specs.declared.command.Command.TheVariants.{Print}
-use Rattle.param_flow.specs.declared.reply.Reply.{Reply}
-use Rattle.param_flow.specs.declared.reply.Reply.TheVariants.{Done, Refused}
-use Rattle.param_flow.specs.declared.reply.Cause.TheVariants as cause
-use Rattle.param_flow.specs.Machine.{reply_of, state_after}
-use Rattle.param_flow.specs.Commands.{IsCommand}
 
 -- a script without the carriage returns that stand directly before a line feed
 abbrev pub without_returns : List ℕ → List ℕ
@@ -22,6 +11,16 @@ without_returns (b ∷ c ∷ bs) = if b == 13 && c == 10 then without_returns (c
 -- The lines of a script, without their ends. (After the line feed of the last line an empty line stands, which gets no reply.)
 abbrev pub lines_of : List ℕ → List (List ℕ)
 lines_of bytes = slice_split (λ b. b == 10) (without_returns bytes)
+
+-- all but the last
+abbrev pub without_last : List (List ℕ) → List (List ℕ)
+without_last [] = []
+without_last (line ∷ []) = []
+without_last (line ∷ next ∷ lines) = line ∷ without_last (next ∷ lines)
+
+-- the lines of a script that end in it by a line feed
+abbrev pub ended_lines : List ℕ → List (List ℕ)
+ended_lines bytes = without_last (lines_of bytes)
 
 -- how many bytes a line may have without its end: 1 MiB
 abbrev pub most_line_bytes : ℕ
@@ -36,46 +35,36 @@ abbrev pub is_silent : List ℕ → Bool
 is_silent [] = true
 is_silent (b ∷ bs) = b == 35
 
--- the reply to a line that is no command
+-- the reply to a line that is no command, or is too long
 abbrev pub refused_line : List ℕ
 refused_line = codes "refused line\n"
 
--- the text of a reply to a command other than a print
-abbrev pub reply_text : Reply → List ℕ
-reply_text Done = codes "ok\n"
-reply_text (Refused cause.Line) = refused_line
-reply_text (Refused cause.Name) = codes "refused name\n"
-reply_text (Refused (cause.Row row field)) = codes "refused row " ++ decimal row ++ codes " " ++ quoted field ++ codes "\n"
-reply_text (Refused cause.Limit) = codes "refused limit\n"
-reply_text (Refused cause.Overflow) = codes "refused overflow\n"
+-- Of a kind of script it is said what is replied to a line that is neither silent nor too long: `Replies st n line reply note now` where
+-- the line, by its number n among all lines from 1, is replied to in the state st by this reply on the output and this note on the notes,
+-- and leaves the state now.
+module _ {S : Type 0} (Replies : S → ℕ → List ℕ → List ℕ → List ℕ → S → Type 0) where
+  -- what comes of any line
+  pub data IsLine : S → ℕ → List ℕ → List ℕ → List ℕ → S → Type 0 where
+    -- a silent line gets no reply
+    silent : (st : S) (n : ℕ) (line : List ℕ) → is_silent line ≡ true → IsLine st n line [] [] st
+    -- a line that is too long is refused
+    too_long : (st : S) (n : ℕ) (line : List ℕ) → is_silent line ≡ false → most_line_bytes < length line
+        → IsLine st n line refused_line [] st
+    -- any other is replied to
+    replied : (st now : S) (n : ℕ) (line reply note : List ℕ) → is_silent line ≡ false → length line ≤ most_line_bytes
+        → Replies st n line reply note now → IsLine st n line reply note now
 
--- the line is a command of at most so many bytes
-pub record IsCommandLine (line : List ℕ) (command : Command) : Type 0 where
-  pub loud : is_silent line ≡ false
-  pub short : length line ≤ most_line_bytes
-  pub is : IsCommand line command
+  -- the output of lines and their notes, and the state after them: replies and notes joined, each from the state that
+  -- the lines before it left
+  pub data IsOutput : S → ℕ → List (List ℕ) → List ℕ → List ℕ → S → Type 0 where
+    no_line : (st : S) (n : ℕ) → IsOutput st n [] [] [] st
+    one_line : (st mid now : S) (n : ℕ) (line reply note rest notes : List ℕ) (lines : List (List ℕ))
+        → IsLine st n line reply note mid → IsOutput mid (suc n) lines rest notes now
+        → IsOutput st n (line ∷ lines) (reply ++ rest) (note ++ notes) now
 
-module _ (chart : ChartState → Outcome (List ℕ)) where
-  -- what is replied to a line in a state, and the state after it
-  pub data IsReply : ChartState → List ℕ → List ℕ → ChartState → Type 0 where
-    -- no reply
-    silent : (st : ChartState) (line : List ℕ) → is_silent line ≡ true → IsReply st line [] st
-    -- the line is no command
-    refused : (st : ChartState) (line : List ℕ) → is_silent line ≡ false → ((c : Command) → IsCommandLine line c → ⊥) → IsReply st line refused_line st
-    -- a print is replied to with the chart of the state
-    printed : (st : ChartState) (line text : List ℕ) → IsCommandLine line Print → chart st ≡ Drawn text → IsReply st line text st
-    -- any other command is replied to by the direct machine
-    told : (st : ChartState) (line : List ℕ) (c : Command) → IsCommandLine line c → c ≢ Print → IsReply st line (reply_text (reply_of chart st c)) (state_after chart st c)
-
-  -- the output of lines, and the state after them: the replies joined, each from the state that the lines before it left
-  pub data IsOutput : ChartState → List (List ℕ) → List ℕ → ChartState → Type 0 where
-    no_line : (st : ChartState) → IsOutput st [] [] st
-    one_line : (st mid now : ChartState) (line reply rest : List ℕ) (lines : List (List ℕ)) → IsReply st line reply mid → IsOutput mid lines rest now
-        → IsOutput st (line ∷ lines) (reply ++ rest) now
-
-  -- the output of a script
-  abbrev pub IsOutputOf : ChartState → List ℕ → List ℕ → ChartState → Type 0
-  IsOutputOf st script out now = IsOutput st (lines_of script) out now
+  -- the output of a script, and its notes
+  abbrev pub IsOutputOf : S → List ℕ → List ℕ → List ℕ → S → Type 0
+  IsOutputOf st script out notes now = IsOutput st 1 (lines_of script) out notes now
 
 -- The rules at work.
 
@@ -90,3 +79,6 @@ only_one_return_is_dropped = refl
 
 no_script : lines_of [] ≡ [] ∷ []
 no_script = refl
+
+a_line_without_its_end : ended_lines (codes "a\n\nb") ≡ codes "a" ∷ [] ∷ []
+a_line_without_its_end = refl

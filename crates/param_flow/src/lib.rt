@@ -4,8 +4,12 @@
 
 mod command;
 mod event;
+mod param_error;
 mod reply;
+mod unit_rows;
 
 pub use command::{ChangeOf, Command};
 pub use event::Event;
+pub use param_error::ParamError;
 pub use reply::{Cause, Reply};
+pub use unit_rows::UnitRows;

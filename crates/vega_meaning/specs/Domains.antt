@@ -42,7 +42,8 @@ extent_of (m ∷ ms) = (least m ms, greatest m ms)
 abbrev pub with_zero : ℤ × ℤ → ℤ × ℤ
 with_zero domain = (int_min domain.0 (pos 0), int_max domain.1 (pos 0))
 
-distinct_in_byte_order : ascending (slice_cmp nat_cmp) (codes "b" ∷ codes "ab" ∷ codes "b" ∷ codes "a" ∷ []) ≡ codes "a" ∷ codes "ab" ∷ codes "b" ∷ []
+distinct_in_byte_order : ascending (slice_cmp nat_cmp) (codes "b" ∷ codes "ab" ∷ codes "b" ∷ codes "a" ∷ [])
+    ≡ codes "a" ∷ codes "ab" ∷ codes "b" ∷ []
 distinct_in_byte_order = refl
 
 the_extent_of_three : extent_of (pos 28 ∷ pos 55 ∷ pos 43 ∷ []) ≡ (pos 28, pos 55)

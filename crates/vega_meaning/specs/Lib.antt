@@ -5,5 +5,6 @@ pub mod Scales
 pub mod Frames
 pub mod Bars
 pub mod States
+pub mod Semantics
 pub mod Answers
 pub mod Examples

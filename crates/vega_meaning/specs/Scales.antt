@@ -1,7 +1,15 @@
--- Places on scales, in millionths of a pixel.
-use Rattle.std.specs.Prelude.{ℕ, zero, suc, ◌+◌, ◌*◌, ℤ, pos, ◌+ℤ◌, ◌-ℤ◌, ◌*ℤ◌, int_lt, unsigned_abs, nat_lt, Option, Some, if◌then◌else◌, ◌≡◌, refl}
+-- Places on scales, in millionths of a pixel. A cell may have no place, and a place may be out of range.
+use Rattle.std.specs.Prelude.{ℕ, zero, suc, ◌+◌, ◌*◌, ℤ, pos, ◌+ℤ◌, ◌-ℤ◌, ◌*ℤ◌, int_lt, unsigned_abs, Option, Some, None, List, [], ◌∷◌, length, position, codes, if◌then◌else◌, ◌≡◌, refl}
 use Rattle.fixed_num.specs.Number.{million, rounded, floor_quotient}
+use Rattle.cell_value.specs.declared.cell.Cell.{Cell}
+use Rattle.cell_value.specs.declared.cell.Cell.TheVariants.{Null, Number, Text}
+use Rattle.cell_value.specs.Cell.{same_cells}
+use Rattle.scene_tree.specs.Outcome.{Outcome, Drawn, outcome_map, in_reach}
 use Rattle.vega_meaning.specs.Ranges.{in_range, pixels}
+
+-- the middle between two places
+abbrev pub middle : ℤ → ℤ → Outcome ℤ
+middle r0 r1 = in_reach (in_range (r0 +ℤ rounded (r1 -ℤ r0) 2))
 
 -- a linear scale: the domain d0 to d1 is laid over the range r0 to r1
 pub record Linear : Type 0 where
@@ -11,50 +19,108 @@ pub record Linear : Type 0 where
   pub r1 : ℤ
 
 -- the place of a number; the middle of the range where the domain is one point
-abbrev pub linear_place : Linear → ℤ → Option ℤ
-linear_place s v =
-    if int_lt s.d0 s.d1 then in_range (s.r0 +ℤ rounded ((v -ℤ s.d0) *ℤ (s.r1 -ℤ s.r0)) (unsigned_abs (s.d1 -ℤ s.d0)))
-    else in_range (s.r0 +ℤ rounded (s.r1 -ℤ s.r0) 2)
+abbrev pub place_of_number : Linear → ℤ → Outcome ℤ
+place_of_number s v =
+    if int_lt s.d0 s.d1 then in_reach (in_range (s.r0 +ℤ rounded ((v -ℤ s.d0) *ℤ (s.r1 -ℤ s.r0)) (unsigned_abs (s.d1 -ℤ s.d0))))
+    else middle s.r0 s.r1
 
--- a band scale over so many cells: the paddings, in millionths of a step, stand between the bands and outside of them
+-- the place of a cell: one that is no number has none
+abbrev pub linear_place : Linear → Cell → Outcome (Option ℤ)
+linear_place s (Number v) = outcome_map Some (place_of_number s v)
+linear_place s other = Drawn None
+
+-- a band scale over the cells of a domain: the paddings, in millionths of a step, stand between the bands and outside of them
 pub record Band : Type 0 where
-  pub count : ℕ
+  pub domain : List Cell
   pub inner : ℕ
   pub outer : ℕ
   pub r0 : ℤ
   pub r1 : ℤ
 
--- so many steps, in millionths of one, less the inner padding and with the outer one at both ends; one where that isn't positive
+-- so many steps, in millionths of one, less the inner padding and with the outer one at both ends
+abbrev pub steps_of : ℕ → ℕ → ℕ → ℤ
+steps_of count inner outer = pos (count * million + 2 * outer) -ℤ pos inner
+
+-- the space that so many bands take, in millionths of a step: their steps, and one step where that isn't positive; none without a band
 abbrev pub space_of : ℕ → ℕ → ℕ → ℕ
 space_of zero inner outer = 0
 space_of (suc n) inner outer =
-    if int_lt (pos 0) (pos (suc n * million + 2 * outer) -ℤ pos inner) then unsigned_abs (pos (suc n * million + 2 * outer) -ℤ pos inner) else million
+    if int_lt (pos 0) (steps_of (suc n) inner outer) then unsigned_abs (steps_of (suc n) inner outer) else million
 
-abbrev pub band_space : Band → ℕ
-band_space b = space_of b.count b.inner b.outer
+abbrev pub band_steps : Band → ℤ
+band_steps b = steps_of (length b.domain) b.inner b.outer
 
--- the lesser end of the band of the cell at an index, where the steps and the paddings are more than nothing
-abbrev pub band_place : Band → ℕ → Option ℤ
-band_place b index =
-    if int_lt b.r1 b.r0 then in_range (b.r0 +ℤ rounded ((b.r1 -ℤ b.r0) *ℤ (pos (b.outer + (index + 1) * million) -ℤ pos b.inner)) (band_space b))
-    else in_range (b.r0 +ℤ rounded ((b.r1 -ℤ b.r0) *ℤ pos (b.outer + index * million)) (band_space b))
+-- the lesser end of the band at an index of the domain; the middle of the range where the steps aren't positive
+abbrev pub place_at : Band → ℕ → Outcome ℤ
+place_at b index =
+    if int_lt (pos 0) (band_steps b) then
+    (if int_lt b.r1 b.r0
+    then in_reach (in_range (b.r0 +ℤ rounded ((b.r1 -ℤ b.r0) *ℤ (pos (b.outer + (index + 1) * million) -ℤ pos b.inner))
+    (unsigned_abs (band_steps b))))
+    else in_reach (in_range (b.r0 +ℤ rounded ((b.r1 -ℤ b.r0) *ℤ pos (b.outer + index * million)) (unsigned_abs (band_steps b)))))
+    else middle b.r0 b.r1
 
--- the width of a band
+-- the place of an entry of the domain, if there is one
+abbrev pub place_of_entry : Band → Option ℕ → Outcome (Option ℤ)
+place_of_entry b (Some index) = outcome_map Some (place_at b index)
+place_of_entry b None = Drawn None
+
+-- the place of a cell: that of the first entry that is the same cell; one outside the domain has none
+abbrev pub band_place : Band → Cell → Outcome (Option ℤ)
+band_place b cell = place_of_entry b (position (same_cells cell) b.domain)
+
+-- the width of a band; nothing without a band, or where the steps aren't positive
 abbrev pub band_width : Band → ℤ
-band_width b = if nat_lt 0 (band_space b) then rounded (pos (unsigned_abs (b.r1 -ℤ b.r0)) *ℤ (pos million -ℤ pos b.inner)) (band_space b) else pos 0
+band_width b =
+    if int_lt (pos 0) (band_steps b) then width_of b.domain else pos 0
+  where
+    width_of : List Cell → ℤ
+    width_of [] = pos 0
+    width_of (cell ∷ cells) = rounded (pos (unsigned_abs (b.r1 -ℤ b.r0)) *ℤ (pos million -ℤ pos b.inner)) (unsigned_abs (band_steps b))
 
-the_place_of_28 : linear_place (record { d0 = pixels 0; d1 = pixels 55; r0 = pixels 200; r1 = pixels 0 }) (pixels 28) ≡ Some (pos 98181818)
+-- The rules at work.
+
+the_place_of_28 : linear_place (record { d0 = pixels 0; d1 = pixels 55; r0 = pixels 200; r1 = pixels 0 }) (Number (pixels 28))
+    ≡ Drawn (Some (pos 98181818))
 unfolding rounded floor_quotient
 the_place_of_28 = refl
 
-the_middle_of_one_point : linear_place (record { d0 = pixels 0; d1 = pixels 0; r0 = pixels 200; r1 = pixels 0 }) (pixels 0) ≡ Some (pixels 100)
+the_middle_of_one_point : linear_place (record { d0 = pixels 0; d1 = pixels 0; r0 = pixels 200; r1 = pixels 0 }) (Number (pixels 0))
+    ≡ Drawn (Some (pixels 100))
 unfolding rounded floor_quotient
 the_middle_of_one_point = refl
 
-the_third_band : band_place (record { count = 3; inner = 100000; outer = 50000; r0 = pos 0; r1 = pixels 60 }) 2 ≡ Some (pixels 41)
+null_has_no_place : linear_place (record { d0 = pixels 0; d1 = pixels 55; r0 = pixels 200; r1 = pixels 0 }) Null ≡ Drawn None
+null_has_no_place = refl
+
+-- three bands over 60 pixels
+abbrev three_bands : Band
+three_bands = record {
+  domain = Text (codes "A") ∷ Text (codes "B") ∷ Text (codes "C") ∷ [];
+  inner = 100000;
+  outer = 50000;
+  r0 = pos 0;
+  r1 = pixels 60;
+}
+
+the_third_band : band_place three_bands (Text (codes "C")) ≡ Drawn (Some (pixels 41))
 unfolding rounded floor_quotient
 the_third_band = refl
 
-the_width_of_a_band : band_width (record { count = 3; inner = 100000; outer = 50000; r0 = pos 0; r1 = pixels 60 }) ≡ pixels 18
+a_cell_outside_the_domain : band_place three_bands (Text (codes "D")) ≡ Drawn None
+a_cell_outside_the_domain = refl
+
+the_width_of_a_band : band_width three_bands ≡ pixels 18
 unfolding rounded floor_quotient
 the_width_of_a_band = refl
+
+-- one band that is all padding
+abbrev all_padding : Band
+all_padding = record { domain = Null ∷ []; inner = 1000000; outer = 0; r0 = pos 0; r1 = pixels 60 }
+
+all_padding_is_in_the_middle : band_place all_padding Null ≡ Drawn (Some (pixels 30))
+unfolding rounded floor_quotient
+all_padding_is_in_the_middle = refl
+
+all_padding_has_no_width : band_width all_padding ≡ pos 0
+all_padding_has_no_width = refl

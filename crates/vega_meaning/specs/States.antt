@@ -1,13 +1,11 @@
 -- Which states are those of a Vega specification.
 use Rattle.std.specs.Prelude.{◌≡◌, [], ◌∷◌, map}
-use Rattle.cell_value.specs.declared.state.Named.{Named}
-use Rattle.cell_value.specs.declared.state.ChartState.{ChartState}
-use Rattle.cell_value.specs.State.{IsState}
+use Rattle.cell_value.specs.State.{Dataset, State, IsState}
 use Rattle.vega_model.specs.declared.spec.VgSpec.{VgSpec}
 
 -- the state has the one source that the specification names, and no parameter and no selection, since it has none
-pub record IsStateOf (g : VgSpec) (st : ChartState) : Type 0 where
+pub record IsStateOf (g : VgSpec) (st : State) : Type 0 where
   pub is : IsState st
-  pub sources : map (λ (source : Named). source.name) st.sources ≡ g.source ∷ []
+  pub sources : map (λ (source : Dataset). source.name) st.sources ≡ g.source ∷ []
   pub params : st.params ≡ []
   pub stores : st.stores ≡ []

@@ -1,0 +1,8 @@
+use Rattle.std.proofs.Common.{◌≡◌, drop, map}
+use Rattle.first_form.specs.FirstForm.{value_in, all_found}
+use Rattle.first_form.proofs.Values.{after}
+use Rattle.first_form.proofs.form.values_in.Given as goal
+
+abbrev pub invariant-loop-row : goal.invariant-loop-row
+invariant-loop-row l =
+    after l.values (all_found (map (value_in l.x l.y) (drop l.row-index l.rows))) ≡ all_found (map (value_in l.x l.y) l.rows)
