@@ -1,108 +1,122 @@
--- What came of a line, from what came of its command.
-use Rattle.std.proofs.Common.{◌≡◌, ◌≢◌, ◌⊎◌, inl, inr, ℕ, ◌≤◌, ◌<◌, true, false, List, [], length, Option, Result, Ok, Err, OnOk, OnErr, sym, subst, ◌∙◌, arith}
+-- What comes of lines that are done one after another.
+use Rattle.std.proofs.Common.{◌≡◌, ◌⊎◌, inl, inr, ℕ, suc, ◌+◌, ◌≤◌, ◌<◌, true, false, List, [], ◌∷◌, ◌++◌, length, take, drop, Option, Result, Ok, Err, OnOk, IfErr, refl, sym, ap, subst, ◌∙◌, append_assoc, append-nil, take-append-drop, arith}
+use Rattle.std.proofs.lemmas.List.{take_at}
 use Rattle.chart_io.specs.Outside.{Appended, AppendedPrefix}
-use Rattle.cell_value.specs.declared.state.ChartState.{ChartState}
-use Rattle.scene_tree.specs.Outcome.{Outcome, Drawn, Overflow, Panels, IsDrawn}
-use Rattle.param_flow.specs.declared.command.Command.{Command}
-use Rattle.param_flow.specs.declared.command.Command.TheVariants.{Print}
-use Rattle.param_flow.specs.Alike.{AreAlike}
-use Rattle.param_flow.specs.Commands.{IsCommand}
-use Rattle.param_flow.specs.Machine.{reply_of, state_after}
-use Rattle.param_flow.specs.Script.{IsCommandLine, is_silent, most_line_bytes, reply_text, refused_line, silent, refused, printed, told}
-use Rattle.play_script.specs.declared.errors.LineError.{LineError}
-use Rattle.play_script.specs.declared.errors.LineError.TheVariants.{Fault, Memory}
-use Rattle.play_script.specs.Pending.{IsShownOf}
-use Rattle.play_script.specs.Progress.{IsDone, IsBroken}
-use Rattle.play_script.proofs.AlikeStates.{alike_itself}
-use Rattle.play_script.proofs.Once.{no_command_reply, print_reply, told_reply}
-use Rattle.play_script.proofs.Standing.{appended_nothing, begins_with_nothing, kept_itself}
+use Rattle.param_flow.specs.Script.{is_silent, most_line_bytes, refused_line, IsLine, IsOutput, silent, too_long, replied, no_line, one_line}
+use Rattle.play_script.specs.declared.errors.PlayError.{PlayError}
+use Rattle.play_script.specs.Played.{Sinks, sinks, AreKept, AreWritten, IsLineDone, AreDone, AreBegun}
+use Rattle.play_script.specs.inner.Pending.{IsShownOf}
+use Rattle.play_script.specs.inner.Progress.{IsStop, AreSent, AreAnswered}
+use Rattle.play_script.proofs.Sinks.{appended_begins, appended_nothing, kept_begins, appended_both, begun_both, map_written, join_written}
 
--- where a line is a fault it is no command
-pub no_command : {line : List ℕ} (r : Result Command LineError) → ((command : Command) → IsCommand line command → (r ≡ Ok command) ⊎ (r ≡ Err Memory)) → r ≡ Err Fault
-    → (c : Command) → IsCommandLine line c → ⊥
-no_command r h e c is = no_fault (h c is.is) e
-  where
-    no_fault : (r ≡ Ok c) ⊎ (r ≡ Err Memory) → r ≡ Err Fault → ⊥
-    no_fault (inl ok) e = let both : Ok c ≡ Err Fault = sym ok ∙ e in absurd (cc)
-    no_fault (inr memory) e = let both : Err Memory ≡ Err Fault = sym memory ∙ e in absurd (cc)
+-- a text was written beside notes of which nothing is said
+pub sent : {X : Type 0} (Holds : List ℕ → List ℕ → Type 0) (held held_now noted : Option (List ℕ)) (faults : ℕ) (result : Result X PlayError) (text : List ℕ) → Holds text []
+    → IfErr result IsStop → OnOk result (Appended held held_now text) → AppendedPrefix held held_now text
+    → AreSent Holds (sinks held noted faults) (sinks held_now noted faults) result
+sent Holds held held_now noted faults (Ok x) text is stop ok prefix = record { out = text; notes = []; is = is; appended = ok; noted = λ sound. appended_nothing noted }
+sent Holds held held_now noted faults (Err cause) text is stop ok prefix =
+    (stop, record { out = text; notes = []; is = is; appended = prefix; noted = λ sound. appended_begins noted noted [] (appended_nothing noted) })
 
-module _ (chart : ChartState → Outcome (List ℕ)) where
-  print_begun : (st : ChartState) (held held_now : Option (List ℕ)) (line picture : List ℕ) → chart st ≡ Drawn picture → IsCommandLine line Print → AppendedPrefix held held_now picture
-      → IsBroken chart line st st held held_now
-  print_begun st held held_now line picture e is h = record {
-    begun = λ reply now r.
-        let at : List ℕ → Type 0 = λ xs. AppendedPrefix held held_now xs in
-        subst at (sym (print_reply chart st line reply now picture is e r).0) h;
-    around = inr (picture, st, printed st line picture is e, alike_itself st, h);
+module _ {S : Type 0} (Replies : S → ℕ → List ℕ → List ℕ → List ℕ → S → Type 0) where
+  -- the output of one line
+  one_of : (st now : S) (n : ℕ) (line reply note : List ℕ) → IsLine Replies st n line reply note now → IsOutput Replies st n (line ∷ []) reply note now
+  one_of st now n line reply note is =
+      let at : List ℕ → Type 0 = λ xs. IsOutput Replies st n (line ∷ []) xs note now in
+      let notes : List ℕ → Type 0 = λ xs. IsOutput Replies st n (line ∷ []) (reply ++ []) xs now in
+      subst at (append-nil reply) (subst notes (append-nil note) (one_line st now now n line reply note [] [] [] is (no_line now (suc n))))
+
+  line_sent : {X : Type 0} (st st_now : S) (n : ℕ) (line : List ℕ) (before now : Sinks) (result : Result X PlayError)
+      → AreSent (λ reply note. IsLine Replies st n line reply note st_now) before now result → AreAnswered Replies n (line ∷ []) st st_now before now result
+  line_sent st st_now n line before now (Ok x) h = map_written Appended _ _ before now (λ reply note. one_of st st_now n line reply note) h
+  line_sent st st_now n line before now (Err cause) h = (h.0, (1, map_written AppendedPrefix _ _ before now (λ reply note. one_of st st_now n line reply note) h.1))
+
+  -- a silent line, and one that is too long
+  pub silent_done : (st : S) (n : ℕ) (line shown : List ℕ) (now : Sinks) → IsShownOf line shown → is_silent shown ≡ true → AreDone Replies n (line ∷ []) st st now now
+  silent_done st n line shown now h e = record {
+    out = [];
+    notes = [];
+    is = one_of st st n line [] [] (silent st n line (sym h.silence ∙ e));
+    appended = appended_nothing now.held;
+    noted = λ sound. appended_nothing now.noted;
   }
 
-  module _ {X E : Type 0} (st : ChartState) (held held_now : Option (List ℕ)) (line : List ℕ) where
-    -- a print
-    pub print_ok : (result : Result X E) (outcome : Outcome (List ℕ)) → chart st ≡ outcome → IsCommandLine line Print
-        → IsDrawn outcome (λ text. OnOk result (Appended held held_now text)) → OnOk result (IsDone chart line st st held held_now)
-    print_ok (Ok x) (Drawn text) e is h = record { reply = text; now = st; is = printed st line text is e; alike = alike_itself st; appended = h }
-    print_ok (Ok x) Overflow e is h = absurd h
-    print_ok (Ok x) (Panels n) e is h = absurd h
-    print_ok (Err x) outcome e is h = tt
-
-    pub print_err : (result : Result X E) (outcome : Outcome (List ℕ)) → chart st ≡ outcome → IsCommandLine line Print
-        → IsDrawn outcome (λ text. AppendedPrefix held held_now text) → OnErr result (IsBroken chart line st st held held_now)
-    print_err (Err x) (Drawn text) e is h = print_begun st held held_now line text e is h
-    print_err (Err x) Overflow e is h = absurd h
-    print_err (Err x) (Panels n) e is h = absurd h
-    print_err (Ok x) outcome e is h = tt
-
-    -- a line that is no command
-    pub refuse_ok : (result : Result X E) → is_silent line ≡ false → ((c : Command) → IsCommandLine line c → ⊥)
-        → OnOk result (Appended held held_now refused_line) → OnOk result (IsDone chart line st st held held_now)
-    refuse_ok (Ok x) loud none h = record { reply = refused_line; now = st; is = refused st line loud none; alike = alike_itself st; appended = h }
-    refuse_ok (Err x) loud none h = tt
-
-    pub refuse_err : (result : Result X E) → is_silent line ≡ false → ((c : Command) → IsCommandLine line c → ⊥)
-        → AppendedPrefix held held_now refused_line → OnErr result (IsBroken chart line st st held held_now)
-    refuse_err (Ok x) loud none h = tt
-    refuse_err (Err x) loud none h = record {
-      begun = λ reply now r.
-          let at : List ℕ → Type 0 = λ xs. AppendedPrefix held held_now xs in
-          subst at (sym (no_command_reply chart st line reply now loud none r).0) h;
-      around = inr (refused_line, st, refused st line loud none, alike_itself st, h);
-    }
-
-    -- any other command
-    pub told_ok : (result : Result X E) (st_now : ChartState) (c : Command) → IsCommandLine line c → c ≢ Print
-        → OnOk result (Appended held held_now (reply_text (reply_of chart st c))) → AreAlike st_now (state_after chart st c)
-        → OnOk result (IsDone chart line st st_now held held_now)
-    told_ok (Ok x) st_now c is other h alike = record { reply = reply_text (reply_of chart st c); now = state_after chart st c; is = told st line c is other; alike = alike; appended = h }
-    told_ok (Err x) st_now c is other h alike = tt
-
-    pub told_err : (result : Result X E) (st_now : ChartState) (c : Command) → IsCommandLine line c → c ≢ Print
-        → AppendedPrefix held held_now (reply_text (reply_of chart st c)) → AreAlike st_now (state_after chart st c)
-        → OnErr result (IsBroken chart line st st_now held held_now)
-    told_err (Ok x) st_now c is other h alike = tt
-    told_err (Err x) st_now c is other h alike = record {
-      begun = λ reply now r.
-          let at : List ℕ → Type 0 = λ xs. AppendedPrefix held held_now xs in
-          subst at (sym (told_reply chart st line reply now c is other r).0) h;
-      around = inr (reply_text (reply_of chart st c), state_after chart st c, told st line c is other, alike, h);
-    }
+  pub refused_done : {X : Type 0} (st : S) (n : ℕ) (line shown : List ℕ) (held held_now noted : Option (List ℕ)) (faults : ℕ) (result : Result X PlayError)
+      → IsShownOf line shown → is_silent shown ≡ false → most_line_bytes < length shown → IfErr result IsStop → OnOk result (Appended held held_now refused_line)
+      → AppendedPrefix held held_now refused_line → AreAnswered Replies n (line ∷ []) st st (sinks held noted faults) (sinks held_now noted faults) result
+  refused_done st n line shown held held_now noted faults result h loud long stop ok prefix =
+      line_sent st st n line (sinks held noted faults) (sinks held_now noted faults) result
+      (sent _ held held_now noted faults result refused_line (too_long st n line (sym h.silence ∙ loud) (h.long long)) stop ok prefix)
 
   -- nothing was done
-  pub nothing_done : (st : ChartState) (held : Option (List ℕ)) (line : List ℕ) → IsBroken chart line st st held held
-  nothing_done st held line = record { begun = λ reply now r. begins_with_nothing held reply; around = inl (alike_itself st, kept_itself held) }
+  pub none_begun : (n : ℕ) (lines : List (List ℕ)) (st : S) (now : Sinks) → AreBegun Replies n lines st st now now
+  none_begun n lines st now = (
+    0,
+    record {
+      out = [];
+      notes = [];
+      is = no_line st n;
+      appended = appended_begins now.held now.held [] (appended_nothing now.held);
+      noted = λ sound. appended_begins now.noted now.noted [] (appended_nothing now.noted);
+    },
+  )
 
-  -- a silent line
-  pub silent_done : (st : ChartState) (held : Option (List ℕ)) (line shown : List ℕ) → IsShownOf line shown → is_silent shown ≡ true → IsDone chart line st st held held
-  silent_done st held line shown h e = record {
-    reply = [];
-    now = st;
-    is = silent st line (sym h.silence ∙ e);
-    alike = alike_itself st;
-    appended = appended_nothing held;
-  }
+  -- any other line
+  module _ (st st_now : S) (n : ℕ) (line shown : List ℕ) (before now : Sinks) (h : IsShownOf line shown) (loud : is_silent shown ≡ false) (short : length shown ≤ most_line_bytes) where
+    replied_so : (reply note : List ℕ) → Replies st n shown reply note st_now → IsLine Replies st n line reply note st_now
+    replied_so reply note is =
+        let at : List ℕ → Type 0 = λ xs. IsLine Replies st n xs reply note st_now in
+        subst at (h.short short) (replied st st_now n shown reply note loud short is)
 
--- a line that is too long is no command
-pub too_long : (line shown : List ℕ) → IsShownOf line shown → most_line_bytes < length shown → (c : Command) → IsCommandLine line c → ⊥
-too_long line shown h over c is =
-    let long : most_line_bytes < length line = h.long over in
-    let short : length line ≤ most_line_bytes = is.short in
-    absurd (omega arith)
+    line_begun : ((st_now ≡ st) × AreKept before now) ⊎ AreWritten AppendedPrefix (λ reply note. Replies st n shown reply note st_now) before now → AreBegun Replies n (line ∷ []) st st_now before now
+    line_begun (inl none) =
+        let at : S → Type 0 = λ s. IsOutput Replies st n [] [] [] s in (
+          0,
+          record {
+            out = [];
+            notes = [];
+            is = subst at (sym none.0) (no_line st n);
+            appended = kept_begins before.held now.held none.1.0;
+            noted = λ sound. kept_begins before.noted now.noted (none.1.1 sound);
+          },
+        )
+    line_begun (inr w) = (1, map_written AppendedPrefix _ _ before now (λ reply note is. one_of st st_now n line reply note (replied_so reply note is)) w)
+
+    pub line_done : {X : Type 0} (result : Result X PlayError) → IsLineDone Replies n shown st st_now before now result → AreAnswered Replies n (line ∷ []) st st_now before now result
+    line_done (Ok x) w = map_written Appended _ _ before now (λ reply note is. one_of st st_now n line reply note (replied_so reply note is)) w
+    line_done (Err cause) w = (w.0, line_begun w.1)
+
+  -- lines after lines
+  join_output : (st mid now : S) (n m : ℕ) (xs ys : List (List ℕ)) (a b c d : List ℕ) → m ≡ n + length xs
+      → IsOutput Replies st n xs a c mid → IsOutput Replies mid m ys b d now → IsOutput Replies st n (xs ++ ys) (a ++ b) (c ++ d) now
+  join_output st mid now n m [] ys a b c d e (no_line s k) is =
+      let same : m ≡ n = omega arith in
+      let at : ℕ → Type 0 = λ k. IsOutput Replies st k ys b d now in subst at same is
+  join_output st mid now n m (line ∷ xs) ys a b c d e (one_line s next t k l reply note rest notes ls first others) is =
+      let more : m ≡ suc n + length xs = omega arith in
+      let both = one_line st next now n line reply note (rest ++ b) (notes ++ d) (xs ++ ys) first (join_output next mid now (suc n) m xs ys rest b notes d more others is) in
+      let at : List ℕ → Type 0 = λ out. IsOutput Replies st n (line ∷ (xs ++ ys)) out (note ++ (notes ++ d)) now in
+      let at_notes : List ℕ → Type 0 = λ all. IsOutput Replies st n (line ∷ (xs ++ ys)) ((reply ++ rest) ++ b) all now in
+      subst at_notes (sym (append_assoc note notes d)) (subst at (sym (append_assoc reply rest b)) both)
+
+  first_lines : (ended lines more all : List (List ℕ)) (k : ℕ) → all ≡ ended ++ (lines ++ more) → ended ++ take k lines ≡ take (length (ended ++ take k lines)) all
+  first_lines ended lines more all k e =
+      let parts : all ≡ (ended ++ take k lines) ++ (drop k lines ++ more) =
+      e ∙ ap (λ xs. ended ++ (xs ++ more)) (sym (take-append-drop k lines)) ∙ ap (λ xs. ended ++ xs) (append_assoc (take k lines) (drop k lines) more)
+      ∙ sym (append_assoc ended (take k lines) (drop k lines ++ more)) in
+      sym (ap (take (length (ended ++ take k lines))) parts ∙ take_at (ended ++ take k lines) (drop k lines ++ more) (length (ended ++ take k lines)) refl)
+
+  module _ (st mid st_now : S) (before m now : Sinks) (first : before.faults ≤ m.faults) (next : m.faults ≤ now.faults) (ended lines : List (List ℕ)) (n : ℕ) (number : n ≡ suc (length ended))
+      (done : AreDone Replies 1 ended st mid before m) where
+    pub joined_done : AreDone Replies n lines mid st_now m now → AreDone Replies 1 (ended ++ lines) st st_now before now
+    joined_done h =
+        join_written Appended appended_both _ _ _ before m now first next
+        (λ a b c d. join_output st mid st_now 1 n ended lines a b c d (number ∙ omega arith)) done h
+
+    pub joined_begun : (more all : List (List ℕ)) → all ≡ ended ++ (lines ++ more) → AreBegun Replies n lines mid st_now m now → AreBegun Replies 1 all st st_now before now
+    joined_begun more all e h =
+        let at : List (List ℕ) → Type 0 = λ ls. AreWritten AppendedPrefix (λ out notes. IsOutput Replies st 1 ls out notes st_now) before now in (
+          length (ended ++ take h.0 lines),
+          subst at (first_lines ended lines more all h.0 e)
+              (join_written AppendedPrefix begun_both _ _ _ before m now first next
+              (λ a b c d. join_output st mid st_now 1 n ended (take h.0 lines) a b c d (number ∙ omega arith)) done h.1),
+        )

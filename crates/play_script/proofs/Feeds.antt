@@ -5,7 +5,7 @@ use Rattle.std.proofs.lemmas.List.Elements.{All-nil, All-cons, All-head, All-tai
 use Rattle.std.proofs.lemmas.Bool.{true≢false}
 use Rattle.std.proofs.lemmas.List.Splits.{slice_split_none, slice_split_at}
 use Rattle.param_flow.specs.Script.{without_returns, lines_of}
-use Rattle.play_script.specs.Pending.{without_last_return, HasNoFeed}
+use Rattle.play_script.specs.inner.Pending.{without_last_return, HasNoFeed}
 
 abbrev NotFeed : ℕ → Type 0
 NotFeed b = eqb b 10 ≡ false

@@ -1,11 +1,12 @@
 mod Items
 pub mod Feeds
+pub mod Split
+pub mod Sinks
+pub mod Done
+pub mod Standing
 pub mod Once
 pub mod Output
-pub mod AlikeStates
-pub mod Standing
-pub mod Shown
-pub mod Done
-pub mod Taken
+pub mod Vega
 pub mod Exits
-pub mod EmptyPicture
+pub mod Replied
+pub mod Shown

@@ -1,124 +1,112 @@
 -- From a state whose chart is drawn each line has a reply, and so lines have an output; the chart of the state after them is drawn.
-use Rattle.std.proofs.Common.{◌≡◌, ◌≢◌, ℕ, ◌≤◌, ◌<◌, nat_lt, not, Bool, true, false, List, [], ◌∷◌, ◌++◌, length, Option, Some, None, Result, Ok, Err, if◌then◌else◌, refl, sym, ap, ◌∙◌, ltb-true, ltb-false, arith}
-use Rattle.cell_value.specs.declared.state.ChartState.{ChartState}
+use Rattle.std.proofs.Common.{◌≡◌, ◌≢◌, ℕ, suc, nat_lt, not, Bool, true, false, List, [], ◌∷◌, ◌++◌, length, Option, Some, None, Result, Ok, Err, if◌then◌else◌, refl, sym, ap, ◌∙◌, ltb-true, ltb-false}
+use Rattle.cell_value.specs.State.{State}
 use Rattle.scene_tree.specs.Outcome.{Outcome, Drawn, Overflow, Panels}
 use Rattle.json_exact.proofs.Sound.{text_sound}
 use Rattle.json_exact.proofs.Whole.{is_fault}
 use Rattle.json_exact.specs.declared.json.Json.{Json}
-use Rattle.json_exact.specs.Reader.{text_at}
+use Rattle.json_exact.specs.inner.Reader.{text_at}
 use Rattle.json_exact.specs.Reading.{Reads}
 use Rattle.param_flow.specs.declared.command.Command.{Command}
 use Rattle.param_flow.specs.declared.command.Command.TheVariants.{Change, Set, Event, Print}
 use Rattle.param_flow.specs.declared.reply.Reply.{Reply}
 use Rattle.param_flow.specs.declared.reply.Reply.TheVariants.{Done, Refused}
 use Rattle.param_flow.specs.declared.reply.Cause.TheVariants as cause
-use Rattle.param_flow.specs.Commands.{command_of}
-use Rattle.param_flow.specs.Machine.{reply_to_chart, reply_to_rows, reply_to_change, reply_of, state_if, state_after, state_with, has_source, is_past_limit}
+use Rattle.param_flow.specs.Commands.{IsCommand, command_of}
+use Rattle.param_flow.specs.Semantics.{Semantics, has_source, has_settable}
+use Rattle.param_flow.specs.Machine.{reply_to_chart, reply_to_rows, reply_to_change, reply_to_set, reply_of, state_if, state_after, state_with, state_set, is_past_limit}
 use Rattle.param_flow.specs.Rows.{first_bad}
-use Rattle.param_flow.specs.Script.{IsCommandLine, IsReply, IsOutput, is_silent, most_line_bytes, reply_text, refused_line, silent, refused, printed, told, no_line, one_line}
-use Rattle.play_script.proofs.Once.{same_tree}
+use Rattle.param_flow.specs.Playing.{IsReply, reply_text, refused, printed, told}
+use Rattle.param_flow.specs.Script.{IsLine, IsOutput, is_silent, most_line_bytes, refused_line, silent, too_long, replied, no_line, one_line}
+use Rattle.play_script.specs.inner.Once.{same_tree}
 
--- where a change is done, the new chart is drawn
-chart_drawn : (o : Outcome (List ℕ)) → reply_to_chart o ≡ Done → (picture : List ℕ) × (o ≡ Drawn picture)
-chart_drawn (Drawn picture) e = (picture, refl)
-chart_drawn Overflow e = absurd cc
-chart_drawn (Panels n) e = absurd cc
+-- where a command is done, the new chart is drawn
+module _ {X : Type 0} where
+  chart_drawn : (o : Outcome X) → reply_to_chart o ≡ Done → (picture : X) × (o ≡ Drawn picture)
+  chart_drawn (Drawn picture) e = (picture, refl)
+  chart_drawn Overflow e = absurd cc
+  chart_drawn (Panels n) e = absurd cc
 
-done_drawn : (known past : Bool) (bad : Option (ℕ × List ℕ)) (o : Outcome (List ℕ))
-    → (if not known then Refused cause.Name else reply_to_rows bad (if past then Refused cause.Limit else reply_to_chart o)) ≡ Done
-    → (picture : List ℕ) × (o ≡ Drawn picture)
-done_drawn false past bad o e = absurd cc
-done_drawn true past (Some b) o e = absurd cc
-done_drawn true true None o e = absurd cc
-done_drawn true false None o e = chart_drawn o e
+  change_drawn : (known past : Bool) (bad : Option (ℕ × List ℕ)) (o : Outcome X)
+      → (if not known then Refused cause.Name else reply_to_rows bad (if past then Refused cause.Limit else reply_to_chart o)) ≡ Done
+      → (picture : X) × (o ≡ Drawn picture)
+  change_drawn false past bad o e = absurd cc
+  change_drawn true past (Some b) o e = absurd cc
+  change_drawn true true None o e = absurd cc
+  change_drawn true false None o e = chart_drawn o e
 
-not_within : (n m : ℕ) → n < m → m ≤ n → ⊥
-not_within n m more short = omega arith
+  set_drawn : (known : Bool) (o : Outcome X) → (if known then reply_to_chart o else Refused cause.Name) ≡ Done → (picture : X) × (o ≡ Drawn picture)
+  set_drawn false o e = absurd cc
+  set_drawn true o e = chart_drawn o e
 
-module _ (chart : ChartState → Outcome (List ℕ)) where
+module _ (meaning : Semantics) where
   -- the chart of the state is drawn
-  abbrev pub HasPicture : ChartState → Type 0
-  HasPicture st = (picture : List ℕ) × (chart st ≡ Drawn picture)
+  abbrev pub HasPicture : State → Type 0
+  HasPicture st = (picture : List ℕ) × (meaning.chart st ≡ Drawn picture)
 
-  -- the line has a reply, and the chart of the state after it is drawn
-  pub record HasReply (st : ChartState) (line : List ℕ) : Type 0 where
-    pub reply : List ℕ
-    pub now : ChartState
-    pub is : IsReply chart st line reply now
-    pub drawn : HasPicture now
-
-  -- the lines have an output, and the chart of the state after them is drawn
-  pub record HasOutput (st : ChartState) (lines : List (List ℕ)) : Type 0 where
-    pub out : List ℕ
-    pub now : ChartState
-    pub is : IsOutput chart st lines out now
-    pub drawn : HasPicture now
-
-  state_drawn : (r : Reply) (st new : ChartState) → HasPicture st → (r ≡ Done → HasPicture new) → HasPicture (state_if chart r st new)
+  state_drawn : (r : Reply) (st new : State) → HasPicture st → (r ≡ Done → HasPicture new) → HasPicture (state_if r st new)
   state_drawn Done st new old done = done refl
   state_drawn (Refused why) st new old done = old
 
   -- the chart of the state after a command is drawn
-  pub after_drawn : (st : ChartState) (c : Command) → HasPicture st → HasPicture (state_after chart st c)
+  pub after_drawn : (st : State) (c : Command) → HasPicture st → HasPicture (state_after meaning st c)
   after_drawn st (Change name change) old =
       let new = state_with st name change.insert in
-      state_drawn (reply_to_change chart st name change.insert) st new old
-      (done_drawn (has_source st name) (is_past_limit st change.insert) (first_bad 0 change.insert) (chart new))
-  after_drawn st (Set name value) old = old
+      state_drawn (reply_to_change meaning st name change.insert) st new old
+      (change_drawn (has_source meaning name) (is_past_limit st change.insert) (first_bad 0 change.insert) (meaning.chart new))
+  after_drawn st (Set name value) old =
+      state_drawn (reply_to_set meaning st name value) st (state_set st name value) old (set_drawn (has_settable meaning name) (meaning.chart (state_set st name value)))
   after_drawn st (Event event) old = old
   after_drawn st Print old = old
 
-  module _ (st : ChartState) (line : List ℕ) (drawn : HasPicture st) where
-    told_line : (c : Command) → IsCommandLine line c → c ≢ Print → HasReply st line
-    told_line c is other = record {
-      reply = reply_text (reply_of chart st c);
-      now = state_after chart st c;
-      is = told st line c is other;
-      drawn = after_drawn st c drawn;
-    }
+  -- of a relation that says what is replied and what the state is then: it holds, and the chart of that state is drawn
+  pub record HasReply (Is : List ℕ → List ℕ → State → Type 0) : Type 0 where
+    pub reply : List ℕ
+    pub note : List ℕ
+    pub now : State
+    pub is : Is reply note now
+    pub drawn : HasPicture now
 
-    command_line : (c : Command) → IsCommandLine line c → HasReply st line
+  module _ (st : State) (n : ℕ) (line : List ℕ) (drawn : HasPicture st) where
+    told_line : (c : Command) → IsCommand line c → c ≢ Print → HasReply (IsReply meaning st n line)
+    told_line c is other = record { reply = reply_text (reply_of meaning st c); note = []; now = state_after meaning st c; is = told st n line c is other; drawn = after_drawn st c drawn }
+
+    command_line : (c : Command) → IsCommand line c → HasReply (IsReply meaning st n line)
     command_line (Change name change) is = told_line (Change name change) is (λ e. absurd cc)
     command_line (Set name value) is = told_line (Set name value) is (λ e. absurd cc)
     command_line (Event event) is = told_line (Event event) is (λ e. absurd cc)
-    command_line Print is = record { reply = drawn.0; now = st; is = printed st line drawn.0 is drawn.1; drawn = drawn }
+    command_line Print is = record { reply = drawn.0; note = []; now = st; is = printed st n line drawn.0 is drawn.1; drawn = drawn }
 
-    refused_one : is_silent line ≡ false → ((c : Command) → IsCommandLine line c → ⊥) → HasReply st line
-    refused_one loud none = record { reply = refused_line; now = st; is = refused st line loud none; drawn = drawn }
+    refused_one : ((c : Command) → IsCommand line c → ⊥) → HasReply (IsReply meaning st n line)
+    refused_one none = record { reply = refused_line; note = []; now = st; is = refused st n line none; drawn = drawn }
 
     -- a line that reads as a tree is a command or none
-    by_command : is_silent line ≡ false → length line ≤ most_line_bytes → (tree : Json) → Reads line tree
-        → (o : Option Command) → command_of tree ≡ o → HasReply st line
-    by_command loud short tree reads (Some c) e = command_line c (record { loud = loud; short = short; is = record { tree = tree; reads = reads; is = e } })
-    by_command loud short tree reads None e = refused_one loud (λ c is.
-        let same : is.is.tree ≡ tree = same_tree line is.is.tree tree is.is.reads reads in
-        let both : Some c ≡ None = sym is.is.is ∙ ap command_of same ∙ e in
+    by_command : (tree : Json) → Reads line tree → (o : Option Command) → command_of tree ≡ o → HasReply (IsReply meaning st n line)
+    by_command tree reads (Some c) e = command_line c (record { tree = tree; reads = reads; is = e })
+    by_command tree reads None e = refused_one (λ c is.
+        let same : is.tree ≡ tree = same_tree line is.tree tree is.reads reads in
+        let both : Some c ≡ None = sym is.is ∙ ap command_of same ∙ e in
         absurd cc)
 
-    by_tree : is_silent line ≡ false → length line ≤ most_line_bytes → (r : Result Json ℕ) → text_at line ≡ r → HasReply st line
-    by_tree loud short (Ok tree) e = by_command loud short tree (text_sound line tree e) (command_of tree) refl
-    by_tree loud short (Err k) e = refused_one loud (λ c is. is_fault line k e is.is.tree is.is.reads)
+    by_tree : (r : Result Json ℕ) → text_at line ≡ r → HasReply (IsReply meaning st n line)
+    by_tree (Ok tree) e = by_command tree (text_sound line tree e) (command_of tree) refl
+    by_tree (Err k) e = refused_one (λ c is. is_fault line k e is.tree is.reads)
 
-    by_length : is_silent line ≡ false → (n : ℕ) → n ≡ most_line_bytes → (b : Bool) → nat_lt n (length line) ≡ b → HasReply st line
-    by_length loud n same true e = refused_one loud (λ c is. not_within n (length line) (ltb-true n (length line) e) (rw same is.short))
-    by_length loud n same false e = by_tree loud (rw (← same) (ltb-false n (length line) e)) (text_at line) refl
+    by_length : is_silent line ≡ false → (b : Bool) → nat_lt most_line_bytes (length line) ≡ b → HasReply (IsLine (IsReply meaning) st n line)
+    by_length loud true e =
+        record { reply = refused_line; note = []; now = st; is = too_long st n line loud (ltb-true most_line_bytes (length line) e); drawn = drawn }
+    by_length loud false e =
+        let r = by_tree (text_at line) refl in
+        record { reply = r.reply; note = r.note; now = r.now; is = replied st r.now n line r.reply r.note loud (ltb-false most_line_bytes (length line) e) r.is; drawn = r.drawn }
 
-    by_silence : (b : Bool) → is_silent line ≡ b → HasReply st line
-    by_silence true e = record { reply = []; now = st; is = silent st line e; drawn = drawn }
-    by_silence false e = by_length e most_line_bytes refl (nat_lt most_line_bytes (length line)) refl
-
-  -- each line has a reply
-  pub a_reply : (st : ChartState) (line : List ℕ) → HasPicture st → HasReply st line
-  a_reply st line drawn = by_silence st line drawn (is_silent line) refl
+    a_line : (b : Bool) → is_silent line ≡ b → HasReply (IsLine (IsReply meaning) st n line)
+    a_line true e = record { reply = []; note = []; now = st; is = silent st n line e; drawn = drawn }
+    a_line false e = by_length e (nat_lt most_line_bytes (length line)) refl
 
   -- lines have an output
-  pub has_output : (st : ChartState) (lines : List (List ℕ)) → HasPicture st → HasOutput st lines
-  has_output st [] drawn = record { out = []; now = st; is = no_line st; drawn = drawn }
-  has_output st (line ∷ lines) drawn =
-      let r = a_reply st line drawn in
-      let o = has_output r.now lines r.drawn in
-      record { out = r.reply ++ o.out; now = o.now; is = one_line st r.now o.now line r.reply o.out lines r.is o.is; drawn = o.drawn }
-
-  pub an_output : (st : ChartState) (picture : List ℕ) (lines : List (List ℕ)) → chart st ≡ Drawn picture
-      → (out : List ℕ) × (now : ChartState) × IsOutput chart st lines out now × ((later : List ℕ) × (chart now ≡ Drawn later))
-  an_output st picture lines e = let o = has_output st lines (picture, e) in (o.out, o.now, o.is, o.drawn)
+  pub has_output : (st : State) (n : ℕ) (lines : List (List ℕ)) → HasPicture st → HasReply (IsOutput (IsReply meaning) st n lines)
+  has_output st n [] drawn = record { reply = []; note = []; now = st; is = no_line st n; drawn = drawn }
+  has_output st n (line ∷ lines) drawn =
+      let r = a_line st n line drawn (is_silent line) refl in
+      let o = has_output r.now (suc n) lines r.drawn in
+      record { reply = r.reply ++ o.reply; note = r.note ++ o.note; now = o.now; is = one_line st r.now o.now n line r.reply r.note o.reply o.note lines r.is o.is; drawn = o.drawn }

@@ -1,240 +1,130 @@
 -- How far a script has come, step by step.
-use Rattle.std.proofs.Common.{◌≡◌, ◌≢◌, ℕ, ◌≤◌, List, [], ◌∷◌, ◌++◌, length, take, Option, Some, None, inl, inr, eqb, false, refl, sym, ap, subst, ◌∙◌, append_assoc, append-nil, arith, ne_eqb}
+use Rattle.std.proofs.Common.{◌≡◌, ◌≢◌, inr, ℕ, ◌+◌, ◌≤◌, ◌<◌, ◌^◌, ◌-◌, min, suc, true, List, [], ◌∷◌, ◌++◌, length, take, drop, get_or, Result, Ok, Err, OnOk, IfErr, sym, ap, subst, ◌∙◌, append_assoc, append-nil, take-append-drop, length-append, length-take, arith}
 use Rattle.std.proofs.lemmas.Grind.{common_steps}
-use Rattle.std.proofs.lemmas.List.{take_at}
-use Rattle.std.proofs.lemmas.List.Elements.{All-nil, All-push}
-use Rattle.chart_io.specs.Outside.{Kept, Appended, AppendedPrefix}
-use Rattle.chart_io.proofs.Written.{prefix_within}
-use Rattle.cell_value.specs.declared.state.ChartState.{ChartState}
-use Rattle.scene_tree.specs.Outcome.{Outcome}
-use Rattle.param_flow.specs.Alike.{AreAlike}
-use Rattle.param_flow.specs.Script.{lines_of, IsOutput, no_line, one_line}
+use Rattle.param_flow.specs.Script.{lines_of, ended_lines, most_script_bytes, no_line}
+use Rattle.play_script.specs.declared.errors.PlayError.{PlayError}
+use Rattle.play_script.specs.declared.errors.PlayError.TheVariants.{Memory}
 use Rattle.play_script.specs.declared.pending.Pending.{Pending}
-use Rattle.play_script.specs.Pending.{Keeps, HasNoFeed, without_last_return}
-use Rattle.play_script.specs.Progress.{IsDone, IsBroken, StandsAround, Stands, IsStoppedIn, IsStopped}
-use Rattle.play_script.proofs.AlikeStates.{alike_itself, alike_back, alike_through, reply_alike}
-use Rattle.play_script.proofs.Feeds.{line_at_feed, line_at_end}
-use Rattle.play_script.proofs.Once.{Continues, continues, join_output, output_of_one}
+use Rattle.play_script.specs.Played.{Sinks, AreDone, AreBegun}
+use Rattle.play_script.specs.inner.Pending.{Keeps, IsShownOf, ended_by, without_last_return}
+use Rattle.play_script.specs.inner.Progress.{IsStop, AreAnswered, Stands, GoesOn}
+use Rattle.play_script.proofs.Done.{none_begun, joined_done, joined_begun}
+use Rattle.play_script.proofs.Sinks.{appended_nothing}
+use Rattle.play_script.proofs.Split.{split_first, split_on, split_feed, split_end, split_ended}
 
--- what a sink tells
+-- the number of the line after a line feed
+next_number : (number count : ℕ) (lines bytes : ℕ) → number ≡ suc lines → count ≡ suc lines → lines ≤ bytes → bytes ≤ most_script_bytes → (next : ℕ) → next ≡ min (number + 1) (2 ^ 64 - 1) → next ≡ suc count
+next_number number count lines bytes is more few short next e = omega arith
 
-pub appended_both : (old mid now : Option (List ℕ)) (a b : List ℕ) → Appended old mid a → Appended mid now b → Appended old now (a ++ b)
-appended_both None mid now a b before after = tt
-appended_both (Some held) mid now a b before after = (rw before at after) ∙ ap Some (append_assoc held a b)
-
-pub appended_nothing : (held : Option (List ℕ)) → Appended held held []
-appended_nothing None = tt
-appended_nothing (Some held) = ap Some (sym (append-nil held))
-
-front_of : (held a b : List ℕ) → (length held ≤ length (held ++ a)) × (held ++ a ≡ take (length (held ++ a)) (held ++ (a ++ b)))
-front_of held a b =
-    (grind (arith, common_steps), sym (ap (λ xs. take (length (held ++ a)) xs) (sym (append_assoc held a b)) ∙ take_at (held ++ a) b (length (held ++ a)) refl))
-
-pub appended_front : (old now : Option (List ℕ)) (a b : List ℕ) → Appended old now a → AppendedPrefix old now (a ++ b)
-appended_front None now a b h = tt
-appended_front (Some held) now a b h = rw h (front_of held a b)
-
-appended_whole : (old now : Option (List ℕ)) (a : List ℕ) → Appended old now a → AppendedPrefix old now a
-appended_whole old now a h =
-    let at : List ℕ → Type 0 = λ xs. AppendedPrefix old now xs in subst at (append-nil a) (appended_front old now a [] h)
-
-pub kept_itself : (held : Option (List ℕ)) → Kept held held
-kept_itself None = tt
-kept_itself (Some held) = refl
-
-appended_kept : (old mid now : Option (List ℕ)) (a : List ℕ) → Appended old mid a → Kept mid now → Appended old now a
-appended_kept None mid now a before after = tt
-appended_kept (Some held) mid now a before after = rw before at after
-
-pub begins_with_nothing : (held : Option (List ℕ)) (bytes : List ℕ) → AppendedPrefix held held bytes
-begins_with_nothing held bytes = appended_front held held [] bytes (appended_nothing held)
-
--- the first lines of some lines
-front_lines : {X : Type 0} (done more : List X) → take (length done) (done ++ more) ≡ done
-front_lines done more = take_at done more (length done) refl
-
-one_line_more : {X : Type 0} (done : List X) (line : X) (more : List X) → take (length (done ++ line ∷ [])) (done ++ line ∷ more) ≡ done ++ line ∷ []
-one_line_more done line more =
-    ap (take (length (done ++ line ∷ []))) (sym (append_assoc done (line ∷ []) more)) ∙ take_at (done ++ line ∷ []) more (length (done ++ line ∷ [])) refl
-
-module _ (chart : ChartState → Outcome (List ℕ)) where
-  -- stopped between two lines
-  pub stopped_between : (st mid st_now : ChartState) (held held_now : Option (List ℕ)) (done more : List (List ℕ)) (text : List ℕ)
-      → IsOutput chart st done text mid → AreAlike st_now mid → Appended held held_now text → IsStoppedIn chart st held (done ++ more) st_now held_now
-  stopped_between st mid st_now held held_now done more text output alike appended = record {
-    begun = λ out now is.
-        let h : Continues chart mid text more out now = continues chart st mid now done more text out output is in
-        let at : List ℕ → Type 0 = λ xs. AppendedPrefix held held_now xs in
-        subst at (sym h.joined) (appended_front held held_now text h.rest appended);
-    within =
-        let at : List (List ℕ) → Type 0 = λ lines. IsOutput chart st lines text mid in
-        (length done, text, mid, subst at (sym (front_lines done more)) output, alike, appended_whole held held_now text appended);
-  }
-
-  at_lines : (st st_now : ChartState) (held held_now : Option (List ℕ)) (lines others : List (List ℕ)) → lines ≡ others
-      → IsStoppedIn chart st held others st_now held_now → IsStoppedIn chart st held lines st_now held_now
-  at_lines st st_now held held_now lines others e h =
-      let at : List (List ℕ) → Type 0 = λ ls. IsStoppedIn chart st held ls st_now held_now in subst at (sym e) h
-
-  pub stopped_here : (st st_now : ChartState) (held held_now : Option (List ℕ)) (taken : List ℕ) (line : Pending)
-      → Stands chart st held taken line st_now held_now → IsStopped chart st held taken st_now held_now
-  stopped_here st st_now held held_now taken line h = λ rest.
-      at_lines st st_now held held_now _ _ (h.lines rest) (stopped_between st h.now st_now held held_now h.done (lines_of (h.begun ++ rest)) h.text h.output h.alike h.appended)
-
-  pub stopped_more : (st st_now : ChartState) (held held_now : Option (List ℕ)) (taken more : List ℕ)
-      → IsStopped chart st held taken st_now held_now → IsStopped chart st held (taken ++ more) st_now held_now
-  stopped_more st st_now held held_now taken more h = λ rest.
-      at_lines st st_now held held_now _ _ (ap lines_of (append_assoc taken more rest)) (h (more ++ rest))
-
+module _ {S : Type 0} (Replies : S → ℕ → List ℕ → List ℕ → List ℕ → S → Type 0) (st : S) where
   -- nothing has been taken
-  pub stands_first : (st : ChartState) (held : Option (List ℕ)) (line : Pending) → Keeps line [] → Stands chart st held [] line st held
-  stands_first st held line kept = record {
-    done = [];
-    text = [];
-    now = st;
+  pub stands_first : (now : Sinks) (line : Pending) → Keeps line [] → line.number ≡ 1 → Stands Replies st now [] line st now
+  stands_first now line kept number = record {
+    ended = [];
     begun = [];
-    output = no_line st;
-    alike = alike_itself st;
-    appended = appended_nothing held;
+    split = split_first;
+    number = number;
     kept = kept;
-    no_feed = All-nil (λ b. eqb b 10 ≡ false);
-    lines = λ rest. refl;
+    counted = omega arith;
+    done = record { out = []; notes = []; is = no_line st 1; appended = appended_nothing now.held; noted = λ sound. appended_nothing now.noted };
   }
 
-  -- a byte that is no line feed
-  pub stands_on : (st st_now : ChartState) (held held_now : Option (List ℕ)) (taken : List ℕ) (line next : Pending) (byte : ℕ)
-      → (h : Stands chart st held taken line st_now held_now) → byte ≢ 10 → Keeps next (h.begun ++ byte ∷ [])
-      → Stands chart st held (taken ++ byte ∷ []) next st_now held_now
-  stands_on st st_now held held_now taken line next byte h other kept = record {
-    done = h.done;
-    text = h.text;
-    now = h.now;
-    begun = h.begun ++ byte ∷ [];
-    output = h.output;
-    alike = h.alike;
-    appended = h.appended;
-    kept = kept;
-    no_feed = All-push (λ b. eqb b 10 ≡ false) h.begun byte h.no_feed (ne_eqb byte 10 other);
-    lines = λ rest. ap lines_of (append_assoc taken (byte ∷ []) rest) ∙ h.lines (byte ∷ rest) ∙ ap (λ xs. h.done ++ lines_of xs) (sym (append_assoc h.begun (byte ∷ []) rest));
-  }
+  module _ (before : Sinks) (taken : List ℕ) (line : Pending) (mid : S) (m : Sinks) (h : Stands Replies st before taken line mid m) where
+    -- the lines that have ended are first lines, whatever bytes follow
+    begun_here : (all more : List (List ℕ)) → all ≡ h.ended ++ more → AreBegun Replies 1 all st mid before m
+    begun_here all more e =
+        joined_begun Replies st mid mid before m m h.counted (omega arith) h.ended [] line.number h.number h.done more all e (none_begun Replies line.number [] mid m)
 
-  module _ (same : (a b : ChartState) → AreAlike a b → chart a ≡ chart b) where
-    -- a line was done after other lines
-    pub record Joined (st st_now : ChartState) (held held_now : Option (List ℕ)) (lines : List (List ℕ)) : Type 0 where
-      pub out : List ℕ
-      pub now : ChartState
-      pub is : IsOutput chart st lines out now
-      pub alike : AreAlike st_now now
-      pub appended : Appended held held_now out
+    -- at a read that fails
+    pub stands_ended : AreDone Replies 1 (ended_lines taken) st mid before m
+    stands_ended =
+        let at : List (List ℕ) → Type 0 = λ lines. AreDone Replies 1 lines st mid before m in
+        subst at (sym (split_ended taken h.ended h.begun h.split)) h.done
 
-    pub joined : (st mid st_mid st_now : ChartState) (held held_mid held_now : Option (List ℕ)) (done : List (List ℕ)) (text line : List ℕ)
-        → IsOutput chart st done text mid → AreAlike st_mid mid → Appended held held_mid text → IsDone chart line st_mid st_now held_mid held_now
-        → Joined st st_now held held_now (done ++ line ∷ [])
-    joined st mid st_mid st_now held held_mid held_now done text line output alike appended d =
-        let r = reply_alike chart same st_mid mid line d.reply d.now alike d.is in
-        record {
-          out = text ++ d.reply;
-          now = r.0;
-          is = join_output chart st mid r.0 done (line ∷ []) text d.reply output (output_of_one chart mid r.0 line d.reply r.1);
-          alike = alike_through st_now d.now r.0 d.alike r.2;
-          appended = appended_both held held_mid held_now text d.reply appended d.appended;
-        }
-
-    -- stopped in a line
-    begun_in : (mid st_mid st_now now : ChartState) (held held_mid held_now : Option (List ℕ)) (line text out rest : List ℕ) (more : List (List ℕ))
-        → AreAlike st_mid mid → Appended held held_mid text → IsBroken chart line st_mid st_now held_mid held_now
-        → out ≡ text ++ rest → IsOutput chart mid (line ∷ more) rest now → AppendedPrefix held held_now out
-    begun_in mid st_mid st_now now held held_mid held_now line text out rest more alike appended b e (one_line s next n l reply others ls r o) =
-        let at_mid = reply_alike chart same mid st_mid line reply next (alike_back st_mid mid alike) r in
-        prefix_within held held_mid held_now text reply others out (e ∙ sym (append_assoc text reply others)) appended (b.begun reply at_mid.0 at_mid.1)
-
-    around_in : (st mid st_mid st_now : ChartState) (held held_mid held_now : Option (List ℕ)) (done more : List (List ℕ)) (line text : List ℕ)
-        → IsOutput chart st done text mid → AreAlike st_mid mid → Appended held held_mid text → StandsAround chart line st_mid st_now held_mid held_now
-        → (n : ℕ) × (out : List ℕ) × (now : ChartState) × IsOutput chart st (take n (done ++ line ∷ more)) out now × AreAlike st_now now × AppendedPrefix held held_now out
-    around_in st mid st_mid st_now held held_mid held_now done more line text output alike appended (inl before) =
-        let at : List (List ℕ) → Type 0 = λ lines. IsOutput chart st lines text mid in (
-          length done,
-          text,
-          mid,
-          subst at (sym (front_lines done (line ∷ more))) output,
-          alike_through st_now st_mid mid before.0 alike,
-          appended_whole held held_now text (appended_kept held held_mid held_now text appended before.1),
-        )
-    around_in st mid st_mid st_now held held_mid held_now done more line text output alike appended (inr after) =
-        let r = reply_alike chart same st_mid mid line after.0 after.1 alike after.2 in
-        let at : List (List ℕ) → Type 0 = λ lines. IsOutput chart st lines (text ++ after.0) r.0 in
-        let is : IsOutput chart st (done ++ line ∷ []) (text ++ after.0) r.0 =
-        join_output chart st mid r.0 done (line ∷ []) text after.0 output (output_of_one chart mid r.0 line after.0 r.1) in (
-          length (done ++ line ∷ []),
-          text ++ after.0,
-          r.0,
-          subst at (sym (one_line_more done line more)) is,
-          alike_through st_now after.1 r.0 after.3 r.2,
-          prefix_within held held_mid held_now text after.0 [] (text ++ after.0) (sym (append-nil (text ++ after.0))) appended after.4,
-        )
-
-    pub stopped_in_line : (st mid st_mid st_now : ChartState) (held held_mid held_now : Option (List ℕ)) (done more : List (List ℕ)) (line text : List ℕ)
-        → IsOutput chart st done text mid → AreAlike st_mid mid → Appended held held_mid text → IsBroken chart line st_mid st_now held_mid held_now
-        → IsStoppedIn chart st held (done ++ line ∷ more) st_now held_now
-    stopped_in_line st mid st_mid st_now held held_mid held_now done more line text output alike appended b = record {
-      begun = λ out now is.
-          let h : Continues chart mid text (line ∷ more) out now = continues chart st mid now done (line ∷ more) text out output is in
-          begun_in mid st_mid st_now now held held_mid held_now line text out h.rest more alike appended b h.joined h.is;
-      within = around_in st mid st_mid st_now held held_mid held_now done more line text output alike appended b.around;
+    -- a byte that is no line feed
+    pub pushed : {X : Type 0} (byte : ℕ) (next : Pending) (result : Result X PlayError) → byte ≢ 10
+        → OnOk result ((bytes : List ℕ) → Keeps line bytes → Keeps next (bytes ++ byte ∷ [])) → IfErr result (λ cause. cause ≡ Memory) → next.number ≡ line.number
+        → GoesOn Replies st before (taken ++ byte ∷ []) next mid m result
+    pushed byte next (Ok x) other kept memory same = record {
+      ended = h.ended;
+      begun = h.begun ++ byte ∷ [];
+      split = split_on taken h.ended h.begun byte other h.split;
+      number = same ∙ h.number;
+      kept = kept h.begun h.kept;
+      counted = h.counted;
+      done = h.done;
     }
+    pushed byte next (Err cause) other kept memory same =
+        let split = split_on taken h.ended h.begun byte other h.split in
+        (inr memory, λ rest. begun_here (lines_of ((taken ++ byte ∷ []) ++ rest)) (lines_of ((h.begun ++ byte ∷ []) ++ rest)) (split.lines rest))
 
-    -- a line feed
-    lines_at_feed : (taken begun rest : List ℕ) (done : List (List ℕ)) → HasNoFeed begun → lines_of (taken ++ 10 ∷ rest) ≡ done ++ lines_of (begun ++ 10 ∷ rest)
-        → lines_of ((taken ++ 10 ∷ []) ++ rest) ≡ done ++ without_last_return begun ∷ lines_of rest
-    lines_at_feed taken begun rest done none e =
-        ap lines_of (append_assoc taken (10 ∷ []) rest) ∙ e ∙ ap (λ lines. done ++ lines) (line_at_feed begun rest none)
+    -- a line that has ended, by what is shown of it
+    module _ (now : Sinks) (st_now : S) (more : m.faults ≤ now.faults) (shown : List ℕ) where
+      pub fed_ok : (byte : ℕ) (next : Pending) → byte ≡ 10 → length taken ≤ most_script_bytes → ((bytes : List ℕ) → Keeps line bytes → IsShownOf (ended_by true bytes) shown)
+          → ((whole : List ℕ) → IsShownOf whole shown → AreDone Replies line.number (whole ∷ []) mid st_now m now) → Keeps next [] → next.number ≡ min (line.number + 1) (2 ^ 64 - 1)
+          → Stands Replies st before (taken ++ byte ∷ []) next st_now now
+      fed_ok byte next feed short is_shown done kept number =
+          let whole = without_last_return h.begun in
+          record {
+            ended = h.ended ++ whole ∷ [];
+            begun = [];
+            split = split_feed taken h.ended h.begun byte feed h.split;
+            number = next_number line.number (length (h.ended ++ whole ∷ [])) (length h.ended) (length taken) h.number (length-append h.ended (whole ∷ []) ∙ omega arith) h.split.few short next.number number;
+            kept = kept;
+            counted = let first = h.counted in omega arith;
+            done = joined_done Replies st mid st_now before m now h.counted more h.ended (whole ∷ []) line.number h.number h.done (done whole (is_shown h.begun h.kept));
+          }
 
-    stands_after : (st st_mid st_now : ChartState) (held held_mid held_now : Option (List ℕ)) (taken : List ℕ) (line next : Pending)
-        → (h : Stands chart st held taken line st_mid held_mid) → Joined st st_now held held_now (h.done ++ without_last_return h.begun ∷ []) → Keeps next []
-        → Stands chart st held (taken ++ 10 ∷ []) next st_now held_now
-    stands_after st st_mid st_now held held_mid held_now taken line next h j kept = record {
-      done = h.done ++ without_last_return h.begun ∷ [];
-      text = j.out;
-      now = j.now;
-      begun = [];
-      output = j.is;
-      alike = j.alike;
-      appended = j.appended;
-      kept = kept;
-      no_feed = All-nil (λ b. eqb b 10 ≡ false);
-      lines = λ rest. lines_at_feed taken h.begun rest h.done h.no_feed (h.lines (10 ∷ rest)) ∙ sym (append_assoc h.done (without_last_return h.begun ∷ []) (lines_of rest));
-    }
+      pub fed_err : (byte : ℕ) → byte ≡ 10 → ((bytes : List ℕ) → Keeps line bytes → IsShownOf (ended_by true bytes) shown) → (cause : PlayError)
+          → ((whole : List ℕ) → IsShownOf whole shown → IsStop cause × AreBegun Replies line.number (whole ∷ []) mid st_now m now)
+          → IsStop cause × ((rest : List ℕ) → AreBegun Replies 1 (lines_of ((taken ++ byte ∷ []) ++ rest)) st st_now before now)
+      fed_err byte feed is_shown cause stopped =
+          let whole = without_last_return h.begun in
+          let w = stopped whole (is_shown h.begun h.kept) in
+          let split = split_feed taken h.ended h.begun byte feed h.split in (
+            w.0,
+            λ rest. joined_begun Replies st mid st_now before m now h.counted more h.ended (whole ∷ []) line.number h.number h.done (lines_of rest) (lines_of ((taken ++ byte ∷ []) ++ rest))
+                (split.lines rest ∙ append_assoc h.ended (whole ∷ []) (lines_of rest)) w.1,
+          )
 
-    pub stands_at_feed : (st st_mid st_now : ChartState) (held held_mid held_now : Option (List ℕ)) (taken : List ℕ) (line next : Pending)
-        → (h : Stands chart st held taken line st_mid held_mid) → IsDone chart (without_last_return h.begun) st_mid st_now held_mid held_now → Keeps next []
-        → Stands chart st held (taken ++ 10 ∷ []) next st_now held_now
-    stands_at_feed st st_mid st_now held held_mid held_now taken line next h d kept =
-        stands_after st st_mid st_now held held_mid held_now taken line next h
-        (joined st h.now st_mid st_now held held_mid held_now h.done h.text (without_last_return h.begun) h.output h.alike h.appended d) kept
+      -- the last line, at the script's end
+      pub at_end : {X : Type 0} (result : Result X PlayError) → ((bytes : List ℕ) → Keeps line bytes → IsShownOf bytes shown)
+          → ((whole : List ℕ) → IsShownOf whole shown → AreAnswered Replies line.number (whole ∷ []) mid st_now m now result)
+          → AreAnswered Replies 1 (lines_of taken) st st_now before now result
+      at_end (Ok x) is_shown answered =
+          let at : List (List ℕ) → Type 0 = λ lines. AreDone Replies 1 lines st st_now before now in
+          subst at (sym (split_end taken h.ended h.begun h.split))
+          (joined_done Replies st mid st_now before m now h.counted more h.ended (h.begun ∷ []) line.number h.number h.done (answered h.begun (is_shown h.begun h.kept)))
+      at_end (Err cause) is_shown answered =
+          let w = answered h.begun (is_shown h.begun h.kept) in (
+            w.0,
+            joined_begun Replies st mid st_now before m now h.counted more h.ended (h.begun ∷ []) line.number h.number h.done [] (lines_of taken)
+                (split_end taken h.ended h.begun h.split ∙ ap (λ lines. h.ended ++ lines) (sym (append-nil (h.begun ∷ [])))) w.1,
+          )
 
-    pub stopped_at_feed : (st st_mid st_now : ChartState) (held held_mid held_now : Option (List ℕ)) (taken : List ℕ) (line : Pending)
-        → (h : Stands chart st held taken line st_mid held_mid) → IsBroken chart (without_last_return h.begun) st_mid st_now held_mid held_now
-        → IsStopped chart st held (taken ++ 10 ∷ []) st_now held_now
-    stopped_at_feed st st_mid st_now held held_mid held_now taken line h b = λ rest.
-        at_lines st st_now held held_now _ _ (lines_at_feed taken h.begun rest h.done h.no_feed (h.lines (10 ∷ rest)))
-        (stopped_in_line st h.now st_mid st_now held held_mid held_now h.done (lines_of rest) (without_last_return h.begun) h.text h.output h.alike h.appended b)
+-- a piece, byte by byte
+piece_seam : (taken piece : List ℕ) (i d : ℕ) → i < length piece → (taken ++ take i piece) ++ get_or piece i d ∷ [] ≡ taken ++ take (i + 1) piece
+piece_seam taken piece i d within = grind (arith, common_steps)
 
-    -- the script's end
-    lines_at_end : (taken begun : List ℕ) (done : List (List ℕ)) → HasNoFeed begun → lines_of (taken ++ []) ≡ done ++ lines_of (begun ++ []) → lines_of taken ≡ done ++ begun ∷ []
-    lines_at_end taken begun done none e =
-        ap lines_of (sym (append-nil taken)) ∙ e ∙ ap (λ xs. done ++ lines_of xs) (append-nil begun) ∙ ap (λ lines. done ++ lines) (line_at_end begun none)
+pub piece_short : (taken piece : List ℕ) (i : ℕ) → length taken + length piece ≤ most_script_bytes → length (taken ++ take i piece) ≤ most_script_bytes
+piece_short taken piece i short = let long = length-append taken (take i piece) in grind (arith, length-take)
 
-    pub joined_at_end : (st st_mid st_now : ChartState) (held held_mid held_now : Option (List ℕ)) (taken : List ℕ) (line : Pending)
-        → (h : Stands chart st held taken line st_mid held_mid) → IsDone chart h.begun st_mid st_now held_mid held_now
-        → Joined st st_now held held_now (lines_of taken)
-    joined_at_end st st_mid st_now held held_mid held_now taken line h d =
-        let at : List (List ℕ) → Type 0 = λ lines. Joined st st_now held held_now lines in
-        subst at (sym (lines_at_end taken h.begun h.done h.no_feed (h.lines [])))
-        (joined st h.now st_mid st_now held held_mid held_now h.done h.text h.begun h.output h.alike h.appended d)
+piece_rest : (taken piece rest : List ℕ) (i d : ℕ) → i < length piece → ((taken ++ take i piece) ++ get_or piece i d ∷ []) ++ (drop (i + 1) piece ++ rest) ≡ (taken ++ piece) ++ rest
+piece_rest taken piece rest i d within =
+    ap (λ xs. xs ++ (drop (i + 1) piece ++ rest)) (piece_seam taken piece i d within) ∙ append_assoc taken (take (i + 1) piece) (drop (i + 1) piece ++ rest)
+    ∙ ap (λ xs. taken ++ xs) (sym (append_assoc (take (i + 1) piece) (drop (i + 1) piece) rest)) ∙ ap (λ xs. taken ++ (xs ++ rest)) (take-append-drop (i + 1) piece)
+    ∙ sym (append_assoc taken piece rest)
 
-    pub stopped_at_end : (st st_mid st_now : ChartState) (held held_mid held_now : Option (List ℕ)) (taken : List ℕ) (line : Pending)
-        → (h : Stands chart st held taken line st_mid held_mid) → IsBroken chart h.begun st_mid st_now held_mid held_now
-        → IsStoppedIn chart st held (lines_of taken) st_now held_now
-    stopped_at_end st st_mid st_now held held_mid held_now taken line h b =
-        at_lines st st_now held held_now _ _ (lines_at_end taken h.begun h.done h.no_feed (h.lines []))
-        (stopped_in_line st h.now st_mid st_now held held_mid held_now h.done [] h.begun h.text h.output h.alike h.appended b)
+module _ {S : Type 0} (Replies : S → ℕ → List ℕ → List ℕ → List ℕ → S → Type 0) (st st_now : S) (before now : Sinks) (taken piece : List ℕ) (i : ℕ) where
+  pub piece_stopped : (cause : PlayError) (d : ℕ) → i < length piece
+      → IsStop cause × ((rest : List ℕ) → AreBegun Replies 1 (lines_of (((taken ++ take i piece) ++ get_or piece i d ∷ []) ++ rest)) st st_now before now)
+      → IsStop cause × ((rest : List ℕ) → AreBegun Replies 1 (lines_of ((taken ++ piece) ++ rest)) st st_now before now)
+  piece_stopped cause d within h =
+      let at : List ℕ → Type 0 = λ xs. AreBegun Replies 1 (lines_of xs) st st_now before now in
+      (h.0, λ rest. subst at (piece_rest taken piece rest i d within) (h.1 (drop (i + 1) piece ++ rest)))
+
+  pub piece_done : (line : Pending) → length piece ≤ i → Stands Replies st before (taken ++ take i piece) line st_now now → Stands Replies st before (taken ++ piece) line st_now now
+  piece_done line all h =
+      let whole : take i piece ≡ piece = grind (arith, common_steps) in
+      let at : List ℕ → Type 0 = λ xs. Stands Replies st before (taken ++ xs) line st_now now in
+      subst at whole h

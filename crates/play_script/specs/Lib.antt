@@ -1,5 +1,4 @@
-pub mod EmptyChart
+pub mod Meaning
 pub mod Laws
-pub mod Pending
 pub mod Played
-pub mod Progress
+pub mod inner

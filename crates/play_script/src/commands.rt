@@ -4,7 +4,8 @@ ghost use Rattle.std.specs.List.{list_all};
 ghost use Rattle.std.specs.Option.{is_none};
 ghost use Rattle.json_exact.specs.declared.json.Json.{Json as Tree, out-Json};
 ghost use Rattle.json_exact.specs.declared.json.Json.TheOpen as level;
-ghost use Rattle.param_flow.specs.Commands.{text_in, items_in, members_in, is_word, is_good_object, good_rows, insert_of, change_of, command_in, command_of};
+ghost use Rattle.param_flow.specs.Commands.{text_in, items_in, members_in, is_word, is_good_object, good_rows, insert_of};
+ghost use Rattle.param_flow.specs.Commands.{change_of, command_in, command_of};
 ghost use Rattle.param_flow.specs.Rows.{is_huge, bad_field_in};
 
 use json_exact::{Json, Member};
@@ -160,7 +161,8 @@ fn change_of(source: Json, change: Json) -> Option<Command>
 
 /// The change that a list of three items makes, whatever its first item is.
 fn change_in(items: Seq<Json>) -> Option<Command>
-    ensures { (word source change : Tree) → items ≡ word ∷ source ∷ change ∷ [] → result ≡ change_of (text_in (out-Json source)) (insert_of (members_in (out-Json change))) }
+    ensures { (word source change : Tree) → items ≡ word ∷ source ∷ change ∷ []
+        → result ≡ change_of (text_in (out-Json source)) (insert_of (members_in (out-Json change))) }
 {
     let mut items = items;
     let change = items.pop()?;

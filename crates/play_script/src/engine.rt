@@ -1,15 +1,10 @@
 // Engines.
 ghost use Rattle.std.specs.Prelude.{◌≡◌, ◌≢◌, ◌≤◌, ◌-◌, ℕ, IfOk, OnOk, OnErr, IsErrOf};
 ghost use Rattle.chart_io.specs.Outside.{Rose, Appended, AppendedPrefix};
-ghost use Rattle.cell_value.specs.declared.state.ChartState.{ChartState};
 ghost use Rattle.scene_tree.specs.Outcome.{IsDrawn};
-ghost use Rattle.vega_model.specs.declared.spec.VgSpec.{VgSpec};
-ghost use Rattle.vega_meaning.specs.Bars.{vega_chart_of};
-ghost use Rattle.vega_meaning.specs.States.{IsStateOf};
 ghost use Rattle.param_flow.specs.declared.command.Command.TheVariants.{Print};
-ghost use Rattle.param_flow.specs.Machine.{reply_of, state_after};
-ghost use Rattle.param_flow.specs.Alike.{AreAlike};
 ghost use Rattle.play_script.specs.declared.errors.PrintError.TheVariants.{Write};
+ghost use Rattle.play_script.specs.Meaning.{Meaning, IsStanding, chart_in, reply_in, meaning_after};
 
 use crate::PrintError;
 use cell_value::Steps;
@@ -19,14 +14,15 @@ use std::alloc::Global;
 use std::sync::ledger::Ledger;
 use text_kit::OutOfMemory;
 
-/// What keeps a chart under commands. It means a Vega specification and a state of it, in which an absent name and one with null are
-/// the same, and whose chart is drawn. `reads` is how many cells it read of its store in the last `apply`.
+/// What keeps a chart under commands. It means a Vega specification and a state of it, as it is read, whose chart is drawn. `reads` is how
+/// many cells it read of its store in the last `apply`.
 pub trait Engine {
-    ghost spec: { Self → VgSpec };
-
-    ghost state: { Self → ChartState };
+    ghost meaning: { Self → Meaning };
 
     ghost reads: { Self → ℕ };
+
+    /// Its state is one of its specification, and its chart is drawn.
+    ghost stands: { (engine : Self) → IsStanding (meaning engine) };
 
     /// Does a command that is no print, and gives the reply of the direct machine. Where memory is refused the state stays.
     fn apply<L: Ledger>(
@@ -36,11 +32,9 @@ pub trait Engine {
         steps: &mut Steps<L>,
     ) -> Result<Reply, OutOfMemory>
         requires { c.now ≢ Print }
-        ensures spec { spec self.new ≡ spec self.old }
-        ensures reply { IfOk result (λ reply. reply ≡ reply_of (vega_chart_of (spec self.old)) (state self.old) c.now) }
-        ensures done { OnOk result (AreAlike (state self.new) (state_after (vega_chart_of (spec self.old)) (state self.old) c.now)) }
-        ensures kept { OnErr result (AreAlike (state self.new) (state self.old)) }
-        ensures of { IsStateOf (spec self.new) (state self.new) }
+        ensures reply { IfOk result (λ reply. reply ≡ reply_in (meaning self.old) c.now) }
+        ensures done { OnOk result (meaning self.new ≡ meaning_after (meaning self.old) c.now) }
+        ensures kept { OnErr result (meaning self.new ≡ meaning self.old) }
         ensures counted { steps.old ≤ steps.new }
         ensures reads { reads self.new ≡ steps.new - steps.old };
 
@@ -49,8 +43,8 @@ pub trait Engine {
     fn print<K: Sink>(&self, out: &mut K) -> Result<(), PrintError>
         ensures counted { K.faults out.old ≤ K.faults out.new }
         ensures write { IsErrOf result Write → Rose (K.faults out.old) (K.faults out.new) }
-        ensures ok { IsDrawn (vega_chart_of (spec self.now) (state self.now)) (λ text. OnOk result (Appended (K.held out.old) (K.held out.new) text)) }
-        ensures prefix { IsDrawn (vega_chart_of (spec self.now) (state self.now)) (AppendedPrefix (K.held out.old) (K.held out.new)) };
+        ensures ok { OnOk result (IsDrawn (chart_in (meaning self.now)) (Appended (K.held out.old) (K.held out.new))) }
+        ensures prefix { IsDrawn (chart_in (meaning self.now)) (AppendedPrefix (K.held out.old) (K.held out.new)) };
 
     /// How many cells were read in the last `apply`, at most `u64::MAX`; 0 before the first.
     fn last_reads(&self) -> u64

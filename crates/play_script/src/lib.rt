@@ -3,6 +3,7 @@
 
 mod commands;
 mod engine;
+mod engine_lines;
 mod errors;
 mod laws;
 mod lines;
@@ -12,12 +13,15 @@ mod reading;
 #[cfg(test)]
 mod reading_tests;
 mod replies;
+mod script;
 
 pub use engine::Engine;
+pub use engine_lines::{EngineLines, play};
 pub use errors::{LineError, PlayError, PrintError};
-pub use laws::{an_output, one_output};
-pub use playing::play;
+pub use laws::{an_output, as_vega, begins, ended_first, one_output, played_begins};
+pub use playing::play_lines;
 pub use reading::read_command;
+pub use script::Lines;
 
 #[cfg(test)]
 mod tests;

@@ -1,138 +1,29 @@
-// Lines of scripts, done one after another.
-ghost use Rattle.std.specs.Prelude.{◌≡◌, ◌≢◌, ◌≤◌, [], ◌∷◌, ◌++◌, false, ℕ, List, Option, length, OnOk, OnErr, IfErr, IsErrOf};
+// Lines of scripts of any kind, done one after another.
+ghost use Rattle.std.specs.Prelude.{◌≡◌, ◌≤◌, ◌<◌, ◌+◌, [], ◌∷◌, ◌++◌, ℕ, List, length, OnOk, IfErr, IsErrOf};
 ghost use Rattle.chart_io.specs.Outside.{Rose, Appended, AppendedPrefix};
-ghost use Rattle.cell_value.specs.declared.state.ChartState.{ChartState};
-ghost use Rattle.scene_tree.specs.Outcome.{IsDrawn};
-ghost use Rattle.vega_meaning.specs.Bars.{vega_chart_of};
-ghost use Rattle.param_flow.specs.declared.command.Command.TheVariants.{Print};
-ghost use Rattle.param_flow.specs.Script.{most_line_bytes, is_silent, reply_text, refused_line, IsCommandLine};
+ghost use Rattle.param_flow.specs.Script.{most_script_bytes, is_silent, refused_line};
 ghost use Rattle.play_script.specs.declared.errors.PlayError.TheVariants.{Write};
-ghost use Rattle.play_script.specs.Pending.{IsShownOf};
-ghost use Rattle.play_script.specs.Progress.{IsLineStop, IsDone, IsBroken, Stands, IsStopped};
+ghost use Rattle.play_script.specs.Played.{Sinks, sinks};
+ghost use Rattle.play_script.specs.inner.Pending.{IsShownOf};
+ghost use Rattle.play_script.specs.inner.Progress.{IsStop, AreAnswered, Stands, GoesOn};
 
 use crate::pending::{MOST_LINE_BYTES, Pending};
-use crate::replies::reply_text;
-use crate::{Engine, LineError, PlayError, PrintError, read_command};
+use crate::{Lines, PlayError};
 use cell_value::Steps;
 use chart_io::{Sink, write_all};
-use param_flow::{Command, Reply};
 use std::alloc::Global;
 use std::sync::ledger::Ledger;
 
-// Prints the chart.
-fn print<E: Engine, K: Sink>(engine: &E, out: &mut K) -> Result<(), PlayError>
+/// Writes that a line is refused.
+pub fn refuse<K: Sink>(out: &mut K) -> Result<(), PlayError>
     ensures counted { K.faults out.old ≤ K.faults out.new }
     ensures write { IsErrOf result Write → Rose (K.faults out.old) (K.faults out.new) }
-    ensures stop { IfErr result IsLineStop }
-    ensures ok { IsDrawn (vega_chart_of (E.spec engine.now) (E.state engine.now)) (λ text. OnOk result (Appended (K.held out.old) (K.held out.new) text)) }
-    ensures prefix { IsDrawn (vega_chart_of (E.spec engine.now) (E.state engine.now)) (AppendedPrefix (K.held out.old) (K.held out.new)) }
-{
-    match engine.print(out) {
-        Ok(()) => Ok(()),
-        Err(PrintError::Write) => Err(PlayError::Write),
-        Err(PrintError::Memory) => Err(PlayError::Memory),
-    }
-}
-
-// Writes that a line is no command.
-fn refuse<K: Sink>(out: &mut K) -> Result<(), PlayError>
-    ensures counted { K.faults out.old ≤ K.faults out.new }
-    ensures write { IsErrOf result Write → Rose (K.faults out.old) (K.faults out.new) }
-    ensures stop { IfErr result IsLineStop }
+    ensures stop { IfErr result IsStop }
     ensures ok { OnOk result (Appended (K.held out.old) (K.held out.new) refused_line) }
     ensures prefix { AppendedPrefix (K.held out.old) (K.held out.new) refused_line }
 {
     write_all(out, b"refused line\n")?;
     Ok(())
-}
-
-// Writes a reply.
-fn write_reply<K: Sink>(alloc: Global, reply: Reply, out: &mut K) -> Result<(), PlayError>
-    ensures counted { K.faults out.old ≤ K.faults out.new }
-    ensures write { IsErrOf result Write → Rose (K.faults out.old) (K.faults out.new) }
-    ensures stop { IfErr result IsLineStop }
-    ensures ok { OnOk result (Appended (K.held out.old) (K.held out.new) (reply_text reply)) }
-    ensures prefix { AppendedPrefix (K.held out.old) (K.held out.new) (reply_text reply) }
-{
-    let text = reply_text(alloc, reply)?;
-    write_all(out, text.as_str().as_bytes())?;
-    Ok(())
-}
-
-// Does a command that is no print.
-fn apply<E: Engine, K: Sink, L: Ledger>(
-    alloc: Global,
-    engine: &mut E,
-    command: &Command,
-    out: &mut K,
-    steps: &mut Steps<L>,
-) -> Result<(), PlayError>
-    requires { command.now ≢ Print }
-    ensures counted { K.faults out.old ≤ K.faults out.new }
-    ensures write { IsErrOf result Write → Rose (K.faults out.old) (K.faults out.new) }
-    ensures stop { IfErr result IsLineStop }
-    ensures spec { E.spec engine.new ≡ E.spec engine.old }
-    ensures steps { steps.old ≤ steps.new }
-    ensures ok { (line : List ℕ) → IsCommandLine line command.now
-        → OnOk result (IsDone (vega_chart_of (E.spec engine.old)) line (E.state engine.old) (E.state engine.new) (K.held out.old) (K.held out.new)) }
-    ensures err { (line : List ℕ) → IsCommandLine line command.now
-        → OnErr result (IsBroken (vega_chart_of (E.spec engine.old)) line (E.state engine.old) (E.state engine.new) (K.held out.old) (K.held out.new)) }
-{
-    let reply = engine.apply(alloc, command, steps)?;
-    write_reply(alloc, reply, out)
-}
-
-// Does the command that a line is.
-fn do_command<E: Engine, K: Sink, L: Ledger>(
-    alloc: Global,
-    engine: &mut E,
-    line: &[u8],
-    out: &mut K,
-    steps: &mut Steps<L>,
-) -> Result<(), PlayError>
-    requires loud { is_silent line.now ≡ false }
-    requires short { length line.now ≤ most_line_bytes }
-    ensures counted { K.faults out.old ≤ K.faults out.new }
-    ensures write { IsErrOf result Write → Rose (K.faults out.old) (K.faults out.new) }
-    ensures stop { IfErr result IsLineStop }
-    ensures spec { E.spec engine.new ≡ E.spec engine.old }
-    ensures steps { steps.old ≤ steps.new }
-    ensures ok { OnOk result (IsDone (vega_chart_of (E.spec engine.old)) line.now (E.state engine.old) (E.state engine.new) (K.held out.old) (K.held out.new)) }
-    ensures err { OnErr result (IsBroken (vega_chart_of (E.spec engine.old)) line.now (E.state engine.old) (E.state engine.new) (K.held out.old) (K.held out.new)) }
-{
-    match read_command(alloc, line) {
-        Ok(Command::Print) => print(engine, out),
-        Ok(command) => apply(alloc, engine, &command, out, steps),
-        Err(LineError::Fault) => refuse(out),
-        Err(LineError::Memory) => Err(PlayError::Memory),
-    }
-}
-
-/// Does a line, of which `shown` says all that its reply needs, and appends the reply.
-pub fn do_line<E: Engine, K: Sink, L: Ledger>(
-    alloc: Global,
-    engine: &mut E,
-    shown: &[u8],
-    out: &mut K,
-    steps: &mut Steps<L>,
-) -> Result<(), PlayError>
-    ensures counted { K.faults out.old ≤ K.faults out.new }
-    ensures write { IsErrOf result Write → Rose (K.faults out.old) (K.faults out.new) }
-    ensures stop { IfErr result IsLineStop }
-    ensures spec { E.spec engine.new ≡ E.spec engine.old }
-    ensures steps { steps.old ≤ steps.new }
-    ensures ok { (line : List ℕ) → IsShownOf line shown.now
-        → OnOk result (IsDone (vega_chart_of (E.spec engine.old)) line (E.state engine.old) (E.state engine.new) (K.held out.old) (K.held out.new)) }
-    ensures err { (line : List ℕ) → IsShownOf line shown.now
-        → OnErr result (IsBroken (vega_chart_of (E.spec engine.old)) line (E.state engine.old) (E.state engine.new) (K.held out.old) (K.held out.new)) }
-{
-    if is_silent(shown) {
-        return Ok(());
-    }
-    if shown.len() > MOST_LINE_BYTES {
-        return refuse(out);
-    }
-    do_command(alloc, engine, shown, out, steps)
 }
 
 // Whether a line gets no reply.
@@ -145,58 +36,102 @@ fn is_silent(line: &[u8]) -> bool
     }
 }
 
-// Takes one byte of the script. A line feed ends a line.
-fn take_byte<E: Engine, K: Sink, L: Ledger>(
+/// Does a line of this number, of which `shown` says all that its reply needs, and appends the reply.
+pub fn answer_line<T, R: Lines<T>, K: Sink, N: Sink, L: Ledger>(
     alloc: Global,
-    engine: &mut E,
+    rules: &R,
+    target: &mut T,
+    number: u64,
+    shown: &[u8],
+    out: &mut K,
+    notes: &mut N,
+    steps: &mut Steps<L>,
+) -> Result<(), PlayError>
+    ensures out_counted { K.faults out.old ≤ K.faults out.new }
+    ensures notes_counted { N.faults notes.old ≤ N.faults notes.new }
+    ensures steps { steps.old ≤ steps.new }
+    ensures write { IsErrOf result Write → Rose (K.faults out.old) (K.faults out.new) }
+    ensures done { (line : List ℕ) → IsShownOf line shown.now
+        → AreAnswered R.replies number (line ∷ []) (R.state target.old) (R.state target.new)
+        (sinks (K.held out.old) (N.held notes.old) (N.faults notes.old))
+        (sinks (K.held out.new) (N.held notes.new) (N.faults notes.new)) result }
+{
+    if is_silent(shown) {
+        return Ok(());
+    }
+    if shown.len() > MOST_LINE_BYTES {
+        return refuse(out);
+    }
+    rules.do_line(alloc, target, number, shown, out, notes, steps)
+}
+
+// Takes one byte of the script. A line feed ends a line.
+fn take_byte<T, R: Lines<T>, K: Sink, N: Sink, L: Ledger>(
+    alloc: Global,
+    rules: &R,
+    target: &mut T,
     line: &mut Pending,
     byte: u8,
     out: &mut K,
+    notes: &mut N,
     steps: &mut Steps<L>,
 ) -> Result<(), PlayError>
-    ensures counted { K.faults out.old ≤ K.faults out.new }
-    ensures write { IsErrOf result Write → Rose (K.faults out.old) (K.faults out.new) }
-    ensures stop { IfErr result IsLineStop }
-    ensures spec { E.spec engine.new ≡ E.spec engine.old }
+    ensures out_counted { K.faults out.old ≤ K.faults out.new }
+    ensures notes_counted { N.faults notes.old ≤ N.faults notes.new }
     ensures steps { steps.old ≤ steps.new }
-    ensures ok { (st : ChartState) (held : Option (List ℕ)) (taken : List ℕ)
-        → Stands (vega_chart_of (E.spec engine.old)) st held taken line.old (E.state engine.old) (K.held out.old)
-        → OnOk result (Stands (vega_chart_of (E.spec engine.old)) st held (taken ++ byte ∷ []) line.new (E.state engine.new) (K.held out.new)) }
-    ensures err { (st : ChartState) (held : Option (List ℕ)) (taken : List ℕ)
-        → Stands (vega_chart_of (E.spec engine.old)) st held taken line.old (E.state engine.old) (K.held out.old)
-        → OnErr result (IsStopped (vega_chart_of (E.spec engine.old)) st held (taken ++ byte ∷ []) (E.state engine.new) (K.held out.new)) }
+    ensures write { IsErrOf result Write → Rose (K.faults out.old) (K.faults out.new) }
+    ensures goes { (st : R.State) (before : Sinks) (taken : List ℕ) → length taken ≤ most_script_bytes
+        → Stands R.replies st before taken line.old (R.state target.old) (sinks (K.held out.old) (N.held notes.old) (N.faults notes.old))
+        → GoesOn R.replies st before (taken ++ byte ∷ []) line.new (R.state target.new)
+        (sinks (K.held out.new) (N.held notes.new) (N.faults notes.new)) result }
 {
     if byte != b'\n' {
         return line.push(byte);
     }
-    do_line(alloc, engine, line.shown(true), out, steps)?;
-    line.clear();
-    Ok(())
+    let number = line.number();
+    match answer_line(
+        alloc,
+        rules,
+        target,
+        number,
+        line.shown(true),
+        out,
+        notes,
+        steps,
+    ) {
+        Ok(()) => {
+            line.next();
+            Ok(())
+        }
+        Err(cause) => Err(cause),
+    }
 }
 
 /// Takes the next bytes of the script, and does the lines that end in them.
-pub fn take_piece<E: Engine, K: Sink, L: Ledger>(
+pub fn take_piece<T, R: Lines<T>, K: Sink, N: Sink, L: Ledger>(
     alloc: Global,
-    engine: &mut E,
+    rules: &R,
+    target: &mut T,
     line: &mut Pending,
     piece: &[u8],
     out: &mut K,
+    notes: &mut N,
     steps: &mut Steps<L>,
 ) -> Result<(), PlayError>
-    ensures counted { K.faults out.old ≤ K.faults out.new }
-    ensures write { IsErrOf result Write → Rose (K.faults out.old) (K.faults out.new) }
-    ensures stop { IfErr result IsLineStop }
-    ensures spec { E.spec engine.new ≡ E.spec engine.old }
+    ensures out_counted { K.faults out.old ≤ K.faults out.new }
+    ensures notes_counted { N.faults notes.old ≤ N.faults notes.new }
     ensures steps { steps.old ≤ steps.new }
-    ensures ok { (st : ChartState) (held : Option (List ℕ)) (taken : List ℕ)
-        → Stands (vega_chart_of (E.spec engine.old)) st held taken line.old (E.state engine.old) (K.held out.old)
-        → OnOk result (Stands (vega_chart_of (E.spec engine.old)) st held (taken ++ piece.now) line.new (E.state engine.new) (K.held out.new)) }
-    ensures err { (st : ChartState) (held : Option (List ℕ)) (taken : List ℕ)
-        → Stands (vega_chart_of (E.spec engine.old)) st held taken line.old (E.state engine.old) (K.held out.old)
-        → OnErr result (IsStopped (vega_chart_of (E.spec engine.old)) st held (taken ++ piece.now) (E.state engine.new) (K.held out.new)) }
+    ensures write { IsErrOf result Write → Rose (K.faults out.old) (K.faults out.new) }
+    ensures goes { (st : R.State) (before : Sinks) (taken : List ℕ) → length taken + length piece.now ≤ most_script_bytes
+        → Stands R.replies st before taken line.old (R.state target.old) (sinks (K.held out.old) (N.held notes.old) (N.faults notes.old))
+        → GoesOn R.replies st before (taken ++ piece.now) line.new (R.state target.new)
+        (sinks (K.held out.new) (N.held notes.new) (N.faults notes.new)) result }
 {
     for byte in piece {
-        take_byte(alloc, engine, line, *byte, out, steps)?;
+        match take_byte(alloc, rules, target, line, *byte, out, notes, steps) {
+            Ok(()) => (),
+            Err(cause) => return Err(cause),
+        }
     }
     Ok(())
 }

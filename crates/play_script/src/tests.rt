@@ -1,13 +1,10 @@
-ghost use Rattle.std.specs.Prelude.{◌≡◌, ◌≢◌, ◌≤◌, ◌-◌, ◌<◌, [], ℕ, IfOk, OnOk, OnErr, IsErrOf};
+// Scripts, played on an engine without rows.
+ghost use Rattle.std.specs.Prelude.{◌≡◌, ◌≢◌, ◌≤◌, ◌-◌, IfOk, OnOk, OnErr, IsErrOf};
 ghost use Rattle.chart_io.specs.Outside.{Rose, Appended, AppendedPrefix};
 ghost use Rattle.scene_tree.specs.Outcome.{IsDrawn};
-ghost use Rattle.vega_meaning.specs.Bars.{vega_chart_of};
-ghost use Rattle.vega_meaning.specs.States.{IsStateOf};
 ghost use Rattle.param_flow.specs.declared.command.Command.TheVariants.{Print};
-ghost use Rattle.param_flow.specs.Machine.{reply_of, state_after};
-ghost use Rattle.param_flow.specs.Alike.{AreAlike};
 ghost use Rattle.play_script.specs.declared.errors.PrintError.TheVariants.{Write};
-ghost use Rattle.play_script.specs.EmptyChart.{no_spec, no_state};
+ghost use Rattle.play_script.specs.Meaning.{chart_in, reply_in, meaning_after};
 
 use super::*;
 use cell_value::Steps;
@@ -28,11 +25,13 @@ const PICTURE: &[u8] =
 struct NoRows;
 
 impl Engine for NoRows {
-    ghost spec = { λ engine. no_spec };
+    ghost use Rattle.play_script.specs.inner.EmptyChart.{no_bars, no_bars_stand};
 
-    ghost state = { λ engine. no_state };
+    ghost meaning = { λ engine. no_bars };
 
     ghost reads = { λ engine. 0 };
+
+    ghost stands = { λ engine. no_bars_stand };
 
     fn apply<L: Ledger>(
         &mut self,

@@ -1,15 +1,15 @@
-use Rattle.std.proofs.Common.{◌≡◌, ◌≤◌, ◌++◌, ℕ, List, Option, take}
-use Rattle.cell_value.specs.declared.state.ChartState.{ChartState}
-use Rattle.vega_meaning.specs.Bars.{vega_chart_of}
-use Rattle.play_script.specs.Progress.{Stands}
+use Rattle.std.proofs.Common.{◌≤◌, ◌+◌, ◌++◌, ℕ, List, take, length}
+use Rattle.param_flow.specs.Script.{most_script_bytes}
+use Rattle.play_script.specs.Played.{Sinks, sinks}
+use Rattle.play_script.specs.inner.Progress.{Stands}
 use Rattle.play_script.proofs.lines.take_piece.Given as goal
 
 abbrev pub invariant-loop-byte : goal.invariant-loop-byte
 invariant-loop-byte g l = record {
-  counted : g.K.Sink.faults l.initial.out ≤ g.K.Sink.faults l.out;
-  spec : g.E.Engine.spec l.engine ≡ g.E.Engine.spec l.initial.engine;
+  out_counted : g.K.Sink.faults l.initial.out ≤ g.K.Sink.faults l.out;
+  notes_counted : g.N.Sink.faults l.initial.notes ≤ g.N.Sink.faults l.notes;
   steps : l.initial.steps ≤ l.steps;
-  stands : (st : ChartState) (held : Option (List ℕ)) (taken : List ℕ)
-      → Stands (vega_chart_of (g.E.Engine.spec l.initial.engine)) st held taken l.initial.line (g.E.Engine.state l.initial.engine) (g.K.Sink.held l.initial.out)
-      → Stands (vega_chart_of (g.E.Engine.spec l.initial.engine)) st held (taken ++ take l.byte-index l.piece) l.line (g.E.Engine.state l.engine) (g.K.Sink.held l.out);
+  stands : (st : g.R.Lines.State) (before : Sinks) (taken : List ℕ) → length taken + length l.piece ≤ most_script_bytes
+      → Stands g.R.Lines.replies st before taken l.initial.line (g.R.Lines.state l.initial.target) (sinks (g.K.Sink.held l.initial.out) (g.N.Sink.held l.initial.notes) (g.N.Sink.faults l.initial.notes))
+      → Stands g.R.Lines.replies st before (taken ++ take l.byte-index l.piece) l.line (g.R.Lines.state l.target) (sinks (g.K.Sink.held l.out) (g.N.Sink.held l.notes) (g.N.Sink.faults l.notes));
 }

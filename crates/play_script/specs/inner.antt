@@ -1,0 +1,4 @@
+pub mod Pending
+pub mod Progress
+pub mod Once
+pub mod EmptyChart
