@@ -1,55 +1,74 @@
 -- Why bars in turn give all bars, and what an answer says of the parts before it.
-use Rattle.std.proofs.Common.{◌≡◌, ℕ, ◌+◌, ◌<◌, List, [], ◌∷◌, ◌++◌, length, map, get_or, take, zero, suc, Option, Some, None, Result, Ok, Err, arith, refl, sym, ap, ◌∙◌, subst}
+use Rattle.std.proofs.Common.{◌≡◌, ℕ, ◌+◌, ◌<◌, ◌≤◌, List, [], ◌∷◌, ◌++◌, length, map, drop, get_or, suc, Option, Some, None, Result, Ok, Err, Bor, arith, refl, sym, ap, ◌∙◌, subst, append_assoc, add-one}
+use Rattle.std.specs.Option.{option_to_list}
 use Rattle.std.specs.Result.{IsErrAnd}
-use Rattle.std.proofs.lemmas.Option.{same_Some}
-use Rattle.std.proofs.lemmas.List.{map_more}
-use Rattle.scene_tree.specs.Outcome.{Drawn, in_reach}
+use Rattle.std.specs.List.{filter_map}
+use Rattle.std.proofs.Math.Seq.{drop-cons}
+use Rattle.cell_value.specs.declared.cell.Cell.{Cell}
+use Rattle.cell_value.specs.declared.state.Key.{Key}
+use Rattle.cell_value.specs.declared.state.Keyed.{Keyed}
+use Rattle.scene_tree.specs.declared.scene.Item.{Item}
+use Rattle.scene_tree.specs.Outcome.{Outcome, Drawn, Overflow, Panels, ◌>>=◌, outcome_map, all_drawn}
 use Rattle.vega_meaning.specs.declared.open.OpenError.{OpenError}
 use Rattle.vega_meaning.specs.declared.open.OpenError.TheVariants as error
-use Rattle.vega_meaning.specs.Ranges.{◌>>=◌, all_of}
 use Rattle.vega_meaning.specs.Answers.{Draws}
+use Rattle.plain_engine.specs.inner.Columns.{cells_of}
+use Rattle.plain_engine.specs.inner.Bars.{drawn_along, bars_along}
 
--- what comes of a result that is there
-bind_some : {A B : Type 0} (o : Option A) (f : A → Option B) (y : B) → (o >>= f) ≡ Some y → (x : A) × (o ≡ Some x) × (f x ≡ Some y)
-bind_some None f y h = cc
-bind_some (Some x) f y h = (x, refl, h)
+-- a part and the parts after it
+part_and_rest : {X : Type 0} (part : Outcome (Option X)) (rest : Outcome (List (Option X)))
+    → outcome_map (filter_map (λ bar. bar)) (part >>= (λ bar. rest >>= (λ bars. Drawn (bar ∷ bars))))
+    ≡ (part >>= (λ bar. outcome_map (λ more. option_to_list bar ++ more) (outcome_map (filter_map (λ bar. bar)) rest)))
+part_and_rest (Drawn None) (Drawn bars) = refl
+part_and_rest (Drawn (Some bar)) (Drawn bars) = refl
+part_and_rest (Drawn bar) Overflow = refl
+part_and_rest (Drawn bar) (Panels n) = refl
+part_and_rest Overflow rest = refl
+part_and_rest (Panels n) rest = refl
 
--- nothing comes where the rest is missing
-nowhere : {A B : Type 0} (o : Option A) (rest : Option B) → rest ≡ None → (o >>= (λ _. rest)) ≡ None
-nowhere None rest e = refl
-nowhere (Some x) rest e = e
+-- what was taken before the rest
+taken_on : {X : Type 0} (items more : List X) (rest : Outcome (List X)) → outcome_map (λ all. items ++ all) (outcome_map (λ all. more ++ all) rest) ≡ outcome_map (λ all. (items ++ more) ++ all) rest
+taken_on items more (Drawn bars) = ap Drawn (sym (append_assoc items more bars))
+taken_on items more Overflow = refl
+taken_on items more (Panels n) = refl
 
--- one more result at the end
-all_of-push : {X : Type 0} (rs : List (Option X)) (r : Option X) (xs : List X) (x : X) → all_of rs ≡ Some xs → r ≡ Some x → all_of (rs ++ r ∷ []) ≡ Some (xs ++ x ∷ [])
-all_of-push [] r xs x h e = ap (λ o. o >>= (λ y. Some (y ∷ []))) e ∙ ap (λ zs. Some (zs ++ x ∷ [])) (same_Some _ _ h)
-all_of-push (None ∷ qs) r xs x h e = cc
-all_of-push (Some q ∷ qs) r xs x h e =
-    let rest = bind_some (all_of qs) (λ zs. Some (q ∷ zs)) xs h in
-    ap (λ o. o >>= (λ zs. Some (q ∷ zs))) (all_of-push qs r rest.0 x rest.1 e) ∙ ap (λ zs. Some (zs ++ x ∷ [])) (same_Some _ _ rest.2)
+-- an error of a part is the whole's
+stopped_at : {X Y Z : Type 0} (part : Outcome X) (rest : X → Outcome Y) (f : Y → Z) (e : OpenError) → Draws part (Err e) → Draws (outcome_map f (part >>= rest)) (Err e)
+stopped_at part rest f error.Overflow told = ap (λ part. outcome_map f (part >>= rest)) told
+stopped_at part rest f (error.Panels n) told = ap (λ part. outcome_map f (part >>= rest)) told
+stopped_at part rest f error.Memory told = tt
 
--- one more step of a loop
-pub all_of_more : {X Y : Type 0} (f : Y → Option X) (ys : List Y) (i : ℕ) (d : Y) (xs : List X) (x : X) → i < length ys → all_of (map f (take i ys)) ≡ Some xs → f (get_or ys i d) ≡ Some x → all_of (map f (take (i + 1) ys)) ≡ Some (xs ++ x ∷ [])
-all_of_more f ys i d xs x l h e = ap all_of (map_more f ys i d l) ∙ all_of-push (map f (take i ys)) (f (get_or ys i d)) xs x h e
+stopped : {X Y Z : Type 0} (part : Outcome X) (rest : X → Outcome Y) (f : Y → Z) (whole : Outcome Z) (e : OpenError) (r : Result Z OpenError)
+    → Draws part (Err e) → whole ≡ outcome_map f (part >>= rest) → IsErrAnd r (λ g. g ≡ e) → Draws whole r
+stopped part rest f whole e (Ok z) told is same = absurd same
+stopped part rest f whole e (Err g) told is same = subst (λ g. Draws whole (Err g)) (sym same) (subst (λ w. Draws w (Err e)) (sym is) (stopped_at part rest f e told))
 
--- where one result is missing, so are all
-pub all_of_missing : {X Y : Type 0} (f : Y → Option X) (ys : List Y) (i : ℕ) (d : Y) → i < length ys → f (get_or ys i d) ≡ None → all_of (map f ys) ≡ None
-all_of_missing f [] i d l e = absurd (omega arith)
-all_of_missing f (y ∷ ys) zero d l e = ap (λ o. o >>= (λ x. all_of (map f ys) >>= (λ xs. Some (x ∷ xs)))) e
-all_of_missing f (y ∷ ys) (suc i) d l e = ap (λ o. f y >>= (λ x. o >>= (λ xs. Some (x ∷ xs)))) (all_of_missing f ys i d (omega arith) e) ∙ nowhere (f y) None refl
+module _ (draw : Key → Cell → Cell → Outcome (Option Item)) (rows : List Keyed) (xs ys : List (Bor Cell)) (i : ℕ) where
+  -- the bars from a row on
+  abbrev pub bars_from : Outcome (List Item)
+  bars_from = bars_along draw (drop i rows) (cells_of (drop i xs)) (cells_of (drop i ys))
 
--- what was drawn is there
-pub drawn_there : {X : Type 0} (o : Option X) (x : X) → in_reach o ≡ Drawn x → o ≡ Some x
-drawn_there None x h = cc
-drawn_there (Some y) x h = cc
+module _ (draw : Key → Cell → Cell → Outcome (Option Item)) (rows : List Keyed) (xs ys : List (Bor Cell)) (i : ℕ) (row : Keyed) (x y : Bor Cell) where
+  -- the row at an index, and its cells along x and y
+  pub record IsRow : Type 0 where
+    pub row_within : i < length rows
+    pub x_within : i < length xs
+    pub y_within : i < length ys
+    pub row_is : row ≡ get_or rows i row
+    pub x_is : x ≡ get_or xs i x
+    pub y_is : y ≡ get_or ys i y
 
--- an error of a part is the whole's, if the whole is out of range where the part is
-error_told : {X Y : Type 0} (o : Option X) (p : Option Y) (e : OpenError) → Draws (in_reach o) (Err e) → (o ≡ None → p ≡ None) → Draws (in_reach p) (Err e)
-error_told None p error.Overflow h missing = ap in_reach (missing refl)
-error_told (Some x) p error.Overflow h missing = cc
-error_told None p (error.Panels n) h missing = cc
-error_told (Some x) p (error.Panels n) h missing = cc
-error_told o p error.Memory h missing = tt
+  one_bar : IsRow → bars_from draw rows xs ys i ≡ (draw row.key x.now y.now >>= (λ bar. outcome_map (λ more. option_to_list bar ++ more) (bars_from draw rows xs ys (i + 1))))
+  one_bar h =
+      rw (drop-cons rows i row h.row_within, drop-cons xs i x h.x_within, drop-cons ys i y h.y_within, add-one i, ← h.row_is, ← h.x_is, ← h.y_is) (part_and_rest _ _)
 
-pub error_of_part : {X Y : Type 0} (o : Option X) (p : Option Y) (e : OpenError) (r : Result Y OpenError) → Draws (in_reach o) (Err e) → IsErrAnd r (λ f. f ≡ e) → (o ≡ None → p ≡ None) → Draws (in_reach p) r
-error_of_part o p e (Ok y) h same missing = absurd same
-error_of_part o p e (Err f) h same missing = subst (λ g. Draws (in_reach p) (Err g)) (sym same) (error_told o p e h missing)
+  pub next_bar : (whole : Outcome (List Item)) (items longer : List Item) (bar : Option Item) → IsRow → whole ≡ outcome_map (λ all. items ++ all) (bars_from draw rows xs ys i)
+      → draw row.key x.now y.now ≡ Drawn bar → longer ≡ items ++ option_to_list bar → whole ≡ outcome_map (λ all. longer ++ all) (bars_from draw rows xs ys (i + 1))
+  next_bar whole items longer bar h is drawn added =
+      let rest = bars_from draw rows xs ys (i + 1) in
+      is ∙ ap (outcome_map (λ all. items ++ all)) (one_bar h ∙ ap (λ o. o >>= (λ bar. outcome_map (λ more. option_to_list bar ++ more) rest)) drawn)
+      ∙ taken_on items (option_to_list bar) rest ∙ ap (λ items. outcome_map (λ all. items ++ all) rest) (sym added)
+
+  pub stopped_bar : (whole : Outcome (List Item)) (items : List Item) (e : OpenError) (r : Result (List Item) OpenError) → IsRow → whole ≡ outcome_map (λ all. items ++ all) (bars_from draw rows xs ys i)
+      → Draws (draw row.key x.now y.now) (Err e) → IsErrAnd r (λ g. g ≡ e) → Draws whole r
+  stopped_bar whole items e r h is told same = stopped _ _ (λ all. items ++ all) whole e r told (is ∙ ap (outcome_map (λ all. items ++ all)) (one_bar h)) same

@@ -1,5 +1,5 @@
 -- Why a set holds the distinct elements, and why the running extremes give the extent.
-use Rattle.std.proofs.Common.{◌≡◌, ℤ, pos, List, [], ◌∷◌, length, ◌<◌, ◌≤◌, ◌+◌, map, reverse, Bor, fold, arith, refl, sym, ap, ◌∙◌}
+use Rattle.std.proofs.Common.{◌≡◌, ℕ, ℤ, take, pos, Bool, true, false, ◌||◌, ◌++◌, if◌then◌else◌, List, [], ◌∷◌, length, ◌≤◌, ◌+◌, map, reverse, Bor, fold, arith, refl, sym, ap, ◌∙◌}
 use mathlib.Core.List.{reverse_aux}
 use Rattle.std.specs.Int.{int_min, int_max}
 use Rattle.std.specs.declared.cmp.Ordering.{Ordering}
@@ -7,6 +7,13 @@ use Rattle.std.specs.declared.cmp.Ordering.TheVariants.{Less, Equal, Greater}
 use Rattle.std.specs.BTreeSet.{insert_key}
 use Rattle.std.proofs.lemmas.Int.{ints, clamps}
 use Rattle.std.proofs.lemmas.List.{reverse-reverse}
+use Rattle.std.specs.List.{flat_map, list_any}
+use Rattle.std.proofs.lemmas.List.Sums.{fold-append}
+use Rattle.std.proofs.lemmas.List.{take_all}
+use Rattle.fixed_num.specs.Number.{million}
+use Rattle.cell_value.specs.declared.cell.Cell.{Cell}
+use Rattle.vega_meaning.specs.Bars.{numbers_in}
+use Rattle.plain_engine.specs.inner.Columns.{cells_of}
 use Rattle.vega_meaning.specs.Domains.{placed_in, ascending, least, greatest, extent_of, with_zero}
 
 ordering_cases : {P : Type 0} (o : Ordering) → (o ≡ Less → P) → (o ≡ Equal → P) → (o ≡ Greater → P) → P
@@ -36,18 +43,55 @@ pub map_of_turned : {A B C : Type 0} (g : B → C) (f : A → B) (xs : List A) (
 map_of_turned g f xs ys e = sym (map-map g f (reverse xs)) ∙ ap (map g) (map-reverse f xs ∙ ap reverse e ∙ reverse-reverse ys)
 
 -- the least of a number and others
-fold-int_min : {A : Type 0} (f : A → ℤ) (a : ℤ) (x : A) (xs : List A) → fold (λ m y. int_min m (f y)) (int_min a (f x)) xs ≡ int_min (least (f x) (map f xs)) a
-fold-int_min f a x [] = omega (arith, ints, clamps)
-fold-int_min f a x (y ∷ ys) = fold-int_min f (int_min a (f x)) y ys ∙ omega (arith, ints, clamps)
+fold-int_min : (a m : ℤ) (ms : List ℤ) → fold int_min (int_min a m) ms ≡ int_min (least m ms) a
+fold-int_min a m [] = omega (arith, ints, clamps)
+fold-int_min a m (n ∷ ns) = fold-int_min (int_min a m) n ns ∙ omega (arith, ints, clamps)
 
-fold-int_max : {A : Type 0} (f : A → ℤ) (a : ℤ) (x : A) (xs : List A) → fold (λ m y. int_max m (f y)) (int_max a (f x)) xs ≡ int_max (greatest (f x) (map f xs)) a
-fold-int_max f a x [] = omega (arith, ints, clamps)
-fold-int_max f a x (y ∷ ys) = fold-int_max f (int_max a (f x)) y ys ∙ omega (arith, ints, clamps)
+fold-int_max : (a m : ℤ) (ms : List ℤ) → fold int_max (int_max a m) ms ≡ int_max (greatest m ms) a
+fold-int_max a m [] = omega (arith, ints, clamps)
+fold-int_max a m (n ∷ ns) = fold-int_max (int_max a m) n ns ∙ omega (arith, ints, clamps)
 
--- the running extremes from 0 are the extent with 0
-pub with_zero-extent_of : {A : Type 0} (f : A → ℤ) (xs : List A) → 0 < length xs → with_zero (extent_of (map f xs)) ≡ (fold (λ m y. int_min m (f y)) (pos 0) xs, fold (λ m y. int_max m (f y)) (pos 0) xs)
-with_zero-extent_of f [] h = absurd (omega arith)
-with_zero-extent_of f (x ∷ xs) h = λ i. (sym (fold-int_min f (pos 0) x xs) i, sym (fold-int_max f (pos 0) x xs) i)
+-- the running extremes of the numbers in cells, and whether there is one
+abbrev pub low_with : ℤ → Bor Cell → ℤ
+low_with m cell = fold int_min m (numbers_in cell.now)
+
+abbrev pub high_with : ℤ → Bor Cell → ℤ
+high_with m cell = fold int_max m (numbers_in cell.now)
+
+abbrev pub is_some_of : List ℤ → Bool
+is_some_of [] = false
+is_some_of (n ∷ ns) = true
+
+abbrev pub is_number : Bor Cell → Bool
+is_number cell = is_some_of (numbers_in cell.now)
+
+is_some_of-append : (ms ns : List ℤ) → is_some_of (ms ++ ns) ≡ (is_some_of ms || is_some_of ns)
+is_some_of-append [] ns = refl
+is_some_of-append (m ∷ ms) ns = refl
+
+list_any-is_number : (cells : List (Bor Cell)) → list_any is_number cells ≡ is_some_of (flat_map numbers_in (cells_of cells))
+list_any-is_number [] = refl
+list_any-is_number (cell ∷ cells) = ap (λ b. is_number cell || b) (list_any-is_number cells) ∙ sym (is_some_of-append (numbers_in cell.now) _)
+
+fold_numbers : (f : ℤ → ℤ → ℤ) (m : ℤ) (cells : List (Bor Cell)) → fold (λ m (cell : Bor Cell). fold f m (numbers_in cell.now)) m cells ≡ fold f m (flat_map numbers_in (cells_of cells))
+fold_numbers f m [] = refl
+fold_numbers f m (cell ∷ cells) = fold_numbers f (fold f m (numbers_in cell.now)) cells ∙ sym (fold-append f m (numbers_in cell.now) _)
+
+extremes_of : (ns : List ℤ) → with_zero (extent_of ns) ≡ (if is_some_of ns then (fold int_min (pos 0) ns, fold int_max (pos 0) ns) else (pos 0, pos million))
+extremes_of [] = refl
+extremes_of (m ∷ ms) = λ i. (sym (fold-int_min (pos 0) m ms) i, sym (fold-int_max (pos 0) m ms) i)
+
+-- the running extremes from 0 of all cells are the extent with 0
+pub extremes : (cells : List (Bor Cell)) (n : ℕ) (low high : ℤ) (some : Bool) → length cells ≤ n
+    → low ≡ fold low_with (pos 0) (take n cells) → high ≡ fold high_with (pos 0) (take n cells) → some ≡ list_any is_number (take n cells)
+    → (if some then (low, high) else (pos 0, pos million)) ≡ with_zero (extent_of (flat_map numbers_in (cells_of cells)))
+extremes cells n low high some past l h s =
+    let all = take_all n cells past in
+    let numbers = flat_map numbers_in (cells_of cells) in
+    let below : low ≡ fold int_min (pos 0) numbers = l ∙ ap (fold low_with (pos 0)) all ∙ fold_numbers int_min (pos 0) cells in
+    let above : high ≡ fold int_max (pos 0) numbers = h ∙ ap (fold high_with (pos 0)) all ∙ fold_numbers int_max (pos 0) cells in
+    let is : some ≡ is_some_of numbers = s ∙ ap (list_any is_number) all ∙ list_any-is_number cells in
+    rw (below, above, is) (sym (extremes_of numbers))
 
 -- a domain has no more cells than were given
 length-placed_in : {X : Type 0} (order : X → X → Ordering) (c : X) (ds : List X) → length (placed_in order c ds) ≤ length ds + 1

@@ -1,9 +1,11 @@
 pub mod RangeLemmas
 pub mod StepLemmas
-pub mod DomainLemmas
 pub mod IndexLemmas
-pub mod BandLemmas
+pub mod Outcomes
+pub mod DomainLemmas
 pub mod BarLemmas
+pub mod SceneLemmas
+pub mod SourceLemmas
 pub mod OneSource
-pub mod Opened
+pub mod Insertion
 pub mod Replies

@@ -1,4 +1,2 @@
-pub mod ScaleViews
-pub mod RowViews
 pub mod Engine
-pub mod JsonRows
+pub mod inner

@@ -5,15 +5,13 @@ ghost use Rattle.json_exact.specs.declared.json.Json.{out-Json};
 ghost use Rattle.cell_value.specs.Row.{row_of};
 ghost use Rattle.param_flow.specs.Rows.{cell_in, is_huge, cells_of, row_of_json, bad_field, first_bad};
 ghost use Rattle.param_flow.specs.Machine.{new_rows};
-ghost use Rattle.plain_engine.specs.JsonRows.{bad_row, huge_name};
+ghost use Rattle.plain_engine.specs.inner.JsonRows.{bad_row, huge_name};
 
+use crate::columns::ID_NAME;
 use cell_value::{Cell, Key, Keyed, Row, Rows};
 use json_exact::{Json, Member};
 use std::alloc::Global;
 use text_kit::{OutOfMemory, Seq, Text};
-
-/// The name under which a row has its id. A member of this name is dropped.
-const ID_NAME: &str = "_vgsid_";
 
 /// The rows of values, in order: their ids count on from `id`, and a list or an object in a row is read as null.
 pub fn new_rows(alloc: Global, id: u64, trees: &[Json]) -> Result<Rows, OutOfMemory>

@@ -1,16 +1,17 @@
 //! An engine that evaluates the whole chart afresh after each command.
 #![tactic(auto)]
 
+mod bar_scales;
 mod bars;
+mod columns;
 mod domains;
 mod engine;
 mod json_rows;
 mod pixels;
-mod rows;
+mod places;
 mod scales;
 mod scene;
+mod sources;
 mod steps;
-#[cfg(test)]
-mod tests;
 
 pub use engine::PlainEngine;

@@ -1,11 +1,12 @@
-ghost use Rattle.std.specs.Prelude.{◌≡◌, ◌≤◌, length, codes, IfOk};
+ghost use Rattle.std.specs.Prelude.{◌≡◌, ◌≢◌, ◌≤◌, [], ◌∷◌, length, codes, IfOk};
+ghost use Rattle.param_flow.specs.declared.command.Command.TheVariants.{Print};
 ghost use Rattle.cell_value.specs.State.{most_rows};
-ghost use Rattle.plain_engine.specs.Engine.{state_of};
 
-use super::{MOST_ROWS, PlainEngine};
+use super::PlainEngine;
 use crate::json_rows::new_rows;
 use crate::pixels::pixels;
-use cell_value::{Cell, ChartState, Named, Row, Rows, Steps};
+use crate::sources::MOST_ROWS;
+use cell_value::{Cell, ChartState, Named, Rows, Steps};
 use chart_io::ListSink;
 use json_exact::{Json, read};
 use param_flow::{Cause, ChangeOf, Command, Event, Reply};
@@ -43,16 +44,97 @@ const FOUR_BARS: &str =
 </svg>
 "##;
 
+const THREE_IDS: &str =
+    r##"<svg xmlns="http://www.w3.org/2000/svg" version="1.1" width="70" height="210" viewBox="0 0 70 210">
+<g transform="translate(5,5)">
+<rect x="1" y="133.333333" width="18" height="66.666667" fill="#4c78a8"/>
+<rect x="21" y="66.666667" width="18" height="133.333333" fill="#4c78a8"/>
+<rect x="41" y="0" width="18" height="200" fill="#4c78a8"/>
+</g>
+</svg>
+"##;
+
+const FOUR_IDS: &str =
+    r##"<svg xmlns="http://www.w3.org/2000/svg" version="1.1" width="90" height="210" viewBox="0 0 90 210">
+<g transform="translate(5,5)">
+<rect x="1" y="150" width="18" height="50" fill="#4c78a8"/>
+<rect x="21" y="100" width="18" height="100" fill="#4c78a8"/>
+<rect x="41" y="50" width="18" height="150" fill="#4c78a8"/>
+<rect x="61" y="0" width="18" height="200" fill="#4c78a8"/>
+</g>
+</svg>
+"##;
+
+const ABOVE_AND_BELOW: &str =
+    r##"<svg xmlns="http://www.w3.org/2000/svg" version="1.1" width="50" height="210" viewBox="0 0 50 210">
+<g transform="translate(5,5)">
+<rect x="21" y="0" width="18" height="120" fill="#4c78a8"/>
+<rect x="1" y="120" width="18" height="80" fill="#4c78a8"/>
+</g>
+</svg>
+"##;
+
+const OF_NUMBERS_ALONE: &str =
+    r##"<svg xmlns="http://www.w3.org/2000/svg" version="1.1" width="70" height="210" viewBox="0 0 70 210">
+<g transform="translate(5,5)">
+<rect x="21" y="0" width="18" height="120" fill="#4c78a8"/>
+<rect x="1" y="120" width="18" height="80" fill="#4c78a8"/>
+<rect x="1" y="80" width="18" height="40" fill="#4c78a8"/>
+</g>
+</svg>
+"##;
+
+const NO_BARS: &str =
+    r##"<svg xmlns="http://www.w3.org/2000/svg" version="1.1" width="10" height="210" viewBox="0 0 10 210">
+<g transform="translate(5,5)">
+</g>
+</svg>
+"##;
+
+/// The fields along x and y; opening rows and the picture of them; and inserted rows and the picture after them.
+type Case = (
+    &'static str,
+    &'static str,
+    &'static str,
+    &'static str,
+    &'static str,
+    &'static str,
+);
+
+const CASES: [Case; 5] = [
+    ("a", "b", THREE_ROWS, THREE_BARS, ONE_ROW, FOUR_BARS),
+    ("a", "b", "[]", NO_BARS, THREE_ROWS, THREE_BARS),
+    (
+        "a",
+        "b",
+        r#"[{"a":"A","b":3},{"b":-2}]"#,
+        ABOVE_AND_BELOW,
+        r#"[{"a":"A"},{"a":"B","b":"9"},{"b":1}]"#,
+        OF_NUMBERS_ALONE,
+    ),
+    (
+        "_vgsid_",
+        "b",
+        r#"[{"b":28},{"_vgsid_":"Z","b":55},{"b":43}]"#,
+        THREE_BARS,
+        r#"[{"_vgsid_":0,"b":110}]"#,
+        FOUR_BARS,
+    ),
+    (
+        "a",
+        "_vgsid_",
+        r#"[{"a":"A"},{"_vgsid_":9,"a":"B"},{"a":"C"}]"#,
+        THREE_IDS,
+        r#"[{"_vgsid_":"Z","a":"D"}]"#,
+        FOUR_IDS,
+    ),
+];
+
 /// Why there is nothing to look at.
 #[derive(Debug, Drop)]
 enum Lacking {
     List,
     Room,
-    Row,
-}
-
-fn tree_of(alloc: Global, text: &str) -> Result<Json, Fail> {
-    Ok(read(alloc, text.as_bytes())?)
 }
 
 fn items_of(tree: Json) -> Option<Seq<Json>> {
@@ -69,22 +151,27 @@ fn items_of(tree: Json) -> Option<Seq<Json>> {
 
 // The items of a list in JSON.
 fn listed(alloc: Global, text: &str) -> Result<Seq<Json>, Fail> {
-    Ok(items_of(tree_of(alloc, text)?).ok_or(Lacking::List)?)
+    Ok(items_of(read(alloc, text.as_bytes())?).ok_or(Lacking::List)?)
 }
 
-fn spec(alloc: Global) -> Result<VgSpec, OutOfMemory>
+fn spec(alloc: Global, x: &str, y: &str) -> Result<VgSpec, OutOfMemory>
     ensures { IfOk result (λ spec. spec.source ≡ codes "t") }
 {
     Ok(VgSpec {
         source: Text::of(alloc, "t")?,
-        x: Text::of(alloc, "a")?,
-        y: Text::of(alloc, "b")?,
+        x: Text::of(alloc, x)?,
+        y: Text::of(alloc, y)?,
     })
 }
 
 // The state of one source, `t`, with these rows.
 fn state(alloc: Global, next_id: u64, rows: Rows) -> Result<ChartState, OutOfMemory>
-    ensures { IfOk result (λ state. state ≡ state_of (codes "t") next_id rows) }
+    ensures { IfOk result (λ state. state ≡ record {
+      next_id = next_id;
+      sources = record { name = codes "t"; rows = rows } ∷ [];
+      params = [];
+      stores = [];
+    }) }
 {
     let mut sources = Seq::new(alloc);
     sources.push(Named {
@@ -100,20 +187,20 @@ fn state(alloc: Global, next_id: u64, rows: Rows) -> Result<ChartState, OutOfMem
 }
 
 // Bars of these values.
-fn opened_on(alloc: Global, values: &[Json]) -> Result<PlainEngine, OpenError>
+fn opened_on(alloc: Global, x: &str, y: &str, values: &[Json]) -> Result<PlainEngine, OpenError>
     requires { length values.now ≤ most_rows }
 {
     let rows = new_rows(alloc, 1, values)?;
     let state = state(alloc, 1 + values.len() as u64, rows)?;
-    PlainEngine::open(alloc, spec(alloc)?, state)
+    PlainEngine::open(alloc, spec(alloc, x, y)?, state)
 }
 
-fn opened(alloc: Global, values: &str) -> Result<PlainEngine, Fail> {
+fn opened(alloc: Global, x: &str, y: &str, values: &str) -> Result<PlainEngine, Fail> {
     let values = listed(alloc, values)?;
     if values.len() > MOST_ROWS {
         return Err(Lacking::Room)?;
     }
-    Ok(opened_on(alloc, values.as_slice())?)
+    Ok(opened_on(alloc, x, y, values.as_slice())?)
 }
 
 fn change(alloc: Global, engine: &mut PlainEngine, rows: &str) -> Result<Reply, Fail> {
@@ -135,31 +222,23 @@ fn prints<E: Engine>(alloc: Global, engine: &E, picture: &str) -> Result<bool, F
     Ok(sink.bytes() == picture.as_bytes())
 }
 
-fn grows(alloc: Global, engine: &mut PlainEngine) -> Result<bool, Fail> {
+// Whether a case comes out.
+fn holds(alloc: Global, case: &Case) -> Result<bool, Fail> {
+    let mut engine = opened(alloc, case.0, case.1, case.2)?;
     Ok(
-        prints(alloc, engine, THREE_BARS)?
-            && inserts(alloc, engine, "[]")?
-            && prints(alloc, engine, THREE_BARS)?
-            && inserts(alloc, engine, ONE_ROW)?
-            && prints(alloc, engine, FOUR_BARS)?,
+        prints(alloc, &engine, case.3)?
+            && inserts(alloc, &mut engine, "[]")?
+            && prints(alloc, &engine, case.3)?
+            && inserts(alloc, &mut engine, case.4)?
+            && prints(alloc, &engine, case.5)?,
     )
 }
 
 #[test]
-fn inserted_rows_come_last(rt: HostRuntime) -> Result<(), Fail> {
-    let mut engine = opened(rt.alloc(), THREE_ROWS)?;
-    assert!(rt; grows(rt.alloc(), &mut engine)?);
-    Ok(())
-}
-
-fn begins(alloc: Global, engine: &mut PlainEngine) -> Result<bool, Fail> {
-    Ok(inserts(alloc, engine, THREE_ROWS)? && prints(alloc, engine, THREE_BARS)?)
-}
-
-#[test]
-fn rows_are_inserted_into_none(rt: HostRuntime) -> Result<(), Fail> {
-    let mut engine = opened(rt.alloc(), "[]")?;
-    assert!(rt; begins(rt.alloc(), &mut engine)?);
+fn rows_are_drawn_as_they_are_read(rt: HostRuntime) -> Result<(), Fail> {
+    for case in CASES.iter() {
+        assert!(rt; holds(rt.alloc(), case)?, "{case:?}");
+    }
     Ok(())
 }
 
@@ -180,55 +259,14 @@ fn refuses_row(alloc: Global, engine: &mut PlainEngine) -> Result<bool, Fail> {
     }
 }
 
-fn refuses_between(alloc: Global, engine: &mut PlainEngine) -> Result<bool, Fail> {
-    Ok(
-        inserts(alloc, engine, ONE_ROW)?
-            && refuses_name(alloc, engine)?
-            && refuses_row(alloc, engine)?
-            && inserts(alloc, engine, "[1,{}]")?,
-    )
-}
-
-// Whether the ids of the rows count on from 1.
-fn counts_on(engine: &PlainEngine) -> bool {
-    engine
-        .rows
-        .as_slice()
-        .iter()
-        .enumerate()
-        .all(|(index, keyed)| keyed.key.id as usize == index + 1)
-}
-
 #[test]
-fn ids_count_on_after_a_refused_change(rt: HostRuntime) -> Result<(), Fail> {
-    let mut engine = opened(rt.alloc(), "[]")?;
-    assert!(rt; refuses_between(rt.alloc(), &mut engine)?);
-    assert_eq!(rt; engine.rows.len(), 3);
-    assert!(rt; counts_on(&engine));
-    Ok(())
-}
-
-// The row at an index.
-fn row_at(engine: &PlainEngine, index: usize) -> Result<&Row, Lacking> {
-    match engine.rows.get(index) {
-        Some(keyed) => Ok(&keyed.row),
-        None => Err(Lacking::Row),
-    }
-}
-
-fn is_null(cell: Option<&Cell>) -> bool {
-    matches!(cell, Some(Cell::Null))
-}
-
-#[test]
-fn rows_are_read_from_values(rt: HostRuntime) -> Result<(), Fail> {
-    let rows = r#"[{"a":"E"},{"_vgsid_":9,"b":{"c":1e16}},7,{"a":[1]}]"#;
-    let engine = opened(rt.alloc(), rows)?;
-    assert!(rt; row_at(&engine, 0)?.get("b").is_none());
-    assert_eq!(rt; row_at(&engine, 1)?.len(), 1);
-    assert!(rt; is_null(row_at(&engine, 1)?.get("b")));
-    assert!(rt; matches!(row_at(&engine, 2)?.get("data"), Some(Cell::Number(_))));
-    assert!(rt; is_null(row_at(&engine, 3)?.get("a")));
+fn a_refused_change_changes_nothing(rt: HostRuntime) -> Result<(), Fail> {
+    let alloc = rt.alloc();
+    let mut engine = opened(alloc, "a", "_vgsid_", r#"[{"a":"A"},{"a":"B"}]"#)?;
+    assert!(rt; refuses_name(alloc, &mut engine)?);
+    assert!(rt; refuses_row(alloc, &mut engine)?);
+    assert!(rt; inserts(alloc, &mut engine, r#"[{"a":"C"}]"#)?);
+    assert!(rt; prints(alloc, &engine, THREE_IDS)?);
     Ok(())
 }
 
@@ -245,20 +283,14 @@ fn inserts_nulls(alloc: Global, engine: &mut PlainEngine, count: usize) -> Resul
     Ok(matches!(engine.change(alloc, "t", values.as_slice())?, Reply::Done))
 }
 
-fn fills(alloc: Global, engine: &mut PlainEngine) -> Result<bool, Fail> {
-    Ok(
-        inserts_nulls(alloc, engine, MOST_ROWS - 1)?
-            && is_past_limit(alloc, engine, "[1,2]")?
-            && inserts(alloc, engine, "[1]")?
-            && is_past_limit(alloc, engine, "[1]")?,
-    )
-}
-
 #[test]
 fn a_chart_takes_two_hundred_thousand_rows(rt: HostRuntime) -> Result<(), Fail> {
-    let mut engine = opened(rt.alloc(), "[]")?;
-    assert!(rt; fills(rt.alloc(), &mut engine)?);
-    assert_eq!(rt; engine.rows.len(), 200_000);
+    let alloc = rt.alloc();
+    let mut engine = opened(alloc, "_vgsid_", "_vgsid_", "[]")?;
+    assert!(rt; inserts_nulls(alloc, &mut engine, MOST_ROWS - 1)?);
+    assert!(rt; is_past_limit(alloc, &mut engine, "[1,2]")?);
+    assert!(rt; inserts(alloc, &mut engine, "[1]")?);
+    assert!(rt; is_past_limit(alloc, &mut engine, "[1]")?);
     Ok(())
 }
 
@@ -271,25 +303,11 @@ fn begins_to_print(alloc: Global, engine: &PlainEngine, failing: u64) -> Result<
 
 #[test]
 fn a_sink_that_fails_gets_a_beginning(rt: HostRuntime) -> Result<(), Fail> {
-    let engine = opened(rt.alloc(), THREE_ROWS)?;
+    let engine = opened(rt.alloc(), "a", "b", THREE_ROWS)?;
     for failing in 1..10u64 {
         assert!(rt; begins_to_print(rt.alloc(), &engine, failing)?, "{failing}");
     }
     Ok(())
-}
-
-fn inserts_by_command<L: Ledger>(
-    alloc: Global,
-    engine: &mut PlainEngine,
-    steps: &mut Steps<L>,
-) -> Result<bool, Fail> {
-    let command = Command::Change {
-        source: Text::of(alloc, "t")?,
-        change: ChangeOf {
-            insert: listed(alloc, ONE_ROW)?,
-        },
-    };
-    Ok(matches!(engine.apply(alloc, &command, steps)?, Reply::Done))
 }
 
 fn refuses_a_value<L: Ledger>(
@@ -307,15 +325,14 @@ fn refuses_a_value<L: Ledger>(
     ))
 }
 
-fn does_an_event<L: Ledger>(
+fn does<L: Ledger>(
     alloc: Global,
     engine: &mut PlainEngine,
+    command: Command,
     steps: &mut Steps<L>,
-) -> Result<bool, Fail> {
-    let command = Command::Event(Event::Click {
-        x: pixels(1),
-        y: pixels(1),
-    });
+) -> Result<bool, Fail>
+    requires { command ≢ Print }
+{
     Ok(matches!(engine.apply(alloc, &command, steps)?, Reply::Done))
 }
 
@@ -328,10 +345,19 @@ fn does_commands<L: Ledger>(
     requires parts { blank.parts ≡ L.parts }
 {
     let mut steps = Steps::<L>::open(blank);
+    let insert = listed(alloc, ONE_ROW)?;
+    let change = Command::Change {
+        source: Text::of(alloc, "t")?,
+        change: ChangeOf { insert },
+    };
+    let click = Command::Event(Event::Click {
+        x: pixels(1),
+        y: pixels(1),
+    });
     Ok(
-        inserts_by_command(alloc, engine, &mut steps)?
+        does(alloc, engine, change, &mut steps)?
             && refuses_a_value(alloc, engine, &mut steps)?
-            && does_an_event(alloc, engine, &mut steps)?
+            && does(alloc, engine, click, &mut steps)?
             && steps.count() == 0
             && prints(alloc, engine, FOUR_BARS)?,
     )
@@ -339,7 +365,7 @@ fn does_commands<L: Ledger>(
 
 #[test]
 fn no_value_is_set_and_an_event_changes_nothing(rt: HostRuntime) -> Result<(), Fail> {
-    let mut engine = opened(rt.alloc(), THREE_ROWS)?;
+    let mut engine = opened(rt.alloc(), "a", "b", THREE_ROWS)?;
     assert!(rt; does_commands::<Brand>(rt.alloc(), &mut engine, Blank::new(1))?);
     assert_eq!(rt; engine.last_reads(), 0);
     Ok(())

@@ -1,10 +1,13 @@
-use Rattle.std.proofs.Common.{◌≡◌, Some, map, take}
+use Rattle.std.proofs.Common.{◌≡◌, ◌++◌, drop}
+use Rattle.scene_tree.specs.Outcome.{outcome_map}
 use Rattle.vega_meaning.specs.Bars.{bar_of}
-use Rattle.vega_meaning.specs.Ranges.{all_of}
-use Rattle.plain_engine.specs.RowViews.{cells_of, bar_row_of}
-use Rattle.plain_engine.specs.ScaleViews.{linear_of}
+use Rattle.plain_engine.specs.inner.Columns.{cells_of}
+use Rattle.plain_engine.specs.inner.Scales.{linear_of, band_of}
+use Rattle.plain_engine.specs.inner.Bars.{bars_along}
 use Rattle.plain_engine.proofs.bars.bars_of.Given as goal
 
-abbrev pub invariant-loop-bar : goal.invariant-loop-bar
-invariant-loop-bar l =
-    all_of (map (λ bar. bar_of (cells_of l.domain) (linear_of l.scale) (bar_row_of bar)) (take l.bar-index l.bars)) ≡ Some l.items
+abbrev pub invariant-loop-index : goal.invariant-loop-index
+invariant-loop-index l =
+    let draw = bar_of (band_of l.plot.bands) (linear_of l.plot.scale) in
+    bars_along draw l.rows (cells_of l.xs) (cells_of l.ys)
+    ≡ outcome_map (λ all. l.items ++ all) (bars_along draw (drop l.index l.rows) (cells_of (drop l.index l.xs)) (cells_of (drop l.index l.ys)))

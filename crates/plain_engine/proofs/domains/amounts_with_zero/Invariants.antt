@@ -1,10 +1,12 @@
-use Rattle.std.proofs.Common.{◌≡◌, take, fold, ◌≤ℤ◌}
-use Rattle.std.specs.Int.{int_min, int_max}
-use Rattle.plain_engine.specs.declared.rows.BarRow.{BarRow}
+use Rattle.std.proofs.Common.{◌≡◌, pos, take, fold, ◌≤ℤ◌}
+use Rattle.std.specs.List.{list_any}
+use Rattle.plain_engine.proofs.DomainLemmas.{low_with, high_with, is_number}
 use Rattle.plain_engine.proofs.domains.amounts_with_zero.Given as goal
 
-abbrev pub invariant-loop-bar : goal.invariant-loop-bar
-invariant-loop-bar l =
-    (l.low ≡ fold (λ m (bar : BarRow). int_min m bar.amount) l.initial.low (take l.bar-index l.bars))
-    × (l.high ≡ fold (λ m (bar : BarRow). int_max m bar.amount) l.initial.high (take l.bar-index l.bars))
-    × (l.low ≤ℤ l.high)
+abbrev pub invariant-loop-cell : goal.invariant-loop-cell
+invariant-loop-cell l = record {
+  low : l.low ≡ fold low_with (pos 0) (take l.cell-index l.cells);
+  high : l.high ≡ fold high_with (pos 0) (take l.cell-index l.cells);
+  some : l.some ≡ list_any is_number (take l.cell-index l.cells);
+  ordered : l.low ≤ℤ l.high;
+}

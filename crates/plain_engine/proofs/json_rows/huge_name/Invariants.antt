@@ -1,5 +1,5 @@
 use Rattle.std.proofs.Common.{◌≡◌, drop}
-use Rattle.plain_engine.specs.JsonRows.{huge_name}
+use Rattle.plain_engine.specs.inner.JsonRows.{huge_name}
 use Rattle.plain_engine.proofs.json_rows.huge_name.Given as goal
 
 abbrev pub invariant-loop-member : goal.invariant-loop-member

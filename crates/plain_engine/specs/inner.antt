@@ -1,0 +1,5 @@
+pub mod Columns
+pub mod Scales
+pub mod Bars
+pub mod JsonRows
+pub mod Kept

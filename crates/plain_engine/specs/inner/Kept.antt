@@ -1,0 +1,33 @@
+-- What a plain engine keeps, and the sources of its state.
+use Rattle.std.specs.Prelude.{◌≡◌, List, [], map, find, unwrap_or}
+use Rattle.std.specs.Coded.{Coded-set}
+use Rattle.std.specs.Option.{option_map}
+use Rattle.std.specs.List.{flat_map}
+use Rattle.std.specs.Str.{bytes_eq}
+use Rattle.std.proofs.Props.{props}
+use mathlib.Core.Path.{ap}
+use Rattle.cell_value.specs.declared.state.Named.{Named}
+use Rattle.cell_value.specs.declared.state.ChartState.{ChartState}
+use Rattle.cell_value.specs.contracts.row.Row as row
+use Rattle.cell_value.specs.State.{state_of}
+use Rattle.scene_tree.specs.declared.scene.Scene.{Scene}
+use Rattle.scene_tree.specs.Outcome.{Drawn, outcome_map}
+use Rattle.svg_text.specs.SceneText.{svg_of}
+use Rattle.vega_model.specs.declared.spec.VgSpec.{VgSpec}
+use Rattle.vega_meaning.specs.Bars.{vega_scene_of}
+use Rattle.vega_meaning.specs.States.{IsStateOf}
+use Rattle.play_script.specs.Meaning.{Meaning, IsStanding}
+
+-- the state is one of the specification, and the scene is its scene
+pub record IsKept (spec : VgSpec) (state : ChartState) (scene : Scene) : Type 0 where
+  pub of : IsStateOf spec (state_of state)
+  pub drawn : vega_scene_of spec (state_of state) ≡ Drawn scene
+
+-- it has one proof at most
+pub IsKept-prop : (spec : VgSpec) (state : ChartState) (scene : Scene) → IsProp (IsKept spec state scene)
+IsKept-prop spec state scene = hlevel (props, Coded-set row.the_row.coded)
+
+-- what is kept stands
+pub standing : (spec : VgSpec) (state : ChartState) (scene : Scene) → IsKept spec state scene
+    → (let meaning : Meaning = record { spec = spec; state = state_of state } in IsStanding meaning)
+standing spec state scene h = record { of = h.of; drawn = (svg_of scene, ap (outcome_map svg_of) h.drawn) }
