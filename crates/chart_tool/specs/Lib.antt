@@ -1,1 +1,6 @@
-pub mod meaning
+pub mod Words
+pub mod Files
+pub mod Refusals
+pub mod Wanted
+pub mod Ends
+pub mod inner

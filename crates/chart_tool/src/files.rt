@@ -1,7 +1,7 @@
 //! Whole files, read through a folder.
 ghost use Rattle.std.specs.Prelude.{◌≡◌, ◌≤◌, ◌<◌, length, IfOk, IfErr, IfSome, IsErrOf};
 ghost use Rattle.chart_io.specs.Outside.{Rose, file_of};
-ghost use Rattle.chart_tool.specs.meaning.Files.{IsReadOf, IsFileStop};
+ghost use Rattle.chart_tool.specs.inner.Stops.{IsReadOf, IsFileStop};
 
 use crate::stop::Stop;
 use chart_io::{Failed, Folder, Got};

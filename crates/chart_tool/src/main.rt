@@ -3,12 +3,7 @@
 #![tactic(auto)]
 
 mod files;
-mod form;
-mod objects;
 mod opened;
-mod opening;
-mod outline;
-mod parts;
 mod play;
 mod render;
 mod stop;

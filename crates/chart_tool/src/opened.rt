@@ -1,15 +1,14 @@
 //! A file's chart, opened.
-ghost use Rattle.std.specs.Prelude.{◌≢◌, ◌≤◌, IfOk, IfErr, IfSome, IsErrOf};
+ghost use Rattle.std.specs.Prelude.{◌≤◌, IfOk, IfErr, IfSome, IsErrOf};
 ghost use Rattle.chart_io.specs.Outside.{Rose, Kept, file_of};
-ghost use Rattle.chart_tool.specs.meaning.Drawable.{AreDrawable};
-ghost use Rattle.chart_tool.specs.meaning.Opening.{bars_of, opening_of};
-ghost use Rattle.chart_tool.specs.meaning.Ends.{IsFormOf, IsOpening, IsOpenedOf, IsOpenedFile, IsOpenStop};
+ghost use Rattle.first_form.specs.Drawable.{IsDrawable};
+ghost use Rattle.plain_engine.specs.Engine.{meaning_of};
+ghost use Rattle.chart_tool.specs.inner.Stops.{IsFormOf, IsOpening, IsOpenedOf, IsOpenedFile, IsOpenStop};
 
 use crate::files::read_file;
-use crate::form::{FirstForm, first_form};
-use crate::opening::{bars_of, opening_of};
 use crate::stop::Stop;
 use chart_io::Folder;
+use first_form::{FirstForm, bars_of, first_form, opening_of};
 use json_exact::JsonError;
 use plain_engine::PlainEngine;
 use std::alloc::Global;
@@ -32,12 +31,10 @@ fn form_of(alloc: Global, bytes: &[u8]) -> Result<FirstForm, Stop>
     Ok(form)
 }
 
-/// An engine of the form's Vega chart, in its opening state. It is always drawn.
-#[tactic(auto, using(crate::proofs::OpeningStates::is_state_of))]
-pub fn opened(alloc: Global, form: &FirstForm) -> Result<PlainEngine, OutOfMemory>
-    requires drawable { AreDrawable form.now.values }
-    requires apart { form.now.x ≢ form.now.y }
-    ensures { IfOk result (IsOpening form.now) }
+// An engine of the form's Vega chart, in its opening state. It is always drawn.
+fn opened(alloc: Global, form: &FirstForm) -> Result<PlainEngine, OutOfMemory>
+    requires { IsDrawable form.now }
+    ensures { IfOk result (λ engine. IsOpening form.now (meaning_of engine)) }
 {
     let spec = bars_of(form)?;
     let state = opening_of(alloc, form)?;
@@ -51,7 +48,7 @@ pub fn opened(alloc: Global, form: &FirstForm) -> Result<PlainEngine, OutOfMemor
 
 // The chart that the bytes specify, opened.
 fn opened_of_bytes(alloc: Global, bytes: &[u8]) -> Result<PlainEngine, Stop>
-    ensures { IsOpenedOf bytes.now result }
+    ensures { IsOpenedOf meaning_of bytes.now result }
 {
     let form = form_of(alloc, bytes)?;
     let engine = opened(alloc, &form)?;
@@ -70,12 +67,9 @@ pub fn opened_file<F: Folder>(
     ensures counted { F.faults folder.old ≤ F.faults folder.new }
     ensures stays { Kept (F.files folder.old) (F.files folder.new) }
     ensures read { IsErrOf result Stop.Read → Rose (F.faults folder.old) (F.faults folder.new) }
-    ensures told { IfSome (F.files folder.old) (λ told. IsOpenedFile (file_of told name.now) result) }
+    ensures told { IfSome (F.files folder.old) (λ told. IsOpenedFile meaning_of name.now (file_of told name.now) result) }
     ensures stop { IfErr result IsOpenStop }
 {
-    let bytes = match read_file(alloc, folder, name) {
-        Ok(bytes) => bytes,
-        Err(stop) => return Err(stop),
-    };
+    let bytes = read_file(alloc, folder, name)?;
     opened_of_bytes(alloc, &bytes)
 }

@@ -1,14 +1,15 @@
 //! `play`: a script is played over a file's chart.
-ghost use Rattle.std.specs.Prelude.{◌≡◌, ◌≤◌, ◌↔◌, ◌⊎◌, ℕ, List, OnOk, IfErr, IfSome, IsErrOf, Err};
+ghost use Rattle.std.specs.Prelude.{◌≡◌, ◌≤◌, ◌↔◌, Some, ℕ, List, IfErr, IfSome, IsErrOf, Err};
 ghost use Rattle.std.specs.Result.{result_err};
-ghost use Rattle.chart_io.specs.Outside.{Rose, Kept, file_of};
-ghost use Rattle.vega_meaning.specs.Bars.{vega_chart_of};
+ghost use Rattle.chart_io.specs.Outside.{Rose, Kept};
 ghost use Rattle.play_script.specs.declared.errors.PlayError.TheVariants as error;
-ghost use Rattle.play_script.specs.Played.{IsPlayed, HasTaken, IsPastSize};
-ghost use Rattle.chart_tool.specs.declared.form.FirstForm.{FirstForm as FormOf};
-ghost use Rattle.chart_tool.specs.meaning.Rendering.{HasForm};
-ghost use Rattle.chart_tool.specs.meaning.Playing.{HasWholeOutput, HasOutputBegun};
-ghost use Rattle.chart_tool.specs.meaning.Ends.{EndsOver, IsRefused, stop_of};
+ghost use Rattle.play_script.specs.Meaning.{IsReplyIn};
+ghost use Rattle.play_script.specs.Played.{output_alone, IsPlayed, HasTaken, IsPastSize};
+ghost use Rattle.chart_tool.specs.Words.{Play};
+ghost use Rattle.chart_tool.specs.Wanted.{IsAccepted};
+ghost use Rattle.chart_tool.specs.Ends.{IsEnd};
+ghost use Rattle.chart_tool.specs.inner.Stops.{end_of, handed, stop_of};
+ghost use Rattle.chart_tool.specs.inner.Runs.{IsTexted};
 
 use crate::opened::opened_file;
 use crate::stop::Stop;
@@ -31,6 +32,16 @@ fn stop_of(error: PlayError) -> Stop
     }
 }
 
+// What playing answers, as what a run answers.
+fn handed(answer: Result<(), PlayError>) -> Result<(), Stop>
+    ensures { result ≡ handed answer }
+{
+    match answer {
+        Ok(()) => Ok(()),
+        Err(error) => Err(stop_of(error)),
+    }
+}
+
 // Plays a script over an engine, with a counter of steps that this blank opens.
 fn play_counted<E: Engine, S: Source, K: Sink, N: Sink, L: Ledger>(
     alloc: Global,
@@ -46,10 +57,10 @@ fn play_counted<E: Engine, S: Source, K: Sink, N: Sink, L: Ledger>(
     ensures out_counted { K.faults out.old ≤ K.faults out.new }
     ensures read { IsErrOf result error.Read → Rose (S.faults script.old) (S.faults script.new) }
     ensures write { IsErrOf result error.Write → Rose (K.faults out.old) (K.faults out.new) }
-    ensures taken { (taken : List ℕ) × HasTaken (S.left script.old) (S.left script.new) taken }
     ensures size { IfSome (S.left script.old) (λ bytes. (result ≡ Err error.Size) ↔ IsPastSize bytes (S.left script.new)) }
-    ensures played { IfSome (S.left script.old)
-        (λ bytes. IsPlayed (vega_chart_of (E.spec engine.old)) bytes (S.left script.new) (E.state engine.old) (E.state engine.new) (K.held out.old) (K.held out.new) result) }
+    ensures played { (taken : List ℕ) × HasTaken (S.left script.old) (S.left script.new) taken
+        × IfSome (S.left script.old) (λ bytes. IsPlayed IsReplyIn bytes taken (E.meaning engine.old) (E.meaning engine.new)
+        (output_alone (K.held out.old)) (output_alone (K.held out.new)) result) }
     ensures notes { notes.new ≡ notes.old }
 {
     let mut steps = Steps::<L>::open(blank);
@@ -68,10 +79,10 @@ fn play_over<E: Engine, S: Source, K: Sink, N: Sink>(
     ensures out_counted { K.faults out.old ≤ K.faults out.new }
     ensures read { IsErrOf result error.Read → Rose (S.faults script.old) (S.faults script.new) }
     ensures write { IsErrOf result error.Write → Rose (K.faults out.old) (K.faults out.new) }
-    ensures taken { (taken : List ℕ) × HasTaken (S.left script.old) (S.left script.new) taken }
     ensures size { IfSome (S.left script.old) (λ bytes. (result ≡ Err error.Size) ↔ IsPastSize bytes (S.left script.new)) }
-    ensures played { IfSome (S.left script.old)
-        (λ bytes. IsPlayed (vega_chart_of (E.spec engine.old)) bytes (S.left script.new) (E.state engine.old) (E.state engine.new) (K.held out.old) (K.held out.new) result) }
+    ensures played { (taken : List ℕ) × HasTaken (S.left script.old) (S.left script.new) taken
+        × IfSome (S.left script.old) (λ bytes. IsPlayed IsReplyIn bytes taken (E.meaning engine.old) (E.meaning engine.new)
+        (output_alone (K.held out.old)) (output_alone (K.held out.new)) result) }
     ensures notes { notes.new ≡ notes.old }
 {
     play_counted::<E, S, K, N, Brand>(alloc, engine, script, out, notes, Blank::new(1))
@@ -95,26 +106,20 @@ pub fn play<F: Folder, S: Source, K: Sink, N: Sink>(
     ensures notes { notes.new ≡ notes.old }
     ensures stays { Kept (F.files folder.old) (F.files folder.new) }
     ensures words { IsErrOf result Stop.Words → ⊥ }
-    ensures read { IsErrOf result Stop.Read → Rose (F.faults folder.old) (F.faults folder.new) ⊎ Rose (S.faults script.old) (S.faults script.new) }
-    ensures write { IsErrOf result Stop.Write → Rose (K.faults out.old) (K.faults out.new) }
     ensures taken { (taken : List ℕ) × HasTaken (S.left script.old) (S.left script.new) taken }
     ensures script_size { IfSome (S.left script.old) (λ bytes. (result ≡ Err Stop.ScriptSize) ↔ IsPastSize bytes (S.left script.new)) }
-    ensures ends { IfSome (F.files folder.old) (λ told. EndsOver (file_of told name.now) (result_err result)) }
-    ensures whole { IfSome (F.files folder.old) (λ told. OnOk result ((form : FormOf) × HasForm (file_of told name.now) form
-        × HasWholeOutput form (S.left script.old) (S.left script.new) (K.held out.old) (K.held out.new))) }
-    ensures prefix { IfSome (F.files folder.old) (λ told. (form : FormOf) → HasForm (file_of told name.now) form
-        → HasOutputBegun form (S.left script.old) (K.held out.old) (K.held out.new)) }
-    ensures unplayed { IfSome (F.files folder.old) (λ told. ((form : FormOf) → HasForm (file_of told name.now) form → ⊥) → Kept (K.held out.old) (K.held out.new)) }
-    ensures unread { IfSome (F.files folder.old) (λ told. ((form : FormOf) → HasForm (file_of told name.now) form → ⊥) → script.new ≡ script.old) }
-    ensures refused { IfErr result (λ stop. IsRefused stop → Kept (K.held out.old) (K.held out.new)) }
-    ensures refused_unread { IfErr result (λ stop. IsRefused stop → script.new ≡ script.old) }
+    ensures ends { IsEnd (Some (Play name.now)) (F.files folder.old) (S.left script.old) (S.left script.new) (script.new ≡ script.old)
+        (Kept (K.held out.old) (K.held out.new)) (Rose (F.faults folder.old) (F.faults folder.new))
+        (Rose (S.faults script.old) (S.faults script.new))
+        (Rose (K.faults out.old) (K.faults out.new)) (end_of name.now (result_err result)) }
+    ensures text { IfSome (F.files folder.old) (λ files. IfSome (S.left script.old) (λ script_bytes. IsAccepted (Play name.now) files
+        → IsTexted (Play name.now) files script_bytes result (K.held out.old) (K.held out.new))) }
+    ensures nothing { IfSome (F.files folder.old) (λ files. (IsAccepted (Play name.now) files → ⊥)
+        → Kept (K.held out.old) (K.held out.new) × (script.new ≡ script.old)) }
 {
     let mut engine = match opened_file(alloc, name, folder) {
         Ok(engine) => engine,
         Err(stop) => return Err(stop),
     };
-    match play_over(alloc, &mut engine, script, out, notes) {
-        Ok(()) => Ok(()),
-        Err(error) => Err(stop_of(error)),
-    }
+    handed(play_over(alloc, &mut engine, script, out, notes))
 }

@@ -1,11 +1,14 @@
 //! `render`: a file becomes a picture.
-ghost use Rattle.std.specs.Prelude.{◌≤◌, ℕ, List, OnOk, IfErr, IfSome, IsErrOf};
+ghost use Rattle.std.specs.Prelude.{◌≤◌, None, Some, [], IfErr, IfSome, IsErrOf, OnOk};
 ghost use Rattle.std.specs.Result.{result_err};
-ghost use Rattle.chart_io.specs.Outside.{Rose, Kept, Appended, AppendedPrefix, file_of};
-ghost use Rattle.scene_tree.specs.Outcome.{IsDrawn as IsDrawnAs};
-ghost use Rattle.vega_meaning.specs.Bars.{vega_chart_of};
-ghost use Rattle.chart_tool.specs.meaning.Rendering.{IsDrawn};
-ghost use Rattle.chart_tool.specs.meaning.Ends.{EndsOver, IsPrintStop, WritesNothing};
+ghost use Rattle.chart_io.specs.Outside.{Rose, Kept, Appended, AppendedPrefix};
+ghost use Rattle.scene_tree.specs.Outcome.{IsDrawn};
+ghost use Rattle.play_script.specs.Meaning.{chart_in};
+ghost use Rattle.chart_tool.specs.Words.{Render};
+ghost use Rattle.chart_tool.specs.Wanted.{IsAccepted};
+ghost use Rattle.chart_tool.specs.Ends.{IsEnd};
+ghost use Rattle.chart_tool.specs.inner.Stops.{end_of, IsPrintStop, IsOpenOrPrintStop};
+ghost use Rattle.chart_tool.specs.inner.Runs.{IsTexted};
 
 use crate::opened::opened_file;
 use crate::stop::Stop;
@@ -18,8 +21,8 @@ fn printed<E: Engine, K: Sink>(engine: &E, out: &mut K) -> Result<(), Stop>
     ensures counted { K.faults out.old ≤ K.faults out.new }
     ensures write { IsErrOf result Stop.Write → Rose (K.faults out.old) (K.faults out.new) }
     ensures stop { IfErr result IsPrintStop }
-    ensures ok { IsDrawnAs (vega_chart_of (E.spec engine.now) (E.state engine.now)) (λ text. OnOk result (Appended (K.held out.old) (K.held out.new) text)) }
-    ensures prefix { IsDrawnAs (vega_chart_of (E.spec engine.now) (E.state engine.now)) (AppendedPrefix (K.held out.old) (K.held out.new)) }
+    ensures ok { OnOk result (IsDrawn (chart_in (E.meaning engine.now)) (Appended (K.held out.old) (K.held out.new))) }
+    ensures prefix { IsDrawn (chart_in (E.meaning engine.now)) (AppendedPrefix (K.held out.old) (K.held out.new)) }
 {
     match engine.print(out) {
         Ok(()) => Ok(()),
@@ -39,15 +42,14 @@ pub fn render<F: Folder, K: Sink>(
     ensures folder_counted { F.faults folder.old ≤ F.faults folder.new }
     ensures out_counted { K.faults out.old ≤ K.faults out.new }
     ensures stays { Kept (F.files folder.old) (F.files folder.new) }
-    ensures words { IsErrOf result Stop.Words → ⊥ }
-    ensures no_script { IsErrOf result Stop.ScriptSize → ⊥ }
-    ensures read { IsErrOf result Stop.Read → Rose (F.faults folder.old) (F.faults folder.new) }
-    ensures write { IsErrOf result Stop.Write → Rose (K.faults out.old) (K.faults out.new) }
-    ensures ends { IfSome (F.files folder.old) (λ told. EndsOver (file_of told name.now) (result_err result)) }
-    ensures whole { IfSome (F.files folder.old) (λ told. OnOk result ((text : List ℕ) × IsDrawn (file_of told name.now) text × Appended (K.held out.old) (K.held out.new) text)) }
-    ensures prefix { IfSome (F.files folder.old) (λ told. (text : List ℕ) → IsDrawn (file_of told name.now) text → AppendedPrefix (K.held out.old) (K.held out.new) text) }
-    ensures undrawn { IfSome (F.files folder.old) (λ told. ((text : List ℕ) → IsDrawn (file_of told name.now) text → ⊥) → Kept (K.held out.old) (K.held out.new)) }
-    ensures silent { IfErr result (λ stop. WritesNothing stop → Kept (K.held out.old) (K.held out.new)) }
+    ensures stop { IfErr result IsOpenOrPrintStop }
+    ensures ends { IsEnd (Some (Render name.now)) (F.files folder.old) None None (Unit {0})
+        (Kept (K.held out.old) (K.held out.new)) (Rose (F.faults folder.old) (F.faults folder.new)) (Unit {0})
+        (Rose (K.faults out.old) (K.faults out.new)) (end_of name.now (result_err result)) }
+    ensures text { IfSome (F.files folder.old) (λ files. IsAccepted (Render name.now) files
+        → IsTexted (Render name.now) files [] result (K.held out.old) (K.held out.new)) }
+    ensures nothing { IfSome (F.files folder.old) (λ files. (IsAccepted (Render name.now) files → ⊥)
+        → Kept (K.held out.old) (K.held out.new)) }
 {
     let engine = match opened_file(alloc, name, folder) {
         Ok(engine) => engine,
@@ -55,6 +57,3 @@ pub fn render<F: Folder, K: Sink>(
     };
     printed(&engine, out)
 }
-
-#[cfg(test)]
-mod tests;

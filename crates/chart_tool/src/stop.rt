@@ -1,8 +1,9 @@
 //! Why a run ends without its whole output.
-ghost use Rattle.std.specs.Prelude.{◌≡◌, ◌≤◌, [], ◌∷◌, ◌++◌, codes, OnOk, OnErr};
+ghost use Rattle.std.specs.Prelude.{◌≡◌, ◌≤◌, [], ◌∷◌, ◌++◌, ℕ, List, codes, OnOk, OnErr};
 ghost use Rattle.chart_io.specs.Outside.{Rose, Appended, AppendedPrefix};
 ghost use Rattle.chart_tool.specs.declared.stop.Stop.TheVariants.{Memory};
-ghost use Rattle.chart_tool.specs.meaning.Statuses.{status_of, note_of};
+ghost use Rattle.chart_tool.specs.Ends.{end_status, end_note};
+ghost use Rattle.chart_tool.specs.inner.Stops.{stop_end};
 
 use chart_io::{Sink, WriteFault, write_all};
 use std::alloc::{AllocError, AllocFailed};
@@ -79,8 +80,10 @@ fn write_place<N: Sink>(
 ) -> Result<(), WriteFault>
     ensures counted { N.faults notes.old ≤ N.faults notes.new }
     ensures cause { OnErr result (Rose (N.faults notes.old) (N.faults notes.new)) }
-    ensures ok { OnOk result (Appended (N.held notes.old) (N.held notes.new) (cause.now ++ name.now ++ (codes " at " ++ digits.now ++ 10 ∷ []))) }
-    ensures prefix { AppendedPrefix (N.held notes.old) (N.held notes.new) (cause.now ++ name.now ++ (codes " at " ++ digits.now ++ 10 ∷ [])) }
+    ensures ok { OnOk result (Appended (N.held notes.old) (N.held notes.new)
+        (cause.now ++ name.now ++ (codes " at " ++ digits.now ++ 10 ∷ []))) }
+    ensures prefix { AppendedPrefix (N.held notes.old) (N.held notes.new)
+        (cause.now ++ name.now ++ (codes " at " ++ digits.now ++ 10 ∷ [])) }
 {
     write_all(notes, cause)?;
     write_all(notes, name.as_bytes())?;
@@ -90,7 +93,7 @@ fn write_place<N: Sink>(
 impl Stop {
     /// The status that the program ends with.
     pub fn status(self) -> u8
-        ensures { result ≡ status_of self }
+        ensures { (name : List ℕ) → result ≡ end_status (stop_end name self) }
     {
         match self {
             Stop::Words => 1,
@@ -108,8 +111,8 @@ impl Stop {
     pub fn note<N: Sink>(self, name: &str, notes: &mut N) -> Result<(), WriteFault>
         ensures counted { N.faults notes.old ≤ N.faults notes.new }
         ensures cause { OnErr result (Rose (N.faults notes.old) (N.faults notes.new)) }
-        ensures ok { OnOk result (Appended (N.held notes.old) (N.held notes.new) (note_of self name.now)) }
-        ensures prefix { AppendedPrefix (N.held notes.old) (N.held notes.new) (note_of self name.now) }
+        ensures ok { OnOk result (Appended (N.held notes.old) (N.held notes.new) (end_note (stop_end name.now self))) }
+        ensures prefix { AppendedPrefix (N.held notes.old) (N.held notes.new) (end_note (stop_end name.now self)) }
     {
         match self {
             Stop::Words => write_all(notes, b"chart: words\n"),

@@ -1,13 +1,11 @@
-use Rattle.chart_tool.proofs.Rendered.{told_whole, told_begun, told_drawn}
+use Rattle.plain_engine.specs.Engine.{meaning_of}
+use Rattle.chart_tool.proofs.Texts.{unopened_picture, opened_picture}
 use Rattle.chart_tool.proofs.render.render.Goals as goal
 
-pub returns-clause-whole : goal.returns-clause-whole
-returns-clause-whole g c =
-    told_whole (g.F.Folder.files c.args.folder.now) c.args.name.now c.in-Ok.engine _ _ _ c.in-Ok.ensures.told c.printed.ensures.ok
+pub returns-in-Err-clause-text : goal.returns-in-Err-clause-text
+returns-in-Err-clause-text g c = unopened_picture (g.F.Folder.files c.args.folder.now) c.args.name.now c.in-Err.stop (g.K.Sink.held c.args.out.now)
 
-pub returns-clause-prefix : goal.returns-clause-prefix
-returns-clause-prefix g c =
-    told_begun (g.F.Folder.files c.args.folder.now) c.args.name.now c.in-Ok.engine _ _ c.in-Ok.ensures.told c.printed.ensures.prefix
-
-pub returns-clause-undrawn : goal.returns-clause-undrawn
-returns-clause-undrawn g c = told_drawn (g.F.Folder.files c.args.folder.now) c.args.name.now c.in-Ok.engine _ c.in-Ok.ensures.told
+pub returns-clause-text : goal.returns-clause-text
+returns-clause-text g c =
+    opened_picture (g.F.Folder.files c.args.folder.now) c.args.name.now (meaning_of c.in-Ok.engine) c.printed.result (g.K.Sink.held c.args.out.now) (g.K.Sink.held c.printed.new.out)
+    c.in-Ok.ensures.told c.printed.ensures.ok c.printed.ensures.prefix

@@ -1,12 +1,16 @@
-use Rattle.std.proofs.Common.{map, sym, string_bytes, Global}
-use Rattle.chart_tool.proofs.WordLemmas.{rendered_not_played}
+use Rattle.std.proofs.Common.{Some, refl, sym, ap, ◌∙◌}
+use Rattle.chart_tool.specs.Words.{Render, Play, asked_in}
+use Rattle.chart_tool.specs.inner.Asking.{seen_ask}
+use Rattle.chart_tool.proofs.Ended.{told_of, nothing_and_same}
 use Rattle.chart_tool.proofs.tool.run.Goals as goal
 
-pub returns-in-Some-clause-played_whole : goal.returns-in-Some-clause-played_whole
-returns-in-Some-clause-played_whole g c = rw (rendered_not_played (map (string_bytes {Z = Global}) c.args.words.now.items) c.in-Some.name.now (sym c.in-Some.ensures)) tt
+pub returns-in-Some-Render-clause-nothing : goal.returns-in-Some-Render-clause-nothing
+returns-in-Some-Render-clause-nothing g c =
+    told_of (asked_in c.args.words.now.items) (g.F.Folder.files c.args.folder.now) (Render c.in-Some-Render.name.now) _
+    (ap (λ a. Some (seen_ask a)) (sym c.in-Some-Render.field-0-is) ∙ c.in-Some-Render.ensures)
+    (nothing_and_same (g.F.Folder.files c.args.folder.now) (Render c.in-Some-Render.name.now) _ _ c.render.ensures.nothing refl)
 
-pub returns-in-Some-clause-played_prefix : goal.returns-in-Some-clause-played_prefix
-returns-in-Some-clause-played_prefix g c = rw (rendered_not_played (map (string_bytes {Z = Global}) c.args.words.now.items) c.in-Some.name.now (sym c.in-Some.ensures)) tt
-
-pub returns-in-Some-clause-unplayed : goal.returns-in-Some-clause-unplayed
-returns-in-Some-clause-unplayed g c = rw (rendered_not_played (map (string_bytes {Z = Global}) c.args.words.now.items) c.in-Some.name.now (sym c.in-Some.ensures)) tt
+pub returns-in-Some-Play-clause-nothing : goal.returns-in-Some-Play-clause-nothing
+returns-in-Some-Play-clause-nothing g c =
+    told_of (asked_in c.args.words.now.items) (g.F.Folder.files c.args.folder.now) (Play c.in-Some-Play.name.now) _
+    (ap (λ a. Some (seen_ask a)) (sym c.in-Some-Play.field-0-is) ∙ c.in-Some-Play.ensures) c.play.ensures.nothing

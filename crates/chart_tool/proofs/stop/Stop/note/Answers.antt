@@ -3,18 +3,19 @@ use Rattle.std.specs.Fmt.{decimal}
 use Rattle.chart_io.specs.Outside.{Appended, AppendedPrefix}
 use Rattle.chart_tool.specs.declared.stop.Stop.{Stop}
 use Rattle.chart_tool.specs.declared.stop.Stop.TheVariants as stop
-use Rattle.chart_tool.specs.meaning.Statuses.{note_of}
+use Rattle.chart_tool.specs.Ends.{end_note}
+use Rattle.chart_tool.specs.inner.Stops.{stop_end}
 use Rattle.chart_tool.proofs.stop.Stop.note.Goals as goal
 
 regrouped : (a name b d e : List ℕ) → a ++ name ++ (b ++ d ++ e) ≡ a ++ name ++ b ++ d ++ e
 regrouped a name b d e = simp append_assoc
 
 place_text : (cause : Stop) (place : ℕ) (name digits : List ℕ) → cause ≡ stop.Unreadable place → digits ≡ decimal place
-    → codes "chart: json " ++ name ++ (codes " at " ++ digits ++ 10 ∷ []) ≡ note_of cause name
+    → codes "chart: json " ++ name ++ (codes " at " ++ digits ++ 10 ∷ []) ≡ end_note (stop_end name cause)
 place_text cause place name digits is text =
     regrouped (codes "chart: json ") name (codes " at ") digits (10 ∷ [])
     ∙ ap (λ (d : List ℕ). codes "chart: json " ++ name ++ codes " at " ++ d ++ 10 ∷ []) text
-    ∙ ap (λ (c : Stop). note_of c name) (sym is)
+    ∙ ap (λ (c : Stop). end_note (stop_end name c)) (sym is)
 
 pub returns-in-Unreadable-clause-ok : goal.returns-in-Unreadable-clause-ok
 returns-in-Unreadable-clause-ok g c =

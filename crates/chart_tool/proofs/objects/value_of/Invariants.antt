@@ -1,6 +1,0 @@
-use Rattle.std.proofs.Common.{◌≡◌, drop}
-use Rattle.chart_tool.specs.meaning.FirstForm.{value_of}
-use Rattle.chart_tool.proofs.objects.value_of.Given as goal
-
-abbrev pub invariant-loop-member : goal.invariant-loop-member
-invariant-loop-member l = value_of (drop l.member-index l.members) l.name ≡ value_of l.members l.name
