@@ -1,6 +1,6 @@
 #!/bin/sh
 # How long an expression takes over many rows, beside a tree-walking evaluator in Rust over rows of the same form, in nanoseconds a row:
-# `datum.a` forty-nine times joined by ` + ` and then ` > 0`; and how long texts of 8 to 64 KB take to be read. It makes a program in a
+# `datum.a` forty-nine times joined by ` + ` and then ` > 0`; and how long texts of 6 to 98 KB take to be read. It makes a program in a
 # folder of its own, proves it, and runs it as LLVM builds it. Run it with `rt` and `rustc` on the path.
 set -e
 top=$(cd "$(dirname "$0")/.." && pwd)
@@ -108,13 +108,17 @@ fn take_time(rt: &(impl Print + Clock), alloc: Global, e: &Expr, rows: &Vec<Keye
     println!(rt; "proved: {time} ns a row ({found} hold)")
 }
 
-// A call of so many arguments.
-fn call(alloc: Global, count: u32) -> Result<Text, OutOfMemory> {
-    let mut text = Text::of(alloc, "max(0")?;
-    for _ in 0..count {
-        text.push_str(", (datum.a + 1.5) * 2")?;
+// A sum of sums that is doubled so often.
+fn doubled(alloc: Global, times: u32) -> Result<Text, OutOfMemory> {
+    let mut text = Text::of(alloc, "(datum.a + 1.5) * 2")?;
+    for _ in 0..times {
+        let mut twice = Text::of(alloc, "(")?;
+        twice.push_str(text.as_str())?;
+        twice.push_str(" + ")?;
+        twice.push_str(text.as_str())?;
+        twice.push_str(")")?;
+        text = twice;
     }
-    text.push_str(")")?;
     Ok(text)
 }
 
@@ -126,8 +130,8 @@ fn read_time(rt: &(impl Print + Clock), alloc: Global, text: &Text) -> io::Resul
 }
 
 fn read_times(rt: &(impl Print + Clock), alloc: Global) -> io::Result<()> {
-    for count in [390, 780, 1560, 3120] {
-        if let Ok(text) = call(alloc, count) {
+    for times in [8, 9, 10, 11, 12] {
+        if let Ok(text) = doubled(alloc, times) {
             read_time(rt, alloc, &text)?;
         }
     }
