@@ -33,7 +33,8 @@ pub fn channel_of(name: &str) -> Option<u16>
     find(&CHANNELS, name)
 }
 
-/// The code of a kind of scale by its name; None exactly where there is none.
+/// The code of a kind of scale by its name; None exactly where there is none. The kinds are our own: "ramp" is that of a scale whose
+/// range is one of colours. No `type` of a specification is called so, and a reader of `type` must not take it for one.
 pub fn scale_kind_of(name: &str) -> Option<u16>
     ensures { result ≡ index_of scale_kinds name.now }
 {

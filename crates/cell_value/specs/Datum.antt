@@ -1,5 +1,5 @@
 -- Rows as they are read.
-use Rattle.std.specs.Prelude.{ℕ, ◌*◌, pos, List, if◌then◌else◌, codes}
+use Rattle.std.specs.Prelude.{ℕ, ◌*◌, pos, not, ◌&&◌, List, if◌then◌else◌, codes}
 use Rattle.std.specs.Str.{bytes_eq}
 use Rattle.fixed_num.specs.Number.{million}
 use Rattle.cell_value.specs.declared.cell.Cell.{Cell}
@@ -27,3 +27,10 @@ pub record Datum : Type 0 where
 
 abbrev pub datum_of : Keyed → Datum
 datum_of keyed = record { key = keyed.key; cell = cell_at keyed }
+
+-- a row with a cell under a name, in place of the one that was there; its id reads as before
+abbrev pub datum_with : List ℕ → Cell → Datum → Datum
+datum_with name cell datum = record {
+  key = datum.key;
+  cell = λ other. if bytes_eq other name && not (bytes_eq other id_name) then cell else datum.cell other;
+}

@@ -10,8 +10,6 @@ mod order;
 mod row;
 mod state;
 mod steps;
-#[cfg(test)]
-mod tests;
 
 pub use cell::Cell;
 pub use laws::{laws_of_cells, laws_of_rows};

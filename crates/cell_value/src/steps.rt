@@ -1,5 +1,5 @@
 // A count of steps.
-ghost use Rattle.std.specs.Prelude.{◌≡◌, ◌+◌, ◌-◌, ◌^◌, min};
+ghost use Rattle.std.specs.Prelude.{◌≡◌, ◌≤◌, ◌+◌, ◌-◌, ◌^◌, min};
 
 use std::marker::Model;
 use std::sync::ledger::{Blank, Book, Ledger};
@@ -31,9 +31,10 @@ impl<L: Ledger> Steps<L> {
         Steps { count: 0, book }
     }
 
-    /// Counts one step more. The greatest count stays.
+    /// Counts one step more. The greatest count stays, and no count falls.
     pub fn tick(&mut self)
-        ensures { self.new ≡ min (self.old + 1) (2 ^ 64 - 1) }
+        ensures never_falls { self.old ≤ self.new }
+        ensures counted { self.new ≡ min (self.old + 1) (2 ^ 64 - 1) }
     {
         self.count = self.count.saturating_add(1);
     }

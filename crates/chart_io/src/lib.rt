@@ -22,6 +22,3 @@ pub use sink::{ListSink, SINK_ROOM};
 pub use stream::{StreamSink, StreamSource};
 pub use sure::{SureFolder, SureSource};
 pub use writing::{WriteFault, write_all};
-
-#[cfg(test)]
-mod tests;

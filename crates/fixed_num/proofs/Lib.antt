@@ -1,4 +1,5 @@
 pub mod RoundingLemmas
+pub mod RangeLemmas
 pub mod ProductLemmas
 pub mod SpellingLemmas
 pub mod DigitLemmas

@@ -1,4 +1,6 @@
 pub mod Number
+pub mod Ranges
+pub mod Bands
 pub mod Decimal
 pub mod JsonNumber
 pub mod Front

@@ -10,8 +10,6 @@ mod laws;
 mod num;
 mod ratio;
 mod reading;
-#[cfg(test)]
-mod tests;
 
 pub use decimal_text::DecimalText;
 pub use laws::{laws_of_decimals, laws_of_numbers};

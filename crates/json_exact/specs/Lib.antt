@@ -1,4 +1,5 @@
 pub mod Reading
+pub mod Inside
 pub mod Path
 pub mod Writing
 pub mod inner

@@ -18,8 +18,3 @@ pub use json::{Json, Member};
 pub use path::at_path;
 pub use reading::{one_reading, read};
 pub use writing::{what_was_written_is_read, write};
-
-#[cfg(test)]
-mod path_tests;
-#[cfg(test)]
-mod tests;

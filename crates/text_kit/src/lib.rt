@@ -7,8 +7,6 @@ mod boxed;
 mod copies;
 mod memory;
 mod seq;
-#[cfg(test)]
-mod tests;
 mod text;
 
 pub use boxed::Boxed;

@@ -46,8 +46,8 @@ lt_test a b h = by (int_le a b) refl
     by true e = absurd (omega (arith, ints, h))
     by false e = e
 
-in_range : (z : ℤ) → first_instant ≤ℤ z → z ≤ℤ last_instant → is_in_range z ≡ true
-in_range z low high = and_from _ _ (le_test first_instant z low) (le_test z last_instant high)
+within_range : (z : ℤ) → first_instant ≤ℤ z → z ≤ℤ last_instant → is_in_range z ≡ true
+within_range z low high = and_from _ _ (le_test first_instant z low) (le_test z last_instant high)
 
 below_range : (z : ℤ) → z <ℤ first_instant → is_in_range z ≡ false
 below_range z h = and_left _ _ (lt_test first_instant z h)
@@ -80,7 +80,7 @@ years_1_to_9998 year month h low high =
     let early = years_grow 1 year low in
     let late = years_grow (year + 1) 9999 (omega (arith, high)) in
     ap (λ b. cond b (Some (day_of_date (first_of year month))) None)
-    (in_range (start year month)
+    (within_range (start year month)
     (omega (arith, ints, early, starts_in_year year month, year_1))
     (omega (arith, ints, late, ends_in_year year month h, year_9999)))
 

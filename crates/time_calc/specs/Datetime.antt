@@ -5,7 +5,7 @@ use Rattle.std.specs.Option.{option_and_then}
 use Rattle.std.specs.List.{list_all}
 use Rattle.fixed_num.specs.Number.{million}
 use Rattle.time_calc.specs.Calendar.{day_of_date, day_count, days_before_year, days_of_months}
-use Rattle.time_calc.specs.Instants.{day_length, is_in_range, in_range}
+use Rattle.time_calc.specs.Instants.{day_length, is_in_range, instant_in_range}
 
 -- a number of millionths is a whole number
 abbrev pub is_whole : ℤ → Bool
@@ -41,7 +41,7 @@ instant_after day date milliseconds = (day +ℤ date -ℤ pos 1) *ℤ pos day_le
 -- the instant of whole parts: that of the first of the month, and the further parts after it; none where one of them is out of range
 abbrev pub instant_of_wholes : ℤ → ℤ → ℤ → ℤ → ℤ → ℤ → ℤ → Option ℤ
 instant_of_wholes year month date hours minutes seconds milliseconds =
-    option_and_then (λ day. in_range (instant_after day date (milliseconds_of hours minutes seconds milliseconds)))
+    option_and_then (λ day. instant_in_range (instant_after day date (milliseconds_of hours minutes seconds milliseconds)))
     (first_of_month year month)
 
 -- the instant of parts, as a number; none where a part is no whole number, or the first of the month or the instant is out of range

@@ -35,7 +35,8 @@ date_forms = codes "YYYY" ∷ codes "YYYY-MM" ∷ codes "YYYY-MM-DD" ∷ codes "
 abbrev pub time_forms : List (List ℕ)
 time_forms =
     codes "hh:mm" ∷ codes "hh:mm:ss" ∷ codes "hh:mm:ss.i" ∷ codes "hh:mm:ss.ij" ∷ codes "hh:mm:ss.ijk" ∷ codes "hh:mm:ss.ijkg" ∷
-    codes "hh:mm:ss.ijkgg" ∷ codes "hh:mm:ss.ijkggg" ∷ codes "hh:mm:ss.ijkgggg" ∷ codes "hh:mm:ss.ijkggggg" ∷ codes "hh:mm:ss.ijkgggggg" ∷ []
+    codes "hh:mm:ss.ijkgg" ∷ codes "hh:mm:ss.ijkggg" ∷ codes "hh:mm:ss.ijkgggg" ∷ codes "hh:mm:ss.ijkggggg" ∷
+    codes "hh:mm:ss.ijkgggggg" ∷ []
 
 -- forms of a zone
 abbrev pub zone_forms : List (List ℕ)

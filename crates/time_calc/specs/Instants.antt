@@ -17,24 +17,24 @@ abbrev pub last_instant : ℤ
 last_instant = pos 253370764799999
 
 -- a number lies between two, both included
-abbrev pub lies_between : ℤ → ℤ → ℤ → Bool
-lies_between low high z = int_le low z && int_le z high
+abbrev pub is_within : ℤ → ℤ → ℤ → Bool
+is_within low high z = int_le low z && int_le z high
 
 -- an instant is in range
 abbrev pub is_in_range : ℤ → Bool
-is_in_range instant = lies_between first_instant last_instant instant
+is_in_range instant = is_within first_instant last_instant instant
 
 -- the number of an instant, in millionths of a millisecond
-abbrev pub number_of : ℤ → ℤ
-number_of instant = instant *ℤ pos million
+abbrev pub instant_number : ℤ → ℤ
+instant_number instant = instant *ℤ pos million
 
 -- the number of an instant, and none where it is out of range
-abbrev pub in_range : ℤ → Option ℤ
-in_range instant = if is_in_range instant then Some (number_of instant) else None
+abbrev pub instant_in_range : ℤ → Option ℤ
+instant_in_range instant = if is_in_range instant then Some (instant_number instant) else None
 
 -- a number stands for an instant in range: it is itself not below the first and not above the last
 abbrev pub stands_for_instant : ℤ → Bool
-stands_for_instant number = lies_between (number_of first_instant) (number_of last_instant) number
+stands_for_instant number = is_within (instant_number first_instant) (instant_number last_instant) number
 
 -- the instant for which a number stands: its whole milliseconds, below it where it has a fraction; none where it is out of range
 abbrev pub instant_at : ℤ → Option ℤ
@@ -69,7 +69,7 @@ time_of_instant instant = time_after_midnight (unsigned_abs (int_rem_euclid inst
 half_a_millisecond_before_1970 : instant_at (negsuc 499999) ≡ Some (negsuc 0)
 half_a_millisecond_before_1970 = refl
 
-half_a_millisecond_past_the_end : instant_at (number_of last_instant +ℤ pos 500000) ≡ None
+half_a_millisecond_past_the_end : instant_at (instant_number last_instant +ℤ pos 500000) ≡ None
 half_a_millisecond_past_the_end = refl
 
 the_last_millisecond_of_1969 : (day_of_instant (negsuc 0) ≡ negsuc 0)

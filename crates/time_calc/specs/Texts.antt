@@ -7,7 +7,7 @@ use Rattle.case_table.specs.Names.{index_of}
 use Rattle.time_calc.specs.declared.calendar.Date.{Date}
 use Rattle.time_calc.specs.declared.instants.TimeOfDay.{TimeOfDay}
 use Rattle.time_calc.specs.Calendar.{is_date, day_of_date, day_count, days_before_year, days_of_months}
-use Rattle.time_calc.specs.Instants.{is_time, instant_of_day, in_range}
+use Rattle.time_calc.specs.Instants.{is_time, instant_of_day, instant_in_range}
 use Rattle.time_calc.specs.Forms.{value, form_of, under}
 
 abbrev pub month_names : List (List ℕ)
@@ -64,7 +64,7 @@ zone_by form text =
 
 -- the number of the instant of a date, a time of day and a zone, and none where the instant is out of range
 abbrev pub number_at : Date → TimeOfDay → ℤ → Option ℤ
-number_at date time zone = in_range (instant_of_day (day_of_date date) time -ℤ zone)
+number_at date time zone = instant_in_range (instant_of_day (day_of_date date) time -ℤ zone)
 
 -- the instant that a text of a form gives, as a number
 unfoldable pub instant_by : List ℕ → List ℕ → Option ℤ

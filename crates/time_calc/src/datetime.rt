@@ -5,7 +5,7 @@ ghost use Rattle.time_calc.specs.Datetime.{is_whole, whole_of, first_day, first_
 ghost use Rattle.time_calc.specs.inner.Datetime.{IsWithin};
 
 use crate::calendar::{Date, day_of_date};
-use crate::instants::{DAY_LENGTH, MILLION, in_range};
+use crate::instants::{DAY_LENGTH, MILLION, instant_in_range};
 use fixed_num::Num;
 
 /// Whether a number is a whole number.
@@ -112,7 +112,7 @@ fn instant_of_wholes(
 {
     let day = first_of_month(whole_of(year), whole_of(month))?;
     let rest = milliseconds_of(hours, minutes, seconds, milliseconds);
-    in_range(instant_after(day, date, rest))
+    instant_in_range(instant_after(day, date, rest))
 }
 
 /// The instant of a year, a month from 0, a date from 1, hours, minutes, seconds and milliseconds, in UTC. Parts past their range

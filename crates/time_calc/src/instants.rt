@@ -1,6 +1,6 @@
 //! Instants: whole milliseconds since 1970-01-01T00:00Z.
 ghost use Rattle.std.specs.Prelude.{◌≡◌, ◌≤◌, ◌<◌, ◌≤ℤ◌, ◌*ℤ◌, ℤ, pos, neg_ℤ, unsigned_abs, IfSome, IsTrue};
-ghost use Rattle.time_calc.specs.Instants.{is_in_range, in_range, instant_at, since_midnight, is_time, day_of_instant, time_of_instant, first_instant, last_instant};
+ghost use Rattle.time_calc.specs.Instants.{is_in_range, instant_in_range, instant_at, since_midnight, is_time, day_of_instant, time_of_instant, first_instant, last_instant};
 
 use fixed_num::Num;
 
@@ -26,8 +26,8 @@ const FIRST_INSTANT: i128 = -62_135_596_800_000;
 const LAST_INSTANT: i128 = 253_370_764_799_999;
 
 /// The number of an instant; None exactly where it is out of range.
-pub(crate) fn in_range(instant: i128) -> Option<Num>
-    ensures { result ≡ in_range instant }
+pub(crate) fn instant_in_range(instant: i128) -> Option<Num>
+    ensures { result ≡ instant_in_range instant }
 {
     if instant < FIRST_INSTANT || instant > LAST_INSTANT {
         return None;

@@ -4,7 +4,6 @@ ghost use Rattle.time_calc.specs.InstantLaws.{InstantsAreOfTheirDays, DaysHaveTi
 
 /// Years follow one another by their days, a year has the days of its months, and from the year 0 on days and dates are
 /// counted from each other: each day has one date.
-#[tactic(auto, using(crate::proofs::CalendarLemmas::years_follow, crate::proofs::CalendarLemmas::months_make_the_year, crate::proofs::CalendarLemmas::date_of_its_day, crate::proofs::CalendarLemmas::days_have_dates, crate::proofs::CalendarLemmas::day_of_its_date))]
 pub fn laws_of_the_calendar()
     ensures years_follow { YearsFollow }
     ensures months_make_the_year { MonthsMakeTheYear }

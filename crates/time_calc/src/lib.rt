@@ -17,6 +17,3 @@ pub use laws::{laws_of_instants, laws_of_the_calendar};
 pub use parts::part;
 pub use texts::read_instant;
 pub use unit::{PartOf, Unit};
-
-#[cfg(test)]
-mod tests;

@@ -10,7 +10,7 @@ ghost use Rattle.time_calc.specs.inner.Texts.{place_among};
 
 use crate::calendar::{Date, day_of_date, is_date};
 use crate::forms::{form_of, value, value_or_one};
-use crate::instants::{DAY_LENGTH, TimeOfDay, in_range, is_time, since_midnight};
+use crate::instants::{DAY_LENGTH, TimeOfDay, instant_in_range, is_time, since_midnight};
 use fixed_num::Num;
 
 /// The names of the months.
@@ -155,7 +155,7 @@ fn number_at(date: Date, time: TimeOfDay, zone: i128) -> Option<Num>
     requires zone { IsWithin 9 zone }
     ensures { result ≡ number_at date time zone }
 {
-    in_range(instant_of_day(date, time) - zone)
+    instant_in_range(instant_of_day(date, time) - zone)
 }
 
 /// The instant that a text of a form gives.
