@@ -6,11 +6,12 @@ use Rattle.fixed_num.specs.declared.reading.NumFault.TheVariants.{Shape, Range}
 use Rattle.fixed_num.specs.JsonNumber.{Parts, Reads, IsJsonNumber, value_of}
 use Rattle.expr_syntax.specs.NumberText.{parts_of}
 use Rattle.expr_syntax.proofs.NumberTexts.{parts_found, parts_sound}
-use Rattle.expr_eval.specs.Ranges.{◌>>=◌, in_range}
+use Rattle.fixed_num.specs.Ranges.{◌>>=◌, in_range}
 use Rattle.expr_eval.specs.Numbers.{number_in_text}
 use Rattle.expr_eval.proofs.RangeLemmas.{in_range_elsewhere, in_range_unless}
 
-pub by_parts : (text : List ℕ) (found : Option Parts) → parts_of text ≡ found → number_in_text text ≡ (found >>= λ parts. in_range (value_of parts))
+pub by_parts : (text : List ℕ) (found : Option Parts) → parts_of text ≡ found
+    → number_in_text text ≡ (found >>= λ parts. in_range (value_of parts))
 unfolding number_in_text
 by_parts text found e = ap (λ (o : Option Parts). o >>= λ parts. in_range (value_of parts)) e
 
@@ -34,6 +35,7 @@ pub no_number : (text : List ℕ) → (IsJsonNumber text → ⊥) → None ≡ n
 no_number text h = without_parts text _ refl h
 
 -- what was not read
-pub unread : (text : List ℕ) (fault : NumFault) → (fault ≡ Shape → IsJsonNumber text → ⊥) → (fault ≡ Range → (n : ℤ) × Reads text n × (IsNumber n → ⊥)) → None ≡ number_in_text text
+pub unread : (text : List ℕ) (fault : NumFault) → (fault ≡ Shape → IsJsonNumber text → ⊥)
+    → (fault ≡ Range → (n : ℤ) × Reads text n × (IsNumber n → ⊥)) → None ≡ number_in_text text
 unread text Shape shape range = no_number text (shape refl)
 unread text Range shape range = too_far text (range refl)

@@ -5,18 +5,8 @@ use Rattle.std.specs.Option.{SomeIff}
 pub use Rattle.fixed_num.proofs.RoundingLemmas.{floored_from_remainder}
 use Rattle.std.proofs.lemmas.Int.{ints, quot-rem}
 use Rattle.fixed_num.specs.Number.{IsNumber, limit}
-use Rattle.expr_eval.specs.Ranges.{in_range}
-
-pub in_range_at_number : (x : ℤ) → IsNumber x → in_range x ≡ Some x
-in_range_at_number x h = grind (arith, ints)
-
-pub in_range_elsewhere : (x : ℤ) → (IsNumber x → ⊥) → in_range x ≡ None
-in_range_elsewhere x h = grind (arith, ints)
-
--- an answer that is exact is what is in range
-pub in_range_from_exact : (o : Option ℤ) (x : ℤ) → SomeIff o (IsNumber x) x → o ≡ in_range x
-in_range_from_exact None x h = sym (in_range_elsewhere x h)
-in_range_from_exact (Some y) x h = ap Some h.1 ∙ sym (in_range_at_number x h.0)
+use Rattle.fixed_num.specs.Ranges.{in_range}
+pub use Rattle.fixed_num.proofs.RangeLemmas.{in_range_at_number, in_range_elsewhere, in_range_from_exact}
 
 below_is_none : (x : ℤ) → int_lt x (neg_ℤ (pos limit)) ≡ true → IsNumber x → ⊥
 below_is_none x e h = grind (arith, ints)
@@ -24,7 +14,8 @@ below_is_none x e h = grind (arith, ints)
 above_is_none : (x : ℤ) → int_lt (pos limit) x ≡ true → IsNumber x → ⊥
 above_is_none x e h = grind (arith, ints)
 
-by_tests : (x : ℤ) (below above : Bool) → int_lt x (neg_ℤ (pos limit)) ≡ below → int_lt (pos limit) x ≡ above → ((IsNumber x → ⊥) → ⊥) → in_range x ≡ Some x
+by_tests : (x : ℤ) (below above : Bool) → int_lt x (neg_ℤ (pos limit)) ≡ below → int_lt (pos limit) x ≡ above → ((IsNumber x → ⊥) → ⊥)
+    → in_range x ≡ Some x
 by_tests x true above p q h = absurd (h (below_is_none x p))
 by_tests x false true p q h = absurd (h (above_is_none x q))
 by_tests x false false p q h = rw (p, q) refl

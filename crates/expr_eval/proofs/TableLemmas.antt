@@ -9,4 +9,6 @@ use Rattle.expr_eval.specs.Table.{builtins, builtin}
 -- no builtin has a code past the table
 pub no_builtin : (code : ℕ) (args : List Cell) → 38 < code → builtin code args ≡ Some Null
 unfolding builtins
-no_builtin code args h = ap (λ (entry : Option (List ℕ × (List Cell → Option Cell))). option_map_or (λ e. e.1 args) entry (Some Null)) (slice_get_past builtins code (omega arith))
+no_builtin code args h =
+    ap (λ (entry : Option (List ℕ × (List Cell → Option Cell))). option_map_or (λ e. e.1 args) entry (Some Null))
+    (slice_get_past builtins code (omega arith))

@@ -7,7 +7,7 @@ use Rattle.fixed_num.specs.JsonNumber.{Parts, Reads, value_of}
 use Rattle.expr_syntax.specs.NumberText.{parts_of}
 use Rattle.expr_syntax.proofs.NumberTexts.{parts_sound}
 use Rattle.cell_value.specs.Cell.{truth}
-use Rattle.expr_eval.specs.Ranges.{◌>>=◌, in_range}
+use Rattle.fixed_num.specs.Ranges.{◌>>=◌, in_range}
 use Rattle.expr_eval.specs.Laws.{SpellsItsNumber, IfOfValues}
 use Rattle.expr_eval.specs.Table.{builtins}
 use Rattle.expr_eval.proofs.NumberTexts.{by_parts, read_as}
@@ -16,7 +16,8 @@ use Rattle.expr_eval.proofs.RangeLemmas.{in_range_at_number}
 inside : (x : ℤ) → int_lt x (neg_ℤ (pos limit)) ≡ false → int_lt (pos limit) x ≡ false → IsNumber x
 inside x p q = grind (arith, ints)
 
-by_tests : (x m : ℤ) (below above : Bool) → int_lt x (neg_ℤ (pos limit)) ≡ below → int_lt (pos limit) x ≡ above → (if below then None else (if above then None else Some x)) ≡ Some m → (m ≡ x) × IsNumber m
+by_tests : (x m : ℤ) (below above : Bool) → int_lt x (neg_ℤ (pos limit)) ≡ below → int_lt (pos limit) x ≡ above
+    → (if below then None else (if above then None else Some x)) ≡ Some m → (m ≡ x) × IsNumber m
 by_tests x m true above p q e = cc
 by_tests x m false true p q e = cc
 by_tests x m false false p q e = let same : m ≡ x = cc in (same, subst IsNumber (sym same) (inside x p q))
@@ -28,7 +29,8 @@ picked : {X : Type 0} (b : Bool) (x y : X) → (if b then Some x else Some y) �
 picked true x y = refl
 picked false x y = refl
 
-from_parts : (text : List ℕ) (found : Option Parts) (m : ℤ) → parts_of text ≡ found → (found >>= λ parts. in_range (value_of parts)) ≡ Some m → Reads text m × IsNumber m
+from_parts : (text : List ℕ) (found : Option Parts) (m : ℤ) → parts_of text ≡ found
+    → (found >>= λ parts. in_range (value_of parts)) ≡ Some m → Reads text m × IsNumber m
 from_parts text None m p e = cc
 from_parts text (Some parts) m p e = let within = is_in_range _ m e in ((parts, parts_sound text parts p, within.0), within.1)
 

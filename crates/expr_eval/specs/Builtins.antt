@@ -1,7 +1,7 @@
 -- What builtins give for the values of their arguments.
-use Rattle.std.specs.Prelude.{ℤ, pos, ◌+ℤ◌, ◌-ℤ◌, ◌*ℤ◌, int_lt, int_le, unsigned_abs, ℕ, ◌+◌, ◌*◌, nat_lt, nat_le, ◌&&◌, not, Bool, List, [], ◌∷◌, fold, count_by, Option, Some, None, if◌then◌else◌, slice_get}
+use Rattle.std.specs.Prelude.{ℤ, pos, ◌+ℤ◌, int_lt, int_le, unsigned_abs, ℕ, ◌+◌, ◌*◌, nat_lt, nat_le, ◌&&◌, not, Bool, List}
+use Rattle.std.specs.Prelude.{[], ◌∷◌, fold, count_by, Option, Some, None, if◌then◌else◌, slice_get}
 use Rattle.std.specs.Int.{int_min, int_max}
-use Rattle.std.specs.Ordering.{int_eq}
 use Rattle.std.specs.Option.{option_map_or}
 use Rattle.std.specs.Str.{chars}
 use Rattle.fixed_num.specs.Number.{million, floored, ceiled, root_of}
@@ -13,9 +13,11 @@ use Rattle.cell_value.specs.declared.cell.Cell.{Cell}
 use Rattle.cell_value.specs.declared.cell.Cell.TheVariants.{Null, Flag, Number, Text, Pair}
 use Rattle.cell_value.specs.Cell.{truth}
 use Rattle.cell_value.specs.Display.{display_of}
-use Rattle.expr_eval.specs.Ranges.{◌>>=◌, number}
+use Rattle.fixed_num.specs.Ranges.{◌>>=◌}
+use Rattle.fixed_num.specs.Bands.{space_of}
+use Rattle.expr_eval.specs.Ranges.{number}
 use Rattle.expr_eval.specs.Operations.{flag_or_null}
-use Rattle.expr_eval.specs.Numbers.{is_null, the_number, the_text, the_pair, else_null, number_in, number_or_null}
+use Rattle.expr_eval.specs.Numbers.{is_null, the_number, the_text, the_pair, else_null, cell_number, number_or_null}
 
 -- a builtin of one argument; of more or none null
 abbrev pub of_one : (Cell → Option Cell) → List Cell → Option Cell
@@ -42,7 +44,7 @@ is_valid a = not (is_null a)
 
 -- `toNumber`; null where the cell stands for no number
 abbrev pub as_number : List Cell → Option Cell
-as_number = of_one (λ a. Some (number_or_null (number_in a)))
+as_number = of_one (λ a. Some (number_or_null (cell_number a)))
 
 -- `toString`
 abbrev pub as_text : List Cell → Option Cell
@@ -142,16 +144,9 @@ three_numbers (a ∷ b ∷ c ∷ d ∷ more) = None
 abbrev pub clamped : List Cell → Option Cell
 clamped args = else_null (three_numbers args) (λ n. Some (Number (int_max n.1 (int_min n.0 n.2))))
 
--- the space of so many bands, in steps, with the padding within and the padding on each side: none for no band, and one
--- where it isn't positive
-abbrev pub band_space : ℤ → ℤ → ℤ → ℤ
-band_space count inner outer =
-    if int_eq count (pos 0) then pos 0
-    else (if int_lt (pos 0) (count -ℤ inner +ℤ pos 2 *ℤ outer) then count -ℤ inner +ℤ pos 2 *ℤ outer else pos million)
-
--- `bandspace`
+-- `bandspace`: the space of so many bands, in steps, with the padding between them and the padding at each end
 abbrev pub space : List Cell → Option Cell
-space args = else_null (three_numbers args) (λ n. number (band_space n.0 n.1 n.2))
+space args = else_null (three_numbers args) (λ n. number (space_of n.0 n.1 n.2))
 
 -- whether a number lies between the two of a pair, in either order, both included; of other cells null
 abbrev pub flag_of_within : Cell → Cell → Cell

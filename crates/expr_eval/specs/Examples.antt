@@ -13,7 +13,7 @@ use Rattle.time_calc.specs.Instants.{day_of_instant}
 use Rattle.cell_value.specs.declared.cell.Cell.{Cell}
 use Rattle.cell_value.specs.declared.cell.Cell.TheVariants.{Null, Flag, Number, Text}
 use Rattle.expr_syntax.specs.declared.expr.BinOp.TheVariants.{And, Like, Add, Div, Rem}
-use Rattle.expr_eval.specs.Ranges.{◌>>=◌}
+use Rattle.fixed_num.specs.Ranges.{◌>>=◌}
 use Rattle.expr_eval.specs.Numbers.{number_in_text}
 use Rattle.expr_eval.specs.Operations.{operated, binary_of}
 use Rattle.expr_eval.specs.Table.{builtin, builtins}

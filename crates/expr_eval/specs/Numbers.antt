@@ -5,7 +5,7 @@ use Rattle.fixed_num.specs.JsonNumber.{value_of}
 use Rattle.expr_syntax.specs.NumberText.{parts_of}
 use Rattle.cell_value.specs.declared.cell.Cell.{Cell}
 use Rattle.cell_value.specs.declared.cell.Cell.TheVariants.{Null, Flag, Number, Text, Pair}
-use Rattle.expr_eval.specs.Ranges.{◌>>=◌, in_range}
+use Rattle.fixed_num.specs.Ranges.{◌>>=◌, in_range}
 
 -- whether a cell is of a kind
 abbrev pub is_null : Cell → Bool
@@ -80,9 +80,9 @@ unfoldable pub number_in_text : List ℕ → Option ℤ
 number_in_text text = parts_of text >>= λ parts. in_range (value_of parts)
 
 -- the number that a cell stands for: a flag for 1 or 0, a number for itself, a text for the one that it spells
-abbrev pub number_in : Cell → Option ℤ
-number_in Null = None
-number_in (Flag b) = Some (if b then pos million else pos 0)
-number_in (Number n) = Some n
-number_in (Text t) = number_in_text t
-number_in (Pair a b) = None
+abbrev pub cell_number : Cell → Option ℤ
+cell_number Null = None
+cell_number (Flag b) = Some (if b then pos million else pos 0)
+cell_number (Number n) = Some n
+cell_number (Text t) = number_in_text t
+cell_number (Pair a b) = None

@@ -1,5 +1,6 @@
 -- What operators give for the values of their operands.
-use Rattle.std.specs.Prelude.{ℤ, pos, neg_ℤ, ◌+ℤ◌, ◌-ℤ◌, ◌*ℤ◌, int_div, ◌++◌, ◌==◌, ◌&&◌, ◌||◌, not, Bool, false, Option, Some, None, if◌then◌else◌}
+use Rattle.std.specs.Prelude.{ℤ, pos, neg_ℤ, ◌+ℤ◌, ◌-ℤ◌, ◌*ℤ◌, int_div, ◌++◌, ◌==◌, ◌&&◌, ◌||◌, not, Bool, false, Option, Some, None}
+use Rattle.std.specs.Prelude.{if◌then◌else◌}
 use Rattle.std.specs.Option.{option_map}
 use Rattle.std.specs.declared.cmp.Ordering.{Ordering}
 use Rattle.std.specs.Ordering.{nat_cmp, int_cmp, int_eq, is_lt, is_le, is_gt, is_ge}
@@ -10,9 +11,11 @@ use Rattle.cell_value.specs.declared.cell.Cell.TheVariants.{Null, Flag, Number, 
 use Rattle.cell_value.specs.Cell.{kind, same_cells, truth}
 use Rattle.cell_value.specs.Display.{display_of}
 use Rattle.expr_syntax.specs.declared.expr.BinOp.{BinOp}
-use Rattle.expr_syntax.specs.declared.expr.BinOp.TheVariants.{Or, And, Like, NotLike, Same, NotSame, Less, LessSame, More, MoreSame, Add, Sub, Mul, Div, Rem}
-use Rattle.expr_eval.specs.Ranges.{◌>>=◌, number}
-use Rattle.expr_eval.specs.Numbers.{is_text, is_pair, the_number, else_null, number_in}
+use Rattle.expr_syntax.specs.declared.expr.BinOp.TheVariants.{Or, And, Like, NotLike, Same, NotSame, Less, LessSame, More, MoreSame, Add}
+use Rattle.expr_syntax.specs.declared.expr.BinOp.TheVariants.{Sub, Mul, Div, Rem}
+use Rattle.fixed_num.specs.Ranges.{◌>>=◌}
+use Rattle.expr_eval.specs.Ranges.{number}
+use Rattle.expr_eval.specs.Numbers.{is_text, is_pair, the_number, else_null, cell_number}
 
 -- two numbers that are there and equal
 abbrev pub equal_numbers : Option ℤ → Option ℤ → Bool
@@ -23,7 +26,7 @@ equal_numbers (Some a) (Some b) = int_eq a b
 -- `==`: two cells of one kind where they are the same; cells of two kinds where they stand for one number, so a null,
 -- a pair and a text that spells no number equal nothing of another kind
 abbrev pub like : Cell → Cell → Bool
-like a b = if kind a == kind b then same_cells a b else equal_numbers (number_in a) (number_in b)
+like a b = if kind a == kind b then same_cells a b else equal_numbers (cell_number a) (cell_number b)
 
 -- how two numbers, or two texts by their bytes, stand to each other
 abbrev pub order_of : Cell → Cell → Option Ordering

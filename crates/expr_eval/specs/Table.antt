@@ -6,9 +6,10 @@ use Rattle.time_calc.specs.declared.unit.PartOf.TheVariants as part
 use Rattle.cell_value.specs.declared.cell.Cell.{Cell}
 use Rattle.cell_value.specs.declared.cell.Cell.TheVariants.{Null}
 use Rattle.cell_value.specs.Cell.{truth}
-use Rattle.expr_eval.specs.Ranges.{◌>>=◌, all_of}
+use Rattle.fixed_num.specs.Ranges.{◌>>=◌, all_found}
 use Rattle.expr_eval.specs.Numbers.{is_number, is_text, is_flag}
-use Rattle.expr_eval.specs.Builtins.{test_of, is_valid, as_number, as_text, as_date, of_number, size, ceiling, floor, square_root, nearest, least, greatest, clamped, choice, within, length_of, space, part_in, instant}
+use Rattle.expr_eval.specs.Builtins.{test_of, is_valid, as_number, as_text, as_date, of_number, size, ceiling, floor, square_root, nearest}
+use Rattle.expr_eval.specs.Builtins.{least, greatest, clamped, choice, within, length_of, space, part_in, instant}
 
 -- what each builtin gives for the values of its arguments, beside its name, in the order of the codes
 unfoldable pub builtins : List (List ℕ × (List Cell → Option Cell))
@@ -81,7 +82,7 @@ lazy_choice (a ∷ b ∷ c ∷ d ∷ more) = Some Null
 
 -- any other builtin, of what becomes of its arguments, each of which it needs
 abbrev pub of_values : ℕ → List (Option Cell) → Option Cell
-of_values code outcomes = all_of outcomes >>= builtin code
+of_values code outcomes = all_found outcomes >>= builtin code
 
 -- what a call gives for what becomes of its arguments
 abbrev pub called : ℕ → List (Option Cell) → Option Cell

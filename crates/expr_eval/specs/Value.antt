@@ -1,5 +1,6 @@
 -- The value of an expression.
-use Rattle.std.specs.Prelude.{◌*◌, pos, not, Option, Some}
+use Rattle.std.specs.Prelude.{◌*◌, pos, not, Bool, Option, Some}
+use Rattle.std.specs.Option.{option_map}
 use Rattle.fixed_num.specs.Number.{million}
 use Rattle.cell_value.specs.declared.cell.Cell.{Cell}
 use Rattle.cell_value.specs.declared.cell.Cell.TheVariants.{Null, Flag, Number, Text}
@@ -7,8 +8,9 @@ use Rattle.cell_value.specs.Cell.{truth}
 use Rattle.cell_value.specs.Datum.{CellAt}
 use Rattle.expr_syntax.specs.declared.expr.Expr.{Expr, Expr-F, fold-Expr}
 use Rattle.expr_syntax.specs.declared.expr.Expr.TheOpen as form
-use Rattle.expr_eval.specs.Ranges.{◌>>=◌, number}
-use Rattle.expr_eval.specs.Numbers.{number_in, number_or_null}
+use Rattle.fixed_num.specs.Ranges.{◌>>=◌}
+use Rattle.expr_eval.specs.Ranges.{number}
+use Rattle.expr_eval.specs.Numbers.{cell_number, number_or_null}
 use Rattle.expr_eval.specs.Operations.{negated, binary_of, paired}
 use Rattle.expr_eval.specs.Table.{called, chosen}
 use Rattle.expr_eval.specs.Values.{Values}
@@ -24,7 +26,7 @@ value_here row values (form.Param name) = Some (values.value name)
 value_here row values (form.Member name field) = Some (values.member name field)
 value_here row values (form.Not a) = a >>= λ x. Some (Flag (not (truth x)))
 value_here row values (form.Minus a) = a >>= negated
-value_here row values (form.Plus a) = a >>= λ x. Some (number_or_null (number_in x))
+value_here row values (form.Plus a) = a >>= λ x. Some (number_or_null (cell_number x))
 value_here row values (form.Binary op a b) = binary_of op a b
 value_here row values (form.Choose test first second) = chosen test first second
 value_here row values (form.Pair a b) = a >>= λ x. b >>= λ y. Some (paired x y)
@@ -36,3 +38,7 @@ value_here row values (form.DomainLength scale) = number (pos (values.domain_len
 -- the value of an expression over a row and values of parameters; None where it is Overflow
 abbrev pub value_of : CellAt → Values → Expr → Option Cell
 value_of row values = fold-Expr (Option Cell) (value_here row values)
+
+-- whether the value of a test over a row counts as true; None where it is Overflow
+abbrev pub truth_of : CellAt → Values → Expr → Option Bool
+truth_of row values test = option_map truth (value_of row values test)

@@ -3,11 +3,13 @@ ghost use Rattle.std.specs.Prelude.{◌≡◌, ◌+ℤ◌, ◌<◌, ◌^◌, pos
 ghost use Rattle.std.specs.Int.{int_min, int_max};
 ghost use Rattle.fixed_num.specs.Number.{million, floored};
 ghost use Rattle.expr_eval.specs.Numbers.{is_number, is_text, is_flag};
-ghost use Rattle.expr_eval.specs.Builtins.{test_of, is_valid, as_number, as_text, as_date, one_number, of_number, size, ceiling, floor, nearest, square_root, part_in, number_at, instant_in, instant, date_in, least, greatest, three_numbers, clamped, band_space, space, within, flag_of_within};
+ghost use Rattle.expr_eval.specs.Builtins.{test_of, is_valid, as_number, as_text, as_date, one_number, of_number, size, ceiling, floor};
+ghost use Rattle.expr_eval.specs.Builtins.{nearest, square_root, part_in, number_at, instant_in, instant, date_in, least, greatest};
+ghost use Rattle.expr_eval.specs.Builtins.{three_numbers, clamped, space, within, flag_of_within};
 ghost use Rattle.expr_eval.specs.Answers.{Evaluates};
 
 use crate::EvalError;
-use crate::numbers::{number_in, number_or_null, the_number, the_pair, whole};
+use crate::numbers::{cell_number, number_or_null, the_number, the_pair, whole};
 use crate::ranges::number;
 use cell_value::Cell;
 use fixed_num::Num;
@@ -62,7 +64,7 @@ pub(crate) fn to_number(args: &[Cell]) -> Result<Cell, EvalError>
     ensures { Evaluates result (as_number args.now) }
 {
     match args {
-        [only] => Ok(number_or_null(number_in(only))),
+        [only] => Ok(number_or_null(cell_number(only))),
         _ => Ok(Cell::Null),
     }
 }

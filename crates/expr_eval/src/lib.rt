@@ -11,8 +11,6 @@ mod plain;
 mod ranges;
 mod readers;
 mod table;
-#[cfg(test)]
-mod tests;
 mod value;
 
 pub use error::EvalError;

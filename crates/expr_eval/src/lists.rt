@@ -1,7 +1,9 @@
 // Builtins of many numbers, and of a text.
 ghost use Rattle.std.specs.Prelude.{◌≡◌, ◌+◌, ◌<◌, ◌^◌, pos, ◌+ℤ◌, ◌-ℤ◌, ◌*ℤ◌, count_by, nat_lt, nat_le};
 ghost use Rattle.std.specs.Str.{chars};
-ghost use Rattle.expr_eval.specs.Builtins.{number_at, instant_in, instant, least_among, greatest_among, least, greatest, band_space, space, utf16_length, length_of};
+ghost use Rattle.fixed_num.specs.Bands.{space_of};
+ghost use Rattle.expr_eval.specs.Builtins.{number_at, instant_in, instant, least_among, greatest_among, least, greatest, space};
+ghost use Rattle.expr_eval.specs.Builtins.{utf16_length, length_of};
 ghost use Rattle.expr_eval.specs.Answers.{Evaluates};
 
 use crate::EvalError;
@@ -63,7 +65,7 @@ fn padded(count: Num, inner: Num, outer: Num) -> i128
 
 // The space of so many bands, in millionths of a step.
 fn space_of(count: Num, inner: Num, outer: Num) -> i128
-    ensures { result ≡ band_space count inner outer }
+    ensures { result ≡ space_of count inner outer }
 {
     let space = padded(count, inner, outer);
     if count.millionths() == 0 {

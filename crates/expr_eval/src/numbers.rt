@@ -2,7 +2,7 @@
 ghost use Rattle.std.specs.Prelude.{◌≡◌, ◌*◌, ◌<◌, pos};
 ghost use Rattle.std.specs.Option.{option_copied};
 ghost use Rattle.fixed_num.specs.Number.{million};
-ghost use Rattle.expr_eval.specs.Numbers.{is_text, is_pair, the_number, the_text, the_pair, number_in, number_in_text, number_or_null};
+ghost use Rattle.expr_eval.specs.Numbers.{is_text, is_pair, the_number, the_text, the_pair, cell_number, number_in_text, number_or_null};
 
 use cell_value::Cell;
 use fixed_num::Num;
@@ -72,8 +72,8 @@ fn number_in_text(text: &str) -> Option<Num>
 }
 
 /// The number that the cell stands for; None exactly where it stands for none.
-pub(crate) fn number_in(cell: &Cell) -> Option<Num>
-    ensures { result ≡ number_in cell.now }
+pub(crate) fn cell_number(cell: &Cell) -> Option<Num>
+    ensures { result ≡ cell_number cell.now }
 {
     match cell {
         Cell::Null => None,

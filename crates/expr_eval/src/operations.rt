@@ -3,10 +3,11 @@ ghost use Rattle.std.specs.Prelude.{◌≡◌, ◌≢◌, pos, ◌-ℤ◌, ◌*�
 ghost use Rattle.cell_value.specs.Cell.{kind};
 ghost use Rattle.cell_value.specs.Display.{display_of};
 ghost use Rattle.expr_eval.specs.Answers.{Evaluates};
-ghost use Rattle.expr_eval.specs.Operations.{like, order_of, flag_or_null, two_numbers, on_numbers, joins, joined, added, difference, product, quotient, remainder, negated, operated, decides, paired};
+ghost use Rattle.expr_eval.specs.Operations.{like, order_of, flag_or_null, two_numbers, on_numbers, joins, joined, added, difference};
+ghost use Rattle.expr_eval.specs.Operations.{product, quotient, remainder, negated, operated, decides, paired};
 
 use crate::EvalError;
-use crate::numbers::{is_pair, is_text, number_in, the_number};
+use crate::numbers::{cell_number, is_pair, is_text, the_number};
 use crate::ranges::number;
 use cell_value::Cell;
 use expr_syntax::BinOp;
@@ -35,7 +36,7 @@ fn like(a: &Cell, b: &Cell) -> bool
     if kind(a) == kind(b) {
         return a.same(b);
     }
-    match (number_in(a), number_in(b)) {
+    match (cell_number(a), cell_number(b)) {
         (Some(a), Some(b)) => a == b,
         _ => false,
     }

@@ -1,13 +1,13 @@
 // The value of an expression.
 ghost use Rattle.std.specs.Prelude.{◌≡◌, ◌≢◌, ◌+◌, map, sum, sum_by};
-ghost use Rattle.expr_eval.specs.Ranges.{all_of};
+ghost use Rattle.fixed_num.specs.Ranges.{all_found};
 ghost use Rattle.expr_eval.specs.Operations.{binary_of};
 ghost use Rattle.expr_eval.specs.Table.{called, chosen, code_of_if, lazy_choice, of_values};
 ghost use Rattle.expr_eval.specs.Value.{value_of};
 ghost use Rattle.expr_eval.specs.Reads.{reads_of};
 ghost use Rattle.expr_eval.specs.Answers.{Evaluates, RisesBy};
 
-use crate::numbers::{number_in, number_or_null};
+use crate::numbers::{cell_number, number_or_null};
 use crate::operations::{decides, negate, operate, pair};
 use crate::ranges::count;
 use crate::table::{CODE_OF_IF, call};
@@ -50,7 +50,7 @@ pub fn eval<R: RowReader, P: ParamReader, L: Ledger>(
         }
         Expr::Plus(a) => {
             let a = eval(alloc, a.get(), row, params, steps)?;
-            Ok(number_or_null(number_in(&a)))
+            Ok(number_or_null(cell_number(&a)))
         }
         Expr::Binary(op, a, b) => eval_binary(alloc, *op, a.get(), b.get(), row, params, steps),
         Expr::Choose(test, first, second) => {
@@ -140,7 +140,7 @@ fn eval_all<R: RowReader, P: ParamReader, L: Ledger>(
     params: &P,
     steps: &mut Steps<L>,
 ) -> Result<Seq<Cell>, EvalError>
-    ensures value { Evaluates result (all_of (map (value_of (R.cells row.now) (P.values params.now)) args.now)) }
+    ensures value { Evaluates result (all_found (map (value_of (R.cells row.now) (P.values params.now)) args.now)) }
     ensures steps { RisesBy (sum_by (reads_of (P.values params.now)) args.now) steps.old steps.new }
 {
     let mut out = Seq::with_capacity(alloc, args.len())?;

@@ -1,5 +1,6 @@
 -- The bytes at the front that pass a test, and where a text may be cut.
-use Rattle.std.proofs.Common.{◌≡◌, ℕ, suc, ◌+◌, ◌<◌, ◌≤◌, Bool, true, List, [], ◌∷◌, ◌++◌, length, take, drop, refl, ap, ◌∙◌, arith, inl, inr}
+use Rattle.std.proofs.Common.{◌≡◌, ℕ, suc, ◌+◌, ◌<◌, ◌≤◌, Bool, true, List, [], ◌∷◌, ◌++◌, length, take, drop, refl, ap, ◌∙◌, arith, inl}
+use Rattle.std.proofs.Common.{inr}
 use Rattle.std.specs.Prelude.{IsTrue}
 use Rattle.std.specs.List.{AllByRecursion, prefix_len}
 use Rattle.std.specs.Str.{IsUtf8, IsAscii, IsCharBoundary}
@@ -37,7 +38,8 @@ none_at p (b ∷ rest) w = cond-false (p b) (1 + prefix_len p rest) 0 w
 
 pub front_is : (p : ℕ → Bool) (word rest : List ℕ) → AllPass p word → BeginsWithout p rest → prefix_len p (word ++ rest) ≡ length word
 front_is p [] rest all w = none_at p rest w
-front_is p (b ∷ word) rest all w = cond-true (p b) (1 + prefix_len p (word ++ rest)) 0 all.0 ∙ ap (λ n. 1 + n) (front_is p word rest all.1 w) ∙ one_more (length word)
+front_is p (b ∷ word) rest all w =
+    cond-true (p b) (1 + prefix_len p (word ++ rest)) 0 all.0 ∙ ap (λ n. 1 + n) (front_is p word rest all.1 w) ∙ one_more (length word)
 
 pub front_le : (p : ℕ → Bool) (bytes : List ℕ) → prefix_len p bytes ≤ length bytes
 front_le p [] = omega arith
@@ -62,7 +64,8 @@ name_passes (b ∷ word) n = (name_start-byte b n.0, n.1)
 pub passes_name : (bytes : List ℕ) → is_name_start (first bytes) ≡ true → IsName (take (prefix_len is_name_byte bytes) bytes)
 passes_name [] e = absurd cc
 passes_name (b ∷ bytes) e =
-    rw (cond-true (is_name_byte b) (1 + prefix_len is_name_byte bytes) 0 (name_start-byte b e), one_more (prefix_len is_name_byte bytes)) (e, front_passes is_name_byte bytes)
+    rw (cond-true (is_name_byte b) (1 + prefix_len is_name_byte bytes) 0 (name_start-byte b e), one_more (prefix_len is_name_byte bytes))
+    (e, front_passes is_name_byte bytes)
 
 -- ---- cuts
 
@@ -75,7 +78,9 @@ pub cut_behind : (bytes : List ℕ) (n : ℕ) → IsUtf8 bytes → n ≤ length 
 cut_behind bytes n u l a = IsCharBoundary-from_take bytes n u l (IsUtf8-from_ascii (take n bytes) a)
 
 pub cut_behind_name : (bytes : List ℕ) → IsUtf8 bytes → IsCharBoundary bytes (prefix_len is_name_byte bytes)
-cut_behind_name bytes u = cut_behind bytes (prefix_len is_name_byte bytes) u (front_le is_name_byte bytes) (all_ascii is_name_byte name_byte-ascii (take (prefix_len is_name_byte bytes) bytes) (front_passes is_name_byte bytes))
+cut_behind_name bytes u =
+    cut_behind bytes (prefix_len is_name_byte bytes) u (front_le is_name_byte bytes)
+    (all_ascii is_name_byte name_byte-ascii (take (prefix_len is_name_byte bytes) bytes) (front_passes is_name_byte bytes))
 
 -- ---- blanks
 
@@ -83,4 +88,6 @@ blank-ascii : (b : ℕ) → is_blank b ≡ true → b < 128
 blank-ascii b e = grind (arith, nat_tests)
 
 pub cut_behind_blanks : (bytes : List ℕ) → IsUtf8 bytes → IsCharBoundary bytes (prefix_len is_blank bytes)
-cut_behind_blanks bytes u = cut_behind bytes (prefix_len is_blank bytes) u (front_le is_blank bytes) (all_ascii is_blank blank-ascii (take (prefix_len is_blank bytes) bytes) (front_passes is_blank bytes))
+cut_behind_blanks bytes u =
+    cut_behind bytes (prefix_len is_blank bytes) u (front_le is_blank bytes)
+    (all_ascii is_blank blank-ascii (take (prefix_len is_blank bytes) bytes) (front_passes is_blank bytes))

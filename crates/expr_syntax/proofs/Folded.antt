@@ -50,19 +50,27 @@ written-Minus e = ap written (sym (expr.rolls-Minus e)) ∙ fold-roll-Expr Writt
 pub written-Plus : (e : Expr) → written (expr.Plus e) ≡ written_here (form.Plus (written e))
 written-Plus e = ap written (sym (expr.rolls-Plus e)) ∙ fold-roll-Expr Written written_here (form.Plus e)
 
-pub written-Binary : (o : BinOp) (left right : Expr) → written (expr.Binary o left right) ≡ written_here (form.Binary o (written left) (written right))
-written-Binary o left right = ap written (sym (expr.rolls-Binary o left right)) ∙ fold-roll-Expr Written written_here (form.Binary o left right)
+pub written-Binary : (o : BinOp) (left right : Expr)
+    → written (expr.Binary o left right) ≡ written_here (form.Binary o (written left) (written right))
+written-Binary o left right =
+    ap written (sym (expr.rolls-Binary o left right)) ∙ fold-roll-Expr Written written_here (form.Binary o left right)
 
-pub written-Choose : (test first second : Expr) → written (expr.Choose test first second) ≡ written_here (form.Choose (written test) (written first) (written second))
-written-Choose test first second = ap written (sym (expr.rolls-Choose test first second)) ∙ fold-roll-Expr Written written_here (form.Choose test first second)
+pub written-Choose : (test first second : Expr)
+    → written (expr.Choose test first second) ≡ written_here (form.Choose (written test) (written first) (written second))
+written-Choose test first second =
+    ap written (sym (expr.rolls-Choose test first second)) ∙ fold-roll-Expr Written written_here (form.Choose test first second)
 
 pub written-Pair : (first second : Expr) → written (expr.Pair first second) ≡ written_here (form.Pair (written first) (written second))
 written-Pair first second = ap written (sym (expr.rolls-Pair first second)) ∙ fold-roll-Expr Written written_here (form.Pair first second)
 
-pub written-Call : (code : ℕ) (arguments : List Expr) → written (expr.Call code arguments) ≡ written_here (form.Call code (map written arguments))
-written-Call code arguments = ap written (sym (expr.rolls-Call code arguments)) ∙ fold-roll-Expr Written written_here (form.Call code arguments)
+pub written-Call : (code : ℕ) (arguments : List Expr)
+    → written (expr.Call code arguments) ≡ written_here (form.Call code (map written arguments))
+written-Call code arguments =
+    ap written (sym (expr.rolls-Call code arguments)) ∙ fold-roll-Expr Written written_here (form.Call code arguments)
 
-others_written : (es : List Expr) → flat_map (λ other. Mark mark.Comma ∷ as_part other) (map written es) ≡ flat_map (λ other. Mark mark.Comma ∷ as_part (written other)) es
+others_written : (es : List Expr)
+    → flat_map (λ other. Mark mark.Comma ∷ as_part other) (map written es)
+    ≡ flat_map (λ other. Mark mark.Comma ∷ as_part (written other)) es
 others_written [] = refl
 others_written (e ∷ es) = ap (λ (rest : List Token). (Mark mark.Comma ∷ as_part (written e)) ++ rest) (others_written es)
 
@@ -71,7 +79,30 @@ pub arguments_written : (es : List Expr) → with_commas as_part (map written es
 arguments_written [] = refl
 arguments_written (e ∷ es) = ap (λ (rest : List Token). as_part (written e) ++ rest) (others_written es)
 
-pub call_written : (code : ℕ) (arguments : List Expr) → written (expr.Call code arguments) ≡ primary (Name (builtin_name code) ∷ Mark mark.Open ∷ with_commas (λ e. as_part (written e)) arguments ++ Mark mark.Close ∷ [])
-call_written code arguments = written-Call code arguments ∙ ap (λ (inside : List Token). primary (Name (builtin_name code) ∷ Mark mark.Open ∷ inside ++ Mark mark.Close ∷ [])) (arguments_written arguments)
+pub call_written : (code : ℕ) (arguments : List Expr)
+    → written (expr.Call code arguments)
+    ≡ primary (Name (builtin_name code) ∷ Mark mark.Open ∷ with_commas (λ e. as_part (written e)) arguments ++ Mark mark.Close ∷ [])
+call_written code arguments =
+    written-Call code arguments
+    ∙ ap (λ (inside : List Token). primary (Name (builtin_name code) ∷ Mark mark.Open ∷ inside ++ Mark mark.Close ∷ []))
+    (arguments_written arguments)
 
-pub ruleset forms_written = (written-Null, written-Flag, written-Number, written-Text, written-Field, written-Param, written-Member, written-Selected, written-Stored, written-DomainLength, written-Not, written-Minus, written-Plus, written-Binary, written-Choose, written-Pair, call_written)
+pub ruleset forms_written = (
+  written-Null,
+  written-Flag,
+  written-Number,
+  written-Text,
+  written-Field,
+  written-Param,
+  written-Member,
+  written-Selected,
+  written-Stored,
+  written-DomainLength,
+  written-Not,
+  written-Minus,
+  written-Plus,
+  written-Binary,
+  written-Choose,
+  written-Pair,
+  call_written,
+)

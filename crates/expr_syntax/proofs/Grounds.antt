@@ -1,5 +1,6 @@
 -- Single tokens.
-use Rattle.std.proofs.Common.{◌≡◌, ◌-◌, ℕ, Bool, true, false, cond, eqb, List, [], ◌∷◌, ◌++◌, drop, take, length, Result, Ok, Err, Option, Some, None, refl, sym, ap, ◌∙◌, arith, ◌&&◌}
+use Rattle.std.proofs.Common.{◌≡◌, ◌-◌, ℕ, Bool, true, false, cond, eqb, List, [], ◌∷◌, ◌++◌, drop, take, length, Result, Ok, Err, Option}
+use Rattle.std.proofs.Common.{Some, None, refl, sym, ap, ◌∙◌, arith, ◌&&◌}
 use Rattle.std.specs.Prelude.{codes, slice_get, bytes_eq}
 use Rattle.std.proofs.lemmas.Bool.{eqb-true, eq-eqb, false≢true}
 use Rattle.std.proofs.lemmas.Slice.Eq.{bytes_eq-Decides}
@@ -12,7 +13,8 @@ use Rattle.expr_syntax.specs.declared.token.Token.TheVariants.{Name, Number, Quo
 use Rattle.expr_syntax.specs.declared.token.Mark.{Mark as AnyMark}
 use Rattle.expr_syntax.specs.declared.token.Mark.TheVariants as mark
 use Rattle.expr_syntax.specs.Grammar.{mark_of, level_of, store_of}
-use Rattle.expr_syntax.specs.inner.Parser.{number_of, is, starts, after, name_at, quoted_at, after_word, operator_of, of_level, operator_at, before_store}
+use Rattle.expr_syntax.specs.inner.Parser.{mark_number, is, starts, after, name_at, quoted_at, after_word, operator_of, of_level}
+use Rattle.expr_syntax.specs.inner.Parser.{operator_at, before_store}
 use Rattle.expr_syntax.proofs.Taken.{bind_ok, guarded, ok_is}
 
 -- ---- marks
@@ -23,7 +25,7 @@ all_marks =
     mark.Plus ∷ mark.Minus ∷ mark.Times ∷ mark.Over ∷ mark.Percent ∷ mark.Not ∷ mark.Question ∷ mark.Colon ∷ mark.Comma ∷ mark.Point ∷
     mark.Open ∷ mark.Close ∷ mark.OpenSquare ∷ mark.CloseSquare ∷ []
 
-numbered : (m : AnyMark) → slice_get all_marks (number_of m) ≡ Some m
+numbered : (m : AnyMark) → slice_get all_marks (mark_number m) ≡ Some m
 unfolding all_marks
 numbered mark.Or = refl
 numbered mark.And = refl
@@ -52,7 +54,7 @@ numbered mark.CloseSquare = refl
 
 pub is_true : (m n : AnyMark) → is m n ≡ true → m ≡ n
 is_true m n e =
-    let same : number_of m ≡ number_of n = eqb-true _ _ e in
+    let same : mark_number m ≡ mark_number n = eqb-true _ _ e in
     let some : Some m ≡ Some n = sym (numbered m) ∙ ap (slice_get all_marks) same ∙ numbered n in
     cc
 
@@ -97,7 +99,8 @@ pub after_word_sound : (word : List ℕ) (tokens rest : List Token) → after_wo
 after_word_sound word tokens rest e =
     let b = bind_ok (name_at tokens) (λ x. cond (bytes_eq x.0 word) (Ok x.1) (Err tt)) rest e in
     let g = guarded (bytes_eq b.value.0 word) (Ok b.value.1) rest b.then in
-    name_sound tokens b.value b.is ∙ ap (λ (w : List ℕ). Name w ∷ b.value.1) (bytes_true b.value.0 word g.0) ∙ ap (λ (r : List Token). Name word ∷ r) (ok_is b.value.1 rest g.1)
+    name_sound tokens b.value b.is ∙ ap (λ (w : List ℕ). Name w ∷ b.value.1) (bytes_true b.value.0 word g.0)
+    ∙ ap (λ (r : List Token). Name word ∷ r) (ok_is b.value.1 rest g.1)
 
 -- ---- the names of stores
 
@@ -105,7 +108,8 @@ pub before_store_sound : (text p : List ℕ) → before_store text ≡ Ok p → 
 unfolding before_store
 before_store_sound text p e =
     let g = guarded (bytes_eq (drop (length text - 6) text) (codes "_store")) (Ok (take (length text - 6) text)) p e in
-    sym (take-append-drop (length text - 6) text) ∙ ap (λ (back : List ℕ). take (length text - 6) text ++ back) (bytes_true _ _ g.0) ∙ ap store_of (ok_is (take (length text - 6) text) p g.1)
+    sym (take-append-drop (length text - 6) text) ∙ ap (λ (back : List ℕ). take (length text - 6) text ++ back) (bytes_true _ _ g.0)
+    ∙ ap store_of (ok_is (take (length text - 6) text) p g.1)
 
 pub store-before : (p : List ℕ) → before_store (store_of p) ≡ Ok p
 unfolding before_store
@@ -161,7 +165,8 @@ is_mark_of mark.Close o e = absurd cc
 is_mark_of mark.OpenSquare o e = absurd cc
 is_mark_of mark.CloseSquare o e = absurd cc
 
-pub operator_sound : (level : ℕ) (tokens : List Token) (o : BinOp) → operator_at level tokens ≡ Some o → (tokens ≡ Mark (mark_of o) ∷ drop 1 tokens) × (level_of o ≡ level)
+pub operator_sound : (level : ℕ) (tokens : List Token) (o : BinOp) → operator_at level tokens ≡ Some o
+    → (tokens ≡ Mark (mark_of o) ∷ drop 1 tokens) × (level_of o ≡ level)
 unfolding operator_at
 operator_sound level [] o e = absurd cc
 operator_sound level (Name name ∷ rest) o e = absurd cc
@@ -171,7 +176,8 @@ operator_sound level (Mark m ∷ rest) o e =
     let r = of_level_sound level (operator_of m) o e in
     (ap (λ (n : AnyMark). Mark n ∷ rest) (is_mark_of m o r.0), r.1)
   where
-    of_level_sound : (level : ℕ) (found : Option BinOp) (o : BinOp) → of_level level found ≡ Some o → (found ≡ Some o) × (level_of o ≡ level)
+    of_level_sound : (level : ℕ) (found : Option BinOp) (o : BinOp) → of_level level found ≡ Some o
+        → (found ≡ Some o) × (level_of o ≡ level)
     of_level_sound level None o e = absurd cc
     of_level_sound level (Some p) o e = picked (eqb (level_of p) level) refl e
       where

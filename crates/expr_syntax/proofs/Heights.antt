@@ -49,8 +49,10 @@ height-Plus e = ap height (sym (expr.rolls-Plus e)) ∙ fold-roll-Expr ℕ heigh
 pub height-Binary : (o : BinOp) (left right : Expr) → height (expr.Binary o left right) ≡ suc (max (height left) (height right))
 height-Binary o left right = ap height (sym (expr.rolls-Binary o left right)) ∙ fold-roll-Expr ℕ height_here (form.Binary o left right)
 
-pub height-Choose : (test first second : Expr) → height (expr.Choose test first second) ≡ suc (max (height test) (max (height first) (height second)))
-height-Choose test first second = ap height (sym (expr.rolls-Choose test first second)) ∙ fold-roll-Expr ℕ height_here (form.Choose test first second)
+pub height-Choose : (test first second : Expr)
+    → height (expr.Choose test first second) ≡ suc (max (height test) (max (height first) (height second)))
+height-Choose test first second =
+    ap height (sym (expr.rolls-Choose test first second)) ∙ fold-roll-Expr ℕ height_here (form.Choose test first second)
 
 pub height-Pair : (first second : Expr) → height (expr.Pair first second) ≡ suc (max (height first) (height second))
 height-Pair first second = ap height (sym (expr.rolls-Pair first second)) ∙ fold-roll-Expr ℕ height_here (form.Pair first second)
@@ -58,4 +60,22 @@ height-Pair first second = ap height (sym (expr.rolls-Pair first second)) ∙ fo
 pub height-Call : (code : ℕ) (arguments : List Expr) → height (expr.Call code arguments) ≡ suc (list_max (map height arguments))
 height-Call code arguments = ap height (sym (expr.rolls-Call code arguments)) ∙ fold-roll-Expr ℕ height_here (form.Call code arguments)
 
-pub ruleset heights = (height-Null, height-Flag, height-Number, height-Text, height-Field, height-Param, height-Member, height-Selected, height-Stored, height-DomainLength, height-Not, height-Minus, height-Plus, height-Binary, height-Choose, height-Pair, height-Call)
+pub ruleset heights = (
+  height-Null,
+  height-Flag,
+  height-Number,
+  height-Text,
+  height-Field,
+  height-Param,
+  height-Member,
+  height-Selected,
+  height-Stored,
+  height-DomainLength,
+  height-Not,
+  height-Minus,
+  height-Plus,
+  height-Binary,
+  height-Choose,
+  height-Pair,
+  height-Call,
+)

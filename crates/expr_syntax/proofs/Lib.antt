@@ -20,6 +20,8 @@ pub mod Primaries
 pub mod Complete
 pub mod Loops
 pub mod Readings
+pub mod Decided
+pub mod Expressed
 pub mod Folded
 pub mod Rewritten
 pub mod Named

@@ -1,5 +1,6 @@
 -- The mark at the front is the longest that stands there.
-use Rattle.std.proofs.Common.{◌≡◌, ℕ, ◌<◌, ◌≤◌, Bool, true, false, cond, eqb, ltb, ◌&&◌, List, [], ◌∷◌, ◌++◌, length, take, drop, get_or, Option, Some, refl, sym, ap, subst, ◌∙◌, arith, append_assoc, length-append, inl, inr, ◌⊎◌}
+use Rattle.std.proofs.Common.{◌≡◌, ℕ, ◌<◌, ◌≤◌, Bool, true, false, cond, eqb, ltb, ◌&&◌, List, [], ◌∷◌, ◌++◌, length, take, drop, get_or}
+use Rattle.std.proofs.Common.{Option, Some, refl, sym, ap, subst, ◌∙◌, arith, append_assoc, length-append, inl, inr, ◌⊎◌}
 use Rattle.std.specs.Prelude.{MatchOption}
 use Rattle.std.specs.List.{list_all}
 use Rattle.std.proofs.lemmas.Bool.Decides.{nat_tests}
@@ -52,8 +53,14 @@ found a b c =
     let P : Option AnyMark → Type 0 = Found a b c in
     either_way P (eqb a 124) _ _ (λ e. either_way P (eqb b 124) _ _ (λ f. (eqb-true a 124 e, eqb-true b 124 f)) (λ f. tt)) (λ n.
     either_way P (eqb a 38) _ _ (λ e. either_way P (eqb b 38) _ _ (λ f. (eqb-true a 38 e, eqb-true b 38 f)) (λ f. tt)) (λ n.
-    either_way P (eqb a 61) _ _ (λ e. either_way P (eqb b 61) _ _ (λ f. either_way P (eqb c 61) _ _ (λ g. (eqb-true a 61 e, eqb-true b 61 f, eqb-true c 61 g)) (λ g. (eqb-true a 61 e, eqb-true b 61 f))) (λ f. tt)) (λ n.
-    either_way P (eqb a 33) _ _ (λ e. either_way P (eqb b 61) _ _ (λ f. either_way P (eqb c 61) _ _ (λ g. (eqb-true a 33 e, eqb-true b 61 f, eqb-true c 61 g)) (λ g. (eqb-true a 33 e, eqb-true b 61 f))) (λ f. eqb-true a 33 e)) (λ n.
+    either_way P (eqb a 61) _ _
+    (λ e. either_way P (eqb b 61) _ _
+    (λ f. either_way P (eqb c 61) _ _ (λ g. (eqb-true a 61 e, eqb-true b 61 f, eqb-true c 61 g))
+    (λ g. (eqb-true a 61 e, eqb-true b 61 f))) (λ f. tt)) (λ n.
+    either_way P (eqb a 33) _ _
+    (λ e. either_way P (eqb b 61) _ _
+    (λ f. either_way P (eqb c 61) _ _ (λ g. (eqb-true a 33 e, eqb-true b 61 f, eqb-true c 61 g))
+    (λ g. (eqb-true a 33 e, eqb-true b 61 f))) (λ f. eqb-true a 33 e)) (λ n.
     either_way P (eqb a 60) _ _ (λ e. either_way P (eqb b 61) _ _ (λ f. (eqb-true a 60 e, eqb-true b 61 f)) (λ f. eqb-true a 60 e)) (λ n.
     either_way P (eqb a 62) _ _ (λ e. either_way P (eqb b 61) _ _ (λ f. (eqb-true a 62 e, eqb-true b 61 f)) (λ f. eqb-true a 62 e)) (λ n.
     either_way P (eqb a 43) _ _ (λ e. eqb-true a 43 e) (λ n.
@@ -82,11 +89,13 @@ opened_two : (x y : ℕ) (bytes : List ℕ) → 0 < x → 0 < y → get_or bytes
 opened_two x y [] some more e f = absurd (omega arith)
 opened_two x y (a ∷ bytes) some more e f = cc (e, opened_one y bytes more f)
 
-opened_three : (x y z : ℕ) (bytes : List ℕ) → 0 < x → 0 < y → 0 < z → get_or bytes 0 0 ≡ x → get_or bytes 1 0 ≡ y → get_or bytes 2 0 ≡ z → bytes ≡ x ∷ y ∷ z ∷ drop 3 bytes
+opened_three : (x y z : ℕ) (bytes : List ℕ) → 0 < x → 0 < y → 0 < z → get_or bytes 0 0 ≡ x → get_or bytes 1 0 ≡ y → get_or bytes 2 0 ≡ z
+    → bytes ≡ x ∷ y ∷ z ∷ drop 3 bytes
 opened_three x y z [] some more most e f g = absurd (omega arith)
 opened_three x y z (a ∷ bytes) some more most e f g = cc (e, opened_two y z bytes more most f g)
 
-opened : (word bytes : List ℕ) → list_all is_plain word ≡ true → Opens word (get_or bytes 0 0) (get_or bytes 1 0) (get_or bytes 2 0) → bytes ≡ word ++ drop (length word) bytes
+opened : (word bytes : List ℕ) → list_all is_plain word ≡ true → Opens word (get_or bytes 0 0) (get_or bytes 1 0) (get_or bytes 2 0)
+    → bytes ≡ word ++ drop (length word) bytes
 opened [] bytes plain opens = refl
 opened (x ∷ []) bytes plain opens = opened_one x bytes (plain_first x [] plain).0 opens
 opened (x ∷ y ∷ []) bytes plain opens =
@@ -115,7 +124,8 @@ at_least : (n m k : AnyMark) → length (mark_text n) ≤ length (mark_text m) �
 at_least n m k l e = subst (λ (x : AnyMark). length (mark_text n) ≤ length (mark_text x)) e l
 
 -- a mark at the front is no longer than the one that is found
-none_longer : (n : AnyMark) (more : List ℕ) (m : AnyMark) → mark_at (mark_text n ++ more) ≡ Some m → length (mark_text n) ≤ length (mark_text m)
+none_longer : (n : AnyMark) (more : List ℕ) (m : AnyMark) → mark_at (mark_text n ++ more) ≡ Some m
+    → length (mark_text n) ≤ length (mark_text m)
 unfolding mark_of
 none_longer Or more m e = at_least Or Or m (omega arith) (same_Some Or m e)
 none_longer And more m e = at_least And And m (omega arith) (same_Some And m e)
@@ -149,11 +159,14 @@ mark_found NotLike rest e = rw e refl
 mark_found m rest e = refl
 
 -- a longer mark begins with it, and with a `=`
-not_grown : (m longer : AnyMark) (rest : List ℕ) → mark_text longer ≡ mark_text m ++ 61 ∷ [] → IsLongest m (mark_text m ++ rest) → eqb (first rest) 61 ≡ false
+not_grown : (m longer : AnyMark) (rest : List ℕ) → mark_text longer ≡ mark_text m ++ 61 ∷ [] → IsLongest m (mark_text m ++ rest)
+    → eqb (first rest) 61 ≡ false
 not_grown m longer rest e longest = elim (cases_Bool (eqb (first rest) 61)) [
   | inl t ↦
       let there : rest ≡ 61 ∷ drop 1 rest = begins rest 61 (omega arith) (eqb-true _ _ t) in
-      let both : mark_text m ++ rest ≡ mark_text longer ++ drop 1 rest = ap (λ (r : List ℕ). mark_text m ++ r) there ∙ sym (append_assoc (mark_text m) (61 ∷ []) (drop 1 rest)) ∙ ap (λ (w : List ℕ). w ++ drop 1 rest) (sym e) in
+      let both : mark_text m ++ rest ≡ mark_text longer ++ drop 1 rest =
+      ap (λ (r : List ℕ). mark_text m ++ r) there ∙ sym (append_assoc (mark_text m) (61 ∷ []) (drop 1 rest))
+      ∙ ap (λ (w : List ℕ). w ++ drop 1 rest) (sym e) in
       absurd (omega (arith, longest longer (drop 1 rest) both, ap length e, length-append (mark_text m) (61 ∷ [])))
   | inr f ↦ f
 ]

@@ -3,12 +3,15 @@ use Rattle.std.proofs.Common.{◌≡◌, ℕ, zero, suc, List, [], ◌∷◌, ma
 use Rattle.case_table.specs.declared.case.Case.{Case}
 use Rattle.expr_syntax.specs.Writing.{the_name}
 
-named : (code : ℕ) (table : List Case) → option_map (λ (c : Case). c.name.now) (slice_get table code) ≡ slice_get (map (λ (c : Case). c.name.now) table) code
+named : (code : ℕ) (table : List Case)
+    → option_map (λ (c : Case). c.name.now) (slice_get table code) ≡ slice_get (map (λ (c : Case). c.name.now) table) code
 named code [] = refl
 named zero (c ∷ table) = refl
 named (suc code) (c ∷ table) = named code table
 
-pub name_at_place : (place code : ℕ) (table : List Case) (names : List (List ℕ)) → place ≡ code → map (λ (c : Case). c.name.now) table ≡ names
+pub name_at_place : (place code : ℕ) (table : List Case) (names : List (List ℕ)) → place ≡ code
+    → map (λ (c : Case). c.name.now) table ≡ names
     → the_name (option_map (λ (c : Case). c.name.now) (slice_get table place)) ≡ the_name (slice_get names code)
 name_at_place place code table names same e =
-    ap (λ (k : ℕ). the_name (option_map (λ (c : Case). c.name.now) (slice_get table k))) same ∙ ap the_name (named code table ∙ ap (λ (ns : List (List ℕ)). slice_get ns code) e)
+    ap (λ (k : ℕ). the_name (option_map (λ (c : Case). c.name.now) (slice_get table k))) same
+    ∙ ap the_name (named code table ∙ ap (λ (ns : List (List ℕ)). slice_get ns code) e)

@@ -29,18 +29,21 @@ read_sound text tokens e has h =
     let s = whole_sound tokens e h in
     record { tokens = tokens; spelled = has; is = s.0; low = s.1 }
 
-pub read_is_sound : (text : List ℕ) (tokens : List Token) (result : Result Expr ExprError) → HasTokens text tokens → GivesAs (λ e. e) cause result (whole_at tokens) → IfOk result (λ e. HasReading text e)
+pub read_is_sound : (text : List ℕ) (tokens : List Token) (result : Result Expr ExprError) → HasTokens text tokens
+    → GivesAs (λ e. e) cause result (whole_at tokens) → IfOk result (λ e. HasReading text e)
 read_is_sound text tokens (Ok e) has g = read_sound text tokens e has g
 read_is_sound text tokens (Err error) has g = tt
 
-pub read_complete : (text : List ℕ) (tokens : List Token) (result : Result Expr ExprError) → HasTokens text tokens → GivesAs (λ e. e) cause result (whole_at tokens) → (e : Expr) → HasReading text e → (result ≡ Ok e) ⊎ (result ≡ Err Memory)
+pub read_complete : (text : List ℕ) (tokens : List Token) (result : Result Expr ExprError) → HasTokens text tokens
+    → GivesAs (λ e. e) cause result (whole_at tokens) → (e : Expr) → HasReading text e → (result ≡ Ok e) ⊎ (result ≡ Err Memory)
 read_complete text tokens (Ok d) has g e r = inl (ap Ok (ok_is d e (sym g ∙ whole_read text tokens e has r)))
 read_complete text tokens (Err Memory) has g e r = inr refl
 read_complete text tokens (Err Shape) has g e r =
     let h = whole_read text tokens e has r in
     absurd cc
 
-pub read_shape : (text : List ℕ) (tokens : List Token) (result : Result Expr ExprError) → HasTokens text tokens → GivesAs (λ e. e) cause result (whole_at tokens) → result ≡ Err Shape → (e : Expr) → HasReading text e → ⊥
+pub read_shape : (text : List ℕ) (tokens : List Token) (result : Result Expr ExprError) → HasTokens text tokens
+    → GivesAs (λ e. e) cause result (whole_at tokens) → result ≡ Err Shape → (e : Expr) → HasReading text e → ⊥
 read_shape text tokens result has g same e r = elim (read_complete text tokens result has g e r) [
   | inl h ↦ cc
   | inr h ↦ cc
@@ -54,14 +57,19 @@ abbrev pub refused : ExprError → Result Expr ExprError
 refused error = Err error
 
 -- a text that has no tokens
-no_tokens : (text : List ℕ) (error : ExprError) → (refused_tokens error ≡ Err Shape → (tokens : List Token) → HasTokens text tokens → ⊥) → (e : Expr) → HasReading text e → error ≡ Memory
+no_tokens : (text : List ℕ) (error : ExprError) → (refused_tokens error ≡ Err Shape → (tokens : List Token) → HasTokens text tokens → ⊥)
+    → (e : Expr) → HasReading text e → error ≡ Memory
 no_tokens text Memory none e r = refl
 no_tokens text Shape none e r = absurd (none refl r.tokens r.spelled)
 
-pub refused_complete : (text : List ℕ) (error : ExprError) → (refused_tokens error ≡ Err Shape → (tokens : List Token) → HasTokens text tokens → ⊥) → (e : Expr) → HasReading text e → (refused error ≡ Ok e) ⊎ (refused error ≡ Err Memory)
+pub refused_complete : (text : List ℕ) (error : ExprError)
+    → (refused_tokens error ≡ Err Shape → (tokens : List Token) → HasTokens text tokens → ⊥) → (e : Expr) → HasReading text e
+    → (refused error ≡ Ok e) ⊎ (refused error ≡ Err Memory)
 refused_complete text error none e r = inr (ap refused (no_tokens text error none e r))
 
-pub refused_shape : (text : List ℕ) (error : ExprError) → (refused_tokens error ≡ Err Shape → (tokens : List Token) → HasTokens text tokens → ⊥) → refused error ≡ Err Shape → (e : Expr) → HasReading text e → ⊥
+pub refused_shape : (text : List ℕ) (error : ExprError)
+    → (refused_tokens error ≡ Err Shape → (tokens : List Token) → HasTokens text tokens → ⊥) → refused error ≡ Err Shape → (e : Expr)
+    → HasReading text e → ⊥
 refused_shape text error none same e r =
     let memory = no_tokens text error none e r in
     cc

@@ -1,5 +1,6 @@
 -- What is written of a tree that was read is related to that tree.
-use Rattle.std.proofs.Common.{◌≡◌, ℕ, zero, suc, ◌+◌, ◌≤◌, ◌<◌, max, ◌-◌, Bool, true, false, cond, get_or, List, [], ◌∷◌, ◌++◌, length, Some, refl, sym, ap, subst, ◌∙◌, arith}
+use Rattle.std.proofs.Common.{◌≡◌, ℕ, zero, suc, ◌+◌, ◌≤◌, ◌<◌, max, ◌-◌, Bool, true, false, cond, get_or, List, [], ◌∷◌, ◌++◌, length}
+use Rattle.std.proofs.Common.{Some, refl, sym, ap, subst, ◌∙◌, arith}
 use Rattle.std.specs.Prelude.{map, bytes_eq, slice_get}
 use Rattle.std.proofs.lemmas.List.{append-nil}
 use Rattle.std.proofs.lemmas.List.Quantifiers.{position-Some}
@@ -13,14 +14,18 @@ use Rattle.expr_syntax.specs.declared.expr.BinOp.{BinOp}
 use Rattle.expr_syntax.specs.declared.token.Token.{Token}
 use Rattle.expr_syntax.specs.declared.token.Token.TheVariants.{Name, Mark}
 use Rattle.expr_syntax.specs.declared.token.Mark.TheVariants as mark
-use Rattle.expr_syntax.specs.Grammar.{IsAt, AreArguments, number, text, truth, falsehood, null, field, quoted_field, parameter, member, call, pair, brackets, selected, stored, domain_length, not, minus, plus, binary, choice, tighter, last, more, height, list_max, mark_of, level_of, most_nesting, HasReading}
+use Rattle.expr_syntax.specs.Grammar.{IsAt, AreArguments, number, text, truth, falsehood, null, field, quoted_field, parameter, member}
+use Rattle.expr_syntax.specs.Grammar.{call, pair, brackets, selected, stored, domain_length, not, minus, plus, binary, choice, tighter}
+use Rattle.expr_syntax.specs.Grammar.{last, more, height, list_max, mark_of, level_of, most_nesting, HasReading}
 use Rattle.expr_syntax.specs.TokenText.{IsWritten, AreWritten}
 use Rattle.expr_syntax.specs.Writing.{Written, primary, as_part, with_commas, builtin_name, the_name, written, text_of}
 use Rattle.expr_syntax.proofs.Heights.{height-Not, height-Minus, height-Plus, height-Binary, height-Choose, height-Pair, height-Call}
 use Rattle.expr_syntax.proofs.Levels.{height-some}
 use Rattle.expr_syntax.proofs.Grounds.{bytes_true}
 use Rattle.expr_syntax.proofs.Complete.{level_low}
-use Rattle.expr_syntax.proofs.Folded.{written-Null, written-Flag, written-Number, written-Text, written-Field, written-Param, written-Member, written-Selected, written-Stored, written-DomainLength, written-Not, written-Minus, written-Plus, written-Binary, written-Choose, written-Pair, written-Call}
+use Rattle.expr_syntax.proofs.Folded.{written-Null, written-Flag, written-Number, written-Text, written-Field, written-Param}
+use Rattle.expr_syntax.proofs.Folded.{written-Member, written-Selected, written-Stored, written-DomainLength, written-Not, written-Minus}
+use Rattle.expr_syntax.proofs.Folded.{written-Plus, written-Binary, written-Choose, written-Pair, written-Call}
 use Rattle.expr_syntax.proofs.WrittenTokens.{written_has, read_written}
 
 -- ---- tokens that a word can be
@@ -40,7 +45,8 @@ back_written (t ∷ a) b u = back_written a b u.1
 -- ---- levels
 
 -- a form may stand where the loosest may
-loosest : (d level : ℕ) {nesting : ℕ} {tokens : List Token} {e : Expr} → level + d ≡ 8 → IsAt nesting level tokens e → IsAt nesting 8 tokens e
+loosest : (d level : ℕ) {nesting : ℕ} {tokens : List Token} {e : Expr} → level + d ≡ 8 → IsAt nesting level tokens e
+    → IsAt nesting 8 tokens e
 loosest zero level {nesting} {tokens} {e} same a =
     let is : level ≡ 8 = omega arith in
     let F : ℕ → Type 0 = λ l. IsAt nesting l tokens e in
@@ -84,7 +90,9 @@ part_valid : (b : Bool) (tokens : List Token) → AreWritten tokens → AreWritt
 part_valid true tokens v = v
 part_valid false tokens v = (tt, joined_written tokens (Mark mark.Close ∷ []) v (tt, tt))
 
-part_stands : (b : Bool) (tokens : List Token) (e : Expr) → (b ≡ false → 2 ≤ height e) → ((nesting : ℕ) → height e ≤ deep b nesting → IsAt nesting (place b) tokens e) → (nesting : ℕ) → height e ≤ suc nesting → IsAt nesting 0 (the_part tokens b) e
+part_stands : (b : Bool) (tokens : List Token) (e : Expr) → (b ≡ false → 2 ≤ height e)
+    → ((nesting : ℕ) → height e ≤ deep b nesting → IsAt nesting (place b) tokens e) → (nesting : ℕ) → height e ≤ suc nesting
+    → IsAt nesting 0 (the_part tokens b) e
 part_stands true tokens e high h nesting low = h nesting low
 part_stands false tokens e high h zero low = let two = high refl in absurd (omega arith)
 part_stands false tokens e high h (suc nesting) low = brackets nesting tokens e (h nesting low)
@@ -98,8 +106,10 @@ part_of {e} r =
     }
 
 -- a leaf
-leaf : {e : Expr} {tokens : List Token} → written e ≡ primary tokens → AreWritten tokens → ((nesting : ℕ) → IsAt nesting 0 tokens e) → Rewritten e
-leaf {e} {tokens} same valid at = record { tokens = tokens; is_primary = true; same = same; valid = valid; high = λ n. absurd cc; stands = λ nesting low. at nesting }
+leaf : {e : Expr} {tokens : List Token} → written e ≡ primary tokens → AreWritten tokens → ((nesting : ℕ) → IsAt nesting 0 tokens e)
+    → Rewritten e
+leaf {e} {tokens} same valid at =
+    record { tokens = tokens; is_primary = true; same = same; valid = valid; high = λ n. absurd cc; stands = λ nesting low. at nesting }
 
 not_again : (e : Expr) → Part e → Rewritten (expr.Not e)
 not_again e p = record {
@@ -108,7 +118,9 @@ not_again e p = record {
   same = written-Not e;
   valid = (tt, p.valid);
   high = λ n. let some = height-some e in rw (height-Not e) (omega arith);
-  stands = λ nesting low. loosest 7 1 (omega arith) (not nesting (as_part (written e)) e (lifted 1 (p.stands nesting (omega (arith, height-Not e)))));
+  stands =
+      λ nesting low.
+      loosest 7 1 (omega arith) (not nesting (as_part (written e)) e (lifted 1 (p.stands nesting (omega (arith, height-Not e)))));
 }
 
 minus_again : (e : Expr) → Part e → Rewritten (expr.Minus e)
@@ -118,7 +130,9 @@ minus_again e p = record {
   same = written-Minus e;
   valid = (tt, p.valid);
   high = λ n. let some = height-some e in rw (height-Minus e) (omega arith);
-  stands = λ nesting low. loosest 7 1 (omega arith) (minus nesting (as_part (written e)) e (lifted 1 (p.stands nesting (omega (arith, height-Minus e)))));
+  stands =
+      λ nesting low.
+      loosest 7 1 (omega arith) (minus nesting (as_part (written e)) e (lifted 1 (p.stands nesting (omega (arith, height-Minus e)))));
 }
 
 plus_again : (e : Expr) → Part e → Rewritten (expr.Plus e)
@@ -128,7 +142,9 @@ plus_again e p = record {
   same = written-Plus e;
   valid = (tt, p.valid);
   high = λ n. let some = height-some e in rw (height-Plus e) (omega arith);
-  stands = λ nesting low. loosest 7 1 (omega arith) (plus nesting (as_part (written e)) e (lifted 1 (p.stands nesting (omega (arith, height-Plus e)))));
+  stands =
+      λ nesting low.
+      loosest 7 1 (omega arith) (plus nesting (as_part (written e)) e (lifted 1 (p.stands nesting (omega (arith, height-Plus e)))));
 }
 
 binary_again : (o : BinOp) (left right : Expr) → Part left → Part right → Rewritten (expr.Binary o left right)
@@ -147,12 +163,14 @@ binary_again o left right p q =
       stands = λ nesting low. binary_stands nesting (p.stands nesting (omega arith)) (q.stands nesting (omega arith)) (level_of o) refl;
     }
   where
-    binary_stands : (nesting : ℕ) → IsAt nesting 0 (as_part (written left)) left → IsAt nesting 0 (as_part (written right)) right → (l : ℕ) → level_of o ≡ l → IsAt nesting 8 (as_part (written left) ++ Mark (mark_of o) ∷ as_part (written right)) (expr.Binary o left right)
+    binary_stands : (nesting : ℕ) → IsAt nesting 0 (as_part (written left)) left → IsAt nesting 0 (as_part (written right)) right → (l : ℕ)
+        → level_of o ≡ l → IsAt nesting 8 (as_part (written left) ++ Mark (mark_of o) ∷ as_part (written right)) (expr.Binary o left right)
     binary_stands nesting a b zero same = let level = level_low o in absurd (omega arith)
     binary_stands nesting a b (suc l) same =
         let level = level_low o in
         let gap : suc l + (7 - l) ≡ 8 = omega arith in
-        loosest (7 - l) (suc l) gap (binary nesting o l (as_part (written left)) (as_part (written right)) left right same (lifted (suc l) a) (lifted l b))
+        loosest (7 - l) (suc l) gap
+        (binary nesting o l (as_part (written left)) (as_part (written right)) left right same (lifted (suc l) a) (lifted l b))
 
 choice_again : (test first second : Expr) → Part test → Part first → Part second → Rewritten (expr.Choose test first second)
 choice_again test first second p q r =
@@ -166,15 +184,20 @@ choice_again test first second p q r =
       tokens = as_part (written test) ++ Mark mark.Question ∷ as_part (written first) ++ Mark mark.Colon ∷ as_part (written second);
       is_primary = false;
       same = written-Choose test first second;
-      valid = joined_written (as_part (written test) ++ Mark mark.Question ∷ as_part (written first)) (Mark mark.Colon ∷ as_part (written second))
+      valid =
+          joined_written (as_part (written test) ++ Mark mark.Question ∷ as_part (written first))
+          (Mark mark.Colon ∷ as_part (written second))
           (joined_written (as_part (written test)) (Mark mark.Question ∷ as_part (written first)) p.valid (tt, q.valid)) (tt, r.valid);
       high = λ n. omega arith;
       stands = λ nesting low. choice nesting (as_part (written test)) (as_part (written first)) (as_part (written second)) test first second
-          (lifted 7 (p.stands nesting (omega arith))) (lifted 8 (q.stands nesting (omega arith))) (lifted 8 (r.stands nesting (omega arith)));
+          (lifted 7 (p.stands nesting (omega arith))) (lifted 8 (q.stands nesting (omega arith)))
+          (lifted 8 (r.stands nesting (omega arith)));
     }
 
 -- brackets of a primary's own need one more
-within_brackets : (e : Expr) (tokens : List Token) → 2 ≤ height e → ((nesting : ℕ) → height e ≤ suc (suc nesting) → IsAt (suc nesting) 0 tokens e) → (nesting : ℕ) → height e ≤ suc nesting → IsAt nesting 0 tokens e
+within_brackets : (e : Expr) (tokens : List Token) → 2 ≤ height e
+    → ((nesting : ℕ) → height e ≤ suc (suc nesting) → IsAt (suc nesting) 0 tokens e) → (nesting : ℕ) → height e ≤ suc nesting
+    → IsAt nesting 0 tokens e
 within_brackets e tokens two h zero low = absurd (omega arith)
 within_brackets e tokens two h (suc nesting) low = h nesting low
 
@@ -190,10 +213,17 @@ pair_again first second p q =
       tokens = Mark mark.OpenSquare ∷ a ++ Mark mark.Comma ∷ b ++ Mark mark.CloseSquare ∷ [];
       is_primary = true;
       same = written-Pair first second;
-      valid = (tt, joined_written (a ++ Mark mark.Comma ∷ b) (Mark mark.CloseSquare ∷ []) (joined_written a (Mark mark.Comma ∷ b) p.valid (tt, q.valid)) (tt, tt));
+      valid = (
+        tt,
+        joined_written (a ++ Mark mark.Comma ∷ b) (Mark mark.CloseSquare ∷ [])
+            (joined_written a (Mark mark.Comma ∷ b) p.valid (tt, q.valid)) (tt, tt),
+      );
       high = λ n. absurd cc;
-      stands = within_brackets (expr.Pair first second) (Mark mark.OpenSquare ∷ a ++ Mark mark.Comma ∷ b ++ Mark mark.CloseSquare ∷ []) (omega arith)
-          (λ nesting low. pair nesting a b first second (lifted 8 (p.stands nesting (omega arith))) (lifted 8 (q.stands nesting (omega arith))));
+      stands =
+          within_brackets (expr.Pair first second) (Mark mark.OpenSquare ∷ a ++ Mark mark.Comma ∷ b ++ Mark mark.CloseSquare ∷ [])
+          (omega arith)
+          (λ nesting low.
+          pair nesting a b first second (lifted 8 (p.stands nesting (omega arith))) (lifted 8 (q.stands nesting (omega arith))));
     }
 
 -- ---- arguments
@@ -201,7 +231,8 @@ pair_again first second p q =
 record Arguments (arguments : List Expr) : Type 0 where
   some : 0 < length arguments
   valid : AreWritten (with_commas as_part (map written arguments))
-  stand : (nesting : ℕ) → list_max (map height arguments) ≤ suc nesting → AreArguments nesting (with_commas as_part (map written arguments)) arguments
+  stand : (nesting : ℕ) → list_max (map height arguments) ≤ suc nesting
+      → AreArguments nesting (with_commas as_part (map written arguments)) arguments
 
 last_again : (e : Expr) → Part e → Arguments (e ∷ [])
 last_again e p =
@@ -210,10 +241,14 @@ last_again e p =
     record {
       some = omega arith;
       valid = subst AreWritten (sym nothing) p.valid;
-      stand = λ nesting low. subst (λ w. AreArguments nesting w (e ∷ [])) (sym nothing) (last nesting (as_part (written e)) e (lifted 8 (p.stands nesting (omega arith))));
+      stand =
+          λ nesting low.
+          subst (λ w. AreArguments nesting w (e ∷ [])) (sym nothing)
+          (last nesting (as_part (written e)) e (lifted 8 (p.stands nesting (omega arith))));
     }
 
-commas-more : (e : Written) (others : List Written) → 0 < length others → with_commas as_part (e ∷ others) ≡ as_part e ++ Mark mark.Comma ∷ with_commas as_part others
+commas-more : (e : Written) (others : List Written) → 0 < length others
+    → with_commas as_part (e ∷ others) ≡ as_part e ++ Mark mark.Comma ∷ with_commas as_part others
 commas-more e [] some = absurd (omega arith)
 commas-more e (next ∷ others) some = refl
 
@@ -226,7 +261,10 @@ more_again e (next ∷ others) p r =
     record {
       some = omega arith;
       valid = joined_written (as_part (written e)) (Mark mark.Comma ∷ back) p.valid (tt, r.valid);
-      stand = λ nesting low. more nesting (as_part (written e)) back e (next ∷ others) (lifted 8 (p.stands nesting (omega arith))) (r.stand nesting (omega arith));
+      stand =
+          λ nesting low.
+          more nesting (as_part (written e)) back e (next ∷ others) (lifted 8 (p.stands nesting (omega arith)))
+          (r.stand nesting (omega arith));
     }
 
 named : (names : List (List ℕ)) (name : List ℕ) (code : ℕ) → index_of names name ≡ Some code → slice_get names code ≡ Some name
@@ -234,7 +272,8 @@ named names name code e =
     let p = position-Some (λ n. bytes_eq n name) names code [] e in
     slice_get-get_or names code [] p.0 ∙ ap Some (bytes_true (get_or names code []) name p.1)
 
-call_again : (name : List ℕ) (code : ℕ) (arguments : List Expr) → index_of builtins name ≡ Some code → admits code (length arguments) ≡ true → IsWritten (Name name) → Arguments arguments → Rewritten (expr.Call code arguments)
+call_again : (name : List ℕ) (code : ℕ) (arguments : List Expr) → index_of builtins name ≡ Some code → admits code (length arguments) ≡ true
+    → IsWritten (Name name) → Arguments arguments → Rewritten (expr.Call code arguments)
 call_again name code arguments known admitted valid r =
     let is : builtin_name code ≡ name = ap the_name (named builtins name code known) in
     let high = height-Call code arguments in
@@ -270,10 +309,12 @@ mutual
   rewritten (quoted_field n name) v = leaf (written-Field name) v (λ nesting. quoted_field nesting name)
   rewritten (parameter n name free) v = leaf (written-Param name) v (λ nesting. parameter nesting name free)
   rewritten (member n name f free) v = leaf (written-Member name f) v (λ nesting. member nesting name f free)
-  rewritten (call n name code inside arguments known admitted are) v = call_again name code arguments known admitted v.0 (arguments_again are (front_written inside (Mark mark.Close ∷ []) v.1.1))
+  rewritten (call n name code inside arguments known admitted are) v =
+      call_again name code arguments known admitted v.0 (arguments_again are (front_written inside (Mark mark.Close ∷ []) v.1.1))
   rewritten (pair n front back first second a b) v =
       let whole = front_written (front ++ Mark mark.Comma ∷ back) (Mark mark.CloseSquare ∷ []) v.1 in
-      pair_again first second (part_of (rewritten a (front_written front (Mark mark.Comma ∷ back) whole))) (part_of (rewritten b (back_written front (Mark mark.Comma ∷ back) whole).1))
+      pair_again first second (part_of (rewritten a (front_written front (Mark mark.Comma ∷ back) whole)))
+      (part_of (rewritten b (back_written front (Mark mark.Comma ∷ back) whole).1))
   rewritten (brackets n inside e a) v = rewritten a (front_written inside (Mark mark.Close ∷ []) v.1)
   rewritten (selected n p) v = leaf (written-Selected p) v (λ nesting. selected nesting p)
   rewritten (stored n p) v = leaf (written-Stored p) v (λ nesting. stored nesting p)
@@ -282,19 +323,26 @@ mutual
   rewritten (minus n operand e a) v = minus_again e (part_of (rewritten a v.1))
   rewritten (plus n operand e a) v = plus_again e (part_of (rewritten a v.1))
   rewritten (binary n o tight front back left right same a b) v =
-      binary_again o left right (part_of (rewritten a (front_written front (Mark (mark_of o) ∷ back) v))) (part_of (rewritten b (back_written front (Mark (mark_of o) ∷ back) v).1))
+      binary_again o left right (part_of (rewritten a (front_written front (Mark (mark_of o) ∷ back) v)))
+      (part_of (rewritten b (back_written front (Mark (mark_of o) ∷ back) v).1))
   rewritten (choice n a b c test first second ia ib ic) v =
       let ab = front_written (a ++ Mark mark.Question ∷ b) (Mark mark.Colon ∷ c) v in
-      choice_again test first second (part_of (rewritten ia (front_written a (Mark mark.Question ∷ b) ab))) (part_of (rewritten ib (back_written a (Mark mark.Question ∷ b) ab).1)) (part_of (rewritten ic (back_written (a ++ Mark mark.Question ∷ b) (Mark mark.Colon ∷ c) v).1))
+      choice_again test first second (part_of (rewritten ia (front_written a (Mark mark.Question ∷ b) ab)))
+      (part_of (rewritten ib (back_written a (Mark mark.Question ∷ b) ab).1))
+      (part_of (rewritten ic (back_written (a ++ Mark mark.Question ∷ b) (Mark mark.Colon ∷ c) v).1))
   rewritten (tighter n level tokens e a) v = rewritten a v
 
-  arguments_again : {nesting : ℕ} {tokens : List Token} {arguments : List Expr} → AreArguments nesting tokens arguments → AreWritten tokens → Arguments arguments
+  arguments_again : {nesting : ℕ} {tokens : List Token} {arguments : List Expr} → AreArguments nesting tokens arguments → AreWritten tokens
+      → Arguments arguments
   arguments_again (last n tokens e a) v = last_again e (part_of (rewritten a v))
-  arguments_again (more n front back e others a are) v = more_again e others (part_of (rewritten a (front_written front (Mark mark.Comma ∷ back) v))) (arguments_again are (back_written front (Mark mark.Comma ∷ back) v).1)
+  arguments_again (more n front back e others a are) v =
+      more_again e others (part_of (rewritten a (front_written front (Mark mark.Comma ∷ back) v)))
+      (arguments_again are (back_written front (Mark mark.Comma ∷ back) v).1)
 
 -- ---- all of a text
 
-stands_loosest : (b : Bool) (tokens : List Token) (e : Expr) → ((nesting : ℕ) → height e ≤ deep b nesting → IsAt nesting (place b) tokens e) → (nesting : ℕ) → height e ≤ nesting → IsAt nesting 8 tokens e
+stands_loosest : (b : Bool) (tokens : List Token) (e : Expr) → ((nesting : ℕ) → height e ≤ deep b nesting → IsAt nesting (place b) tokens e)
+    → (nesting : ℕ) → height e ≤ nesting → IsAt nesting 8 tokens e
 stands_loosest true tokens e h nesting low = lifted 8 (h nesting (omega arith))
 stands_loosest false tokens e h nesting low = h nesting (omega arith)
 

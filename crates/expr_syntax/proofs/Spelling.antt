@@ -23,7 +23,8 @@ begins_with_digit : (n : ℕ) → n ≤ limit → is_ascii_digit (get_or (spelli
 unfolding spelling size_spelling
 begins_with_digit n h =
     let small : n / million < 2 ^ 64 = omega arith in
-    first_digit (decimal (n / million)) (fraction_spelling (n % million)) (decimal_nonempty (n / million) small) (digits_decimal own (n / million) small)
+    first_digit (decimal (n / million)) (fraction_spelling (n % million)) (decimal_nonempty (n / million) small)
+    (digits_decimal own (n / million) small)
 
 digit_no_minus : (b : ℕ) → is_ascii_digit b ≡ true → b ≢ 45
 digit_no_minus b e same = absurd (grind (arith, nat_tests))

@@ -14,12 +14,14 @@ bind_ok (Ok x) f y e = record { value = x; is = refl; then = e }
 bind_ok (Err d) f y e = absurd cc
 
 -- the same, handed on
-pub step : {A B C : Type 0} (r : Result A (Unit {0})) (f : A → Result B (Unit {0})) (y : B) → (r >>= f) ≡ Ok y → ((x : A) → r ≡ Ok x → f x ≡ Ok y → C) → C
+pub step : {A B C : Type 0} (r : Result A (Unit {0})) (f : A → Result B (Unit {0})) (y : B) → (r >>= f) ≡ Ok y
+    → ((x : A) → r ≡ Ok x → f x ≡ Ok y → C) → C
 step (Ok x) f y e k = k x refl e
 step (Err d) f y e k = absurd cc
 
 -- a test and what was done where it held, handed on
-pub test : {A C : Type 0} (b : Bool) (x y : Result A (Unit {0})) (z : A) → cond b x y ≡ Ok z → (b ≡ true → x ≡ Ok z → C) → (b ≡ false → y ≡ Ok z → C) → C
+pub test : {A C : Type 0} (b : Bool) (x y : Result A (Unit {0})) (z : A) → cond b x y ≡ Ok z → (b ≡ true → x ≡ Ok z → C)
+    → (b ≡ false → y ≡ Ok z → C) → C
 test true x y z e k l = k refl e
 test false x y z e k l = l refl e
 
@@ -48,9 +50,12 @@ pub record Takes {A : Type 0} (P : A → List Token → Type 0) (tokens : List T
 abbrev pub Sound : {A : Type 0} → (A → List Token → Type 0) → (List Token → Read A) → Type 0
 Sound {A} P element = (tokens : List Token) (x : A × List Token) → element tokens ≡ Ok x → Takes P tokens x
 
-pub Takes-at : {A : Type 0} (P : A → List Token → Type 0) (tokens : List Token) (x y : A × List Token) → done x ≡ done y → Takes P tokens x → Takes P tokens y
+pub Takes-at : {A : Type 0} (P : A → List Token → Type 0) (tokens : List Token) (x y : A × List Token) → done x ≡ done y → Takes P tokens x
+    → Takes P tokens y
 Takes-at P tokens x y e t = subst (λ z. Takes P tokens z) (ok_is x y e) t
 
 -- the same front, read as something else
-pub retaken : {A B : Type 0} (P : A → List Token → Type 0) (Q : B → List Token → Type 0) (tokens : List Token) (x : A × List Token) (y : B × List Token) → (b : B) → done (b, x.1) ≡ done y → ((front : List Token) → P x.0 front → Q b front) → Takes P tokens x → Takes Q tokens y
+pub retaken : {A B : Type 0} (P : A → List Token → Type 0) (Q : B → List Token → Type 0) (tokens : List Token) (x : A × List Token)
+    (y : B × List Token) → (b : B) → done (b, x.1) ≡ done y → ((front : List Token) → P x.0 front → Q b front) → Takes P tokens x
+    → Takes Q tokens y
 retaken P Q tokens x y b e q t = Takes-at Q tokens (b, x.1) y e (record { front = t.front; parts = t.parts; is = q t.front t.is })

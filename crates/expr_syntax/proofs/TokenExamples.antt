@@ -14,11 +14,13 @@ use Rattle.expr_syntax.proofs.Steps.{done}
 use Rattle.expr_syntax.proofs.TokenLemmas.{has_token, none_has}
 
 an_exponent : token_at (codes "1e+5") ≡ done (Number (pos 100000000000), [])
-unfolding token_at number_at parts_of parts_at whole_at fraction_at exponent_at signed_at digits_at leading_digits after_digits value_of scaled rounded floor_quotient
+unfolding token_at number_at parts_of parts_at whole_at fraction_at exponent_at signed_at digits_at leading_digits after_digits value_of
+    scaled rounded floor_quotient
 an_exponent = refl
 
 five : token_at (codes "5-x") ≡ done (Number (pos 5000000), codes "-x")
-unfolding token_at number_at parts_of parts_at whole_at fraction_at exponent_at signed_at digits_at leading_digits after_digits value_of scaled rounded floor_quotient
+unfolding token_at number_at parts_of parts_at whole_at fraction_at exponent_at signed_at digits_at leading_digits after_digits value_of
+    scaled rounded floor_quotient
 five = refl
 
 minus : token_at (codes "-x") ≡ done (Mark Minus, codes "x")
@@ -33,7 +35,8 @@ one_number : HasTokens (codes "1e+5") (Number (pos 100000000000) ∷ [])
 one_number = has_token (codes "1e+5") [] (Number (pos 100000000000), []) an_exponent none
 
 a_point_and_a_letter : token_at (codes "1.x") ≡ Err tt
-unfolding token_at number_at parts_of parts_at whole_at fraction_at exponent_at signed_at digits_at leading_digits after_digits value_of scaled rounded floor_quotient
+unfolding token_at number_at parts_of parts_at whole_at fraction_at exponent_at signed_at digits_at leading_digits after_digits value_of
+    scaled rounded floor_quotient
 a_point_and_a_letter = refl
 
 no_tokens : (ts : List Token) → HasTokens (codes "1.x") ts → ⊥
@@ -42,4 +45,5 @@ no_tokens ts h = none_has (codes "1.x") ts h (omega arith) refl a_point_and_a_le
 a_difference : HasTokens (codes "5-x") (Number (pos 5000000) ∷ Mark Minus ∷ Name (codes "x") ∷ [])
 a_difference =
     has_token (codes "5-x") (Mark Minus ∷ Name (codes "x") ∷ []) (Number (pos 5000000), codes "-x") five
-    (has_token (codes "-x") (Name (codes "x") ∷ []) (Mark Minus, codes "x") minus (has_token (codes "x") [] (Name (codes "x"), []) name none))
+    (has_token (codes "-x") (Name (codes "x") ∷ []) (Mark Minus, codes "x") minus
+    (has_token (codes "x") [] (Name (codes "x"), []) name none))

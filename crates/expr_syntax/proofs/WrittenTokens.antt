@@ -1,5 +1,6 @@
 -- The text of tokens has these tokens, and tokens that were read can be written.
-use Rattle.std.proofs.Common.{◌≡◌, ◌≢◌, ℕ, ◌<◌, Bool, true, false, cond, ◌||◌, ◌&&◌, List, [], ◌∷◌, ◌++◌, length, get_or, ℤ, pos, negsuc, refl, sym, ap, subst, ◌∙◌, arith, inl}
+use Rattle.std.proofs.Common.{◌≡◌, ◌≢◌, ℕ, ◌<◌, Bool, true, false, cond, ◌||◌, ◌&&◌, List, [], ◌∷◌, ◌++◌, length, get_or, ℤ, pos, negsuc}
+use Rattle.std.proofs.Common.{refl, sym, ap, subst, ◌∙◌, arith, inl}
 use Rattle.std.specs.Prelude.{◌≤ℤ◌, ◌+ℤ◌, ◌-ℤ◌, flat_map}
 use Rattle.std.proofs.lemmas.Int.{ints}
 use Rattle.std.proofs.lemmas.Bool.{false≢true}
@@ -10,7 +11,8 @@ use Rattle.fixed_num.proofs.RoundTripLemmas.{written_is_read}
 use Rattle.expr_syntax.specs.declared.token.Token.{Token}
 use Rattle.expr_syntax.specs.declared.token.Token.TheVariants.{Name, Number, Quoted, Mark}
 use Rattle.expr_syntax.specs.Tokens.{mark_text, IsToken, name, number, quoted, mark, MayFollow, HasTokens, none, blank, token}
-use Rattle.expr_syntax.specs.TokenText.{escaped, token_text, IsWritten, AreWritten, ends_operand, grows, clings, is_apart, text_after, text_of_tokens}
+use Rattle.expr_syntax.specs.TokenText.{escape_in_text, token_text, IsWritten, AreWritten, ends_operand, grows, clings, is_apart}
+use Rattle.expr_syntax.specs.TokenText.{text_after, text_of_tokens}
 use Rattle.expr_syntax.specs.inner.Scanner.{first}
 use Rattle.expr_syntax.proofs.Marks.{mark_found, mark_longest}
 use Rattle.expr_syntax.proofs.Numbers.{minus_of}
@@ -23,7 +25,7 @@ use Rattle.expr_syntax.proofs.TokenLemmas.{token_some}
 written_word : (t : Token) → IsWritten t → IsToken (token_text t) t
 written_word (Name word) w = name word w
 written_word (Number m) w = number (spelling m) m (written_is_read m w.0) w.0 (no_minus m w.0 w.1)
-written_word (Quoted text) w = quoted 39 (flat_map escaped text) text (inl refl) (text_means text)
+written_word (Quoted text) w = quoted 39 (flat_map escape_in_text text) text (inl refl) (text_means text)
 written_word (Mark m) w = mark m
 
 -- ---- what may follow it
@@ -64,16 +66,22 @@ same_first [] rest some = absurd (omega arith)
 same_first (b ∷ word) rest some = refl
 
 -- a token before what follows it, with a blank between them or none
-put_before : (t : Token) (gap : Bool) (front tail : List ℕ) (ts : List Token) → IsWritten t → 0 < length front → (gap ≡ false → clings t (first front) ≡ false) → HasTokens (front ++ tail) ts → HasTokens (token_text t ++ ((cond gap (32 ∷ []) [] ++ front) ++ tail)) (t ∷ ts)
+put_before : (t : Token) (gap : Bool) (front tail : List ℕ) (ts : List Token) → IsWritten t → 0 < length front
+    → (gap ≡ false → clings t (first front) ≡ false) → HasTokens (front ++ tail) ts
+    → HasTokens (token_text t ++ ((cond gap (32 ∷ []) [] ++ front) ++ tail)) (t ∷ ts)
 put_before t true front tail ts w some free h =
-    token (token_text t) (32 ∷ (front ++ tail)) t ts (written_word t w) (free_follows t (32 ∷ (front ++ tail)) (blank_free t)) (blank 32 (front ++ tail) ts refl h)
+    token (token_text t) (32 ∷ (front ++ tail)) t ts (written_word t w) (free_follows t (32 ∷ (front ++ tail)) (blank_free t))
+    (blank 32 (front ++ tail) ts refl h)
 put_before t false front tail ts w some free h =
-    token (token_text t) (front ++ tail) t ts (written_word t w) (free_follows t (front ++ tail) (ap (clings t) (same_first front tail some) ∙ free refl)) h
+    token (token_text t) (front ++ tail) t ts (written_word t w)
+    (free_follows t (front ++ tail) (ap (clings t) (same_first front tail some) ∙ free refl)) h
 
-after_has : (after : Bool) (t : Token) (us : List Token) → IsWritten t → AreWritten us → HasTokens (token_text t ++ text_after after t us) (t ∷ us)
+after_has : (after : Bool) (t : Token) (us : List Token) → IsWritten t → AreWritten us
+    → HasTokens (token_text t ++ text_after after t us) (t ∷ us)
 after_has after t [] w ws = token (token_text t) [] t [] (written_word t w) (free_follows t [] (end_free t)) none
 after_has after t (u ∷ us) w ws =
-    put_before t (is_apart after t u) (token_text u) (text_after (ends_operand t) u us) (u ∷ us) w (token_some (token_text u) u (written_word u ws.0)) (or_false _ _) (after_has (ends_operand t) u us ws.0 ws.1)
+    put_before t (is_apart after t u) (token_text u) (text_after (ends_operand t) u us) (u ∷ us) w
+    (token_some (token_text u) u (written_word u ws.0)) (or_false _ _) (after_has (ends_operand t) u us ws.0 ws.1)
 
 -- the text of tokens has these tokens
 pub written_has : (ts : List Token) → AreWritten ts → HasTokens (text_of_tokens ts) ts
@@ -94,7 +102,8 @@ value_up : (p : Parts) → p.minus ≡ false → pos 0 ≤ℤ value_of p
 unfolding value_of
 value_up p e =
     let n = number_of (p.whole ++ p.fraction) in
-    subst (λ (b : Bool). pos 0 ≤ℤ scaled (signed b n) (p.exponent -ℤ pos (length p.fraction) +ℤ pos 6)) (sym e) (scaled_up n (p.exponent -ℤ pos (length p.fraction) +ℤ pos 6))
+    subst (λ (b : Bool). pos 0 ≤ℤ scaled (signed b n) (p.exponent -ℤ pos (length p.fraction) +ℤ pos 6)) (sym e)
+    (scaled_up n (p.exponent -ℤ pos (length p.fraction) +ℤ pos 6))
 
 not_below : (word : List ℕ) (m : ℤ) → Reads word m → get_or word 0 0 ≢ 45 → pos 0 ≤ℤ m
 not_below word m r u = subst (λ (n : ℤ). pos 0 ≤ℤ n) (sym r.2) (value_up r.0 (minus_of word r.0 r.1 u))

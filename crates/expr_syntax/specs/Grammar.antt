@@ -1,6 +1,7 @@
 -- Which tokens are which tree. A level is a row of the table of forms, from the tightest to the loosest:
 --   0 primary · 1 `! - +` · 2 `* / %` · 3 `+ -` · 4 `< <= > >=` · 5 `== != === !==` · 6 `&&` · 7 `||` · 8 `e ? e : e`
-use Rattle.std.specs.Prelude.{◌≡◌, ℕ, suc, ◌≤◌, max, List, [], ◌∷◌, ◌++◌, length, codes, ℤ, Bool, true, false, IsTrue, Some, ◌||◌, bytes_eq, refl}
+use Rattle.std.specs.Prelude.{◌≡◌, ℕ, suc, ◌≤◌, max, List, [], ◌∷◌, ◌++◌, length, codes, ℤ, Bool, true, false, IsTrue, Some, ◌||◌, bytes_eq}
+use Rattle.std.specs.Prelude.{refl}
 use Rattle.case_table.specs.Names.{index_of, builtins}
 use Rattle.case_table.specs.Arguments.{admits}
 use Rattle.expr_syntax.specs.declared.expr.Expr.{Expr, Expr-F, fold-Expr}

@@ -1,17 +1,19 @@
 -- The text of tokens, with blanks where it reads well and where two tokens would run together.
-use Rattle.std.specs.Prelude.{◌≡◌, ℕ, List, [], ◌∷◌, ◌++◌, codes, pos, ◌≤ℤ◌, slice_index, Bool, true, false, ◌&&◌, ◌||◌, ◌==◌, if◌then◌else◌, flat_map, refl}
+use Rattle.std.specs.Prelude.{◌≡◌, ℕ, List, [], ◌∷◌, ◌++◌, codes, pos, ◌≤ℤ◌, slice_index, Bool, true, false, ◌&&◌, ◌||◌, ◌==◌}
+use Rattle.std.specs.Prelude.{if◌then◌else◌, flat_map, refl}
 use Rattle.std.specs.List.{AllByRecursion}
 use Rattle.fixed_num.specs.Number.{IsNumber}
 use Rattle.fixed_num.specs.Decimal.{spelling}
 use Rattle.expr_syntax.specs.declared.token.Token.{Token}
 use Rattle.expr_syntax.specs.declared.token.Token.TheVariants.{Name, Number, Quoted, Mark}
 use Rattle.expr_syntax.specs.declared.token.Mark.{Mark as AnyMark}
-use Rattle.expr_syntax.specs.declared.token.Mark.TheVariants.{Like, NotLike, Less, More, Minus, Not, Comma, Point, Open, Close, OpenSquare, CloseSquare}
+use Rattle.expr_syntax.specs.declared.token.Mark.TheVariants.{Like, NotLike, Less, More, Minus, Not, Comma, Point, Open, Close, OpenSquare}
+use Rattle.expr_syntax.specs.declared.token.Mark.TheVariants.{CloseSquare}
 use Rattle.expr_syntax.specs.Tokens.{IsName, is_name_byte, mark_text}
 
 -- a byte of a text between two `'`: `\`, `'`, line feed, tab and carriage return as escapes, and any other as it is
-abbrev pub escaped : ℕ → List ℕ
-escaped byte =
+abbrev pub escape_in_text : ℕ → List ℕ
+escape_in_text byte =
     if byte == 92 then codes "\\\\"
     else (if byte == 39 then codes "\\'"
     else (if byte == 10 then codes "\\n"
@@ -21,7 +23,7 @@ escaped byte =
 
 -- a text between two `'`
 abbrev pub quoted_text : List ℕ → List ℕ
-quoted_text text = 39 ∷ flat_map escaped text ++ 39 ∷ []
+quoted_text text = 39 ∷ flat_map escape_in_text text ++ 39 ∷ []
 
 -- how a token is written
 abbrev pub token_text : Token → List ℕ

@@ -1,5 +1,6 @@
 -- Which bytes have which tokens: names, numbers, texts between quotes and marks, with blanks between them.
-use Rattle.std.specs.Prelude.{◌≡◌, ◌≢◌, ◌⊎◌, ℕ, ◌≤◌, List, [], ◌∷◌, ◌++◌, length, slice_index, codes, ℤ, Bool, false, IsTrue, ◌||◌, ◌==◌, if◌then◌else◌, Option, Some, None, refl}
+use Rattle.std.specs.Prelude.{◌≡◌, ◌≢◌, ◌⊎◌, ℕ, ◌≤◌, List, [], ◌∷◌, ◌++◌, length, slice_index, codes, ℤ, Bool, false, IsTrue, ◌||◌, ◌==◌}
+use Rattle.std.specs.Prelude.{if◌then◌else◌, Option, Some, None, refl}
 use Rattle.std.specs.List.{AllByRecursion}
 use Rattle.std.specs.Char.{is_ascii_digit, is_ascii_alphabetic}
 use Rattle.fixed_num.specs.Number.{IsNumber}
@@ -7,7 +8,9 @@ use Rattle.fixed_num.specs.JsonNumber.{Reads}
 use Rattle.expr_syntax.specs.declared.token.Token.{Token}
 use Rattle.expr_syntax.specs.declared.token.Token.TheVariants.{Name, Number, Quoted, Mark}
 use Rattle.expr_syntax.specs.declared.token.Mark.{Mark as AnyMark}
-use Rattle.expr_syntax.specs.declared.token.Mark.TheVariants.{Or, And, Like, NotLike, Same, NotSame, Less, LessSame, More, MoreSame, Plus, Minus, Times, Over, Percent, Not, Question, Colon, Comma, Point, Open, Close, OpenSquare, CloseSquare}
+use Rattle.expr_syntax.specs.declared.token.Mark.TheVariants.{Or, And, Like, NotLike, Same, NotSame, Less, LessSame, More, MoreSame, Plus}
+use Rattle.expr_syntax.specs.declared.token.Mark.TheVariants.{Minus, Times, Over, Percent, Not, Question, Colon, Comma, Point, Open, Close}
+use Rattle.expr_syntax.specs.declared.token.Mark.TheVariants.{OpenSquare, CloseSquare}
 
 -- space, tab, line feed, carriage return
 abbrev pub is_blank : ℕ → Bool
@@ -54,8 +57,8 @@ mark_text OpenSquare = codes "["
 mark_text CloseSquare = codes "]"
 
 -- the byte that `\` and a letter stand for: `\\ \' \" \n \t \r`
-abbrev pub escape_of : ℕ → Option ℕ
-escape_of letter =
+abbrev pub unescape : ℕ → Option ℕ
+unescape letter =
     if letter == 92 then Some 92
     else (if letter == 39 then Some 39
     else (if letter == 34 then Some 34
@@ -69,7 +72,7 @@ pub data Means (quote : ℕ) : List ℕ → List ℕ → Type 0 where
   nothing : Means quote [] []
   itself : (byte : ℕ) (inside text : List ℕ) → byte ≢ quote → byte ≢ 92 → Means quote inside text
       → Means quote (byte ∷ inside) (byte ∷ text)
-  escape : (letter byte : ℕ) (inside text : List ℕ) → escape_of letter ≡ Some byte → Means quote inside text
+  escape : (letter byte : ℕ) (inside text : List ℕ) → unescape letter ≡ Some byte → Means quote inside text
       → Means quote (92 ∷ letter ∷ inside) (byte ∷ text)
 
 -- the word is the token: a name, a JSON number in range without a sign, a text between two `'` or two `"`, or a mark
@@ -108,8 +111,8 @@ pub data HasTokens : List ℕ → List Token → Type 0 where
 a_dollar_and_a_digit : IsName (codes "$1")
 a_dollar_and_a_digit = (refl, (refl, tt))
 
-a_line_feed : escape_of 110 ≡ Some 10
+a_line_feed : unescape 110 ≡ Some 10
 a_line_feed = refl
 
-no_other_escape : escape_of 98 ≡ None
+no_other_escape : unescape 98 ≡ None
 no_other_escape = refl

@@ -1,2 +1,3 @@
 pub mod Scanner
 pub mod Parser
+pub mod Expression

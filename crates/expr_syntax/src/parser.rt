@@ -7,7 +7,9 @@ ghost use Rattle.text_kit.specs.Answer.{GivesAs};
 ghost use Rattle.expr_syntax.specs.declared.expr.Expr.TheVariants.{Choose, Binary, Pair};
 ghost use Rattle.expr_syntax.specs.Grammar.{height, level_of, list_max};
 ghost use Rattle.expr_syntax.specs.inner.Scanner.{cause};
-ghost use Rattle.expr_syntax.specs.inner.Parser.{operator_at, arguments_at, most_arguments, called_at, named_at, pair_at, primary_at, unary_at, branches_at, choice_at, joined_at, chain_at, builtin_at, call_at, tree_at, inside_of, whole_at};
+ghost use Rattle.expr_syntax.specs.inner.Parser.{operator_at, arguments_at, most_arguments, called_at, named_at, pair_at, primary_at};
+ghost use Rattle.expr_syntax.specs.inner.Parser.{unary_at, branches_at, choice_at, joined_at, chain_at, builtin_at, call_at, tree_at};
+ghost use Rattle.expr_syntax.specs.inner.Parser.{inside_of, whole_at};
 
 use crate::errors::ExprError;
 use crate::expr::{BinOp, Expr};

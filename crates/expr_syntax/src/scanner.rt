@@ -4,7 +4,7 @@ ghost use Rattle.std.specs.Prelude.{◌≡◌, List, IfOk, IsErrOf, take, drop, 
 ghost use Rattle.std.specs.List.{prefix_len};
 ghost use Rattle.text_kit.specs.Answer.{GivesAs};
 ghost use Rattle.expr_syntax.specs.declared.errors.ExprError.TheVariants.{Shape};
-ghost use Rattle.expr_syntax.specs.Tokens.{is_blank, is_name_start, is_name_byte, escape_of, HasTokens};
+ghost use Rattle.expr_syntax.specs.Tokens.{is_blank, is_name_start, is_name_byte, unescape, HasTokens};
 ghost use Rattle.expr_syntax.specs.inner.Scanner.{cause, first, mark_of, mark_at, after_mark, belongs, is_exponent_mark};
 ghost use Rattle.expr_syntax.specs.inner.Scanner.{number_len, number_at, inside_at, as_quoted, name_at, is_quote, token_at};
 ghost use Rattle.expr_syntax.specs.declared.token.Token.{Token as AnyToken};
@@ -149,8 +149,8 @@ fn number_at(text: &str) -> Result<(Token, &str), ExprError>
 }
 
 // The character that `\` and a letter stand for.
-fn escape_of(letter: char) -> Option<char>
-    ensures { result ≡ escape_of letter }
+fn unescape(letter: char) -> Option<char>
+    ensures { result ≡ unescape letter }
 {
     match letter {
         '\\' | '\'' | '"' => Some(letter),
@@ -170,7 +170,7 @@ fn inside_at(alloc: Global, quote: char, text: &str) -> Result<(Text, &str), Exp
     let mut escaped = false;
     for (i, c) in text.char_indices() {
         if escaped {
-            match escape_of(c) {
+            match unescape(c) {
                 Some(meant) => out.push(meant)?,
                 None => return Err(ExprError::Shape),
             }

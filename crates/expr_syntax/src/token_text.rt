@@ -2,7 +2,7 @@
 
 ghost use Rattle.std.specs.Prelude.{◌≡◌, ◌++◌, encode_utf8, flat_map, slice_index, IfOk, OnOk};
 ghost use Rattle.fixed_num.specs.Decimal.{spelling};
-ghost use Rattle.expr_syntax.specs.TokenText.{escaped, quoted_text, token_text, ends_operand, is_between, is_operator, is_comma};
+ghost use Rattle.expr_syntax.specs.TokenText.{escape_in_text, quoted_text, token_text, ends_operand, is_between, is_operator, is_comma};
 ghost use Rattle.expr_syntax.specs.TokenText.{grows, clings, is_apart, text_of_tokens};
 
 use crate::scanner::{byte_at, is_name_byte};
@@ -124,7 +124,7 @@ fn push_plain(out: &mut Text, c: char) -> Result<(), OutOfMemory>
 }
 
 fn push_char(out: &mut Text, c: char) -> Result<(), OutOfMemory>
-    ensures { OnOk result (out.new ≡ out.old ++ flat_map escaped (encode_utf8 c)) }
+    ensures { OnOk result (out.new ≡ out.old ++ flat_map escape_in_text (encode_utf8 c)) }
 {
     match c {
         '\\' => out.push_str("\\\\"),
@@ -137,7 +137,7 @@ fn push_char(out: &mut Text, c: char) -> Result<(), OutOfMemory>
 }
 
 fn push_escaped(out: &mut Text, text: &str) -> Result<(), OutOfMemory>
-    ensures { OnOk result (out.new ≡ out.old ++ flat_map escaped text.now) }
+    ensures { OnOk result (out.new ≡ out.old ++ flat_map escape_in_text text.now) }
 {
     for c in text.chars() {
         push_char(out, c)?;

@@ -1,5 +1,6 @@
 -- The tree at the front of the tokens, as a function of them. Only private contracts cite it.
-use Rattle.std.specs.Prelude.{ℕ, zero, suc, ◌-◌, max, List, [], ◌∷◌, ◌++◌, length, drop, take, codes, Bool, true, false, ◌&&◌, ◌==◌, nat_lt, if◌then◌else◌, Result, Ok, Err, Option, Some, None, bytes_eq, map}
+use Rattle.std.specs.Prelude.{ℕ, zero, suc, ◌-◌, max, List, [], ◌∷◌, ◌++◌, length, drop, take, codes, Bool, true, false, ◌&&◌, ◌==◌, nat_lt}
+use Rattle.std.specs.Prelude.{if◌then◌else◌, Result, Ok, Err, Option, Some, None, bytes_eq, map}
 use Rattle.std.specs.Str.{bytes_eq as same_bytes}
 use Rattle.case_table.specs.Names.{index_of, builtins}
 use Rattle.case_table.specs.Arguments.{admits}
@@ -25,34 +26,34 @@ abbrev pub ◌>>=◌ : {A B : Type 0} → Result A (Unit {0}) → (A → Result 
 -- ---- single tokens
 
 -- the marks, numbered
-abbrev pub number_of : AnyMark → ℕ
-number_of mark.Or = 0
-number_of mark.And = 1
-number_of mark.Like = 2
-number_of mark.NotLike = 3
-number_of mark.Same = 4
-number_of mark.NotSame = 5
-number_of mark.Less = 6
-number_of mark.LessSame = 7
-number_of mark.More = 8
-number_of mark.MoreSame = 9
-number_of mark.Plus = 10
-number_of mark.Minus = 11
-number_of mark.Times = 12
-number_of mark.Over = 13
-number_of mark.Percent = 14
-number_of mark.Not = 15
-number_of mark.Question = 16
-number_of mark.Colon = 17
-number_of mark.Comma = 18
-number_of mark.Point = 19
-number_of mark.Open = 20
-number_of mark.Close = 21
-number_of mark.OpenSquare = 22
-number_of mark.CloseSquare = 23
+abbrev pub mark_number : AnyMark → ℕ
+mark_number mark.Or = 0
+mark_number mark.And = 1
+mark_number mark.Like = 2
+mark_number mark.NotLike = 3
+mark_number mark.Same = 4
+mark_number mark.NotSame = 5
+mark_number mark.Less = 6
+mark_number mark.LessSame = 7
+mark_number mark.More = 8
+mark_number mark.MoreSame = 9
+mark_number mark.Plus = 10
+mark_number mark.Minus = 11
+mark_number mark.Times = 12
+mark_number mark.Over = 13
+mark_number mark.Percent = 14
+mark_number mark.Not = 15
+mark_number mark.Question = 16
+mark_number mark.Colon = 17
+mark_number mark.Comma = 18
+mark_number mark.Point = 19
+mark_number mark.Open = 20
+mark_number mark.Close = 21
+mark_number mark.OpenSquare = 22
+mark_number mark.CloseSquare = 23
 
 abbrev pub is : AnyMark → AnyMark → Bool
-is m n = number_of m == number_of n
+is m n = mark_number m == mark_number n
 
 -- the tokens begin with this mark
 unfoldable pub starts : AnyMark → List Token → Bool

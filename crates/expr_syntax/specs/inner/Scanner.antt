@@ -1,5 +1,6 @@
 -- The token at the front of the bytes, as a function of them. Only private contracts cite it.
-use Rattle.std.specs.Prelude.{ℕ, ◌+◌, List, [], ◌∷◌, length, take, drop, slice_index, ℤ, pos, negsuc, Bool, true, false, ◌&&◌, ◌||◌, ◌==◌, nat_lt, nat_le, if◌then◌else◌, Result, Ok, Err, Option, Some, None}
+use Rattle.std.specs.Prelude.{ℕ, ◌+◌, List, [], ◌∷◌, length, take, drop, slice_index, ℤ, pos, negsuc, Bool, true, false, ◌&&◌, ◌||◌, ◌==◌}
+use Rattle.std.specs.Prelude.{nat_lt, nat_le, if◌then◌else◌, Result, Ok, Err, Option, Some, None}
 use Rattle.std.specs.List.{prefix_len}
 use Rattle.std.specs.Char.{is_ascii_digit}
 use Rattle.fixed_num.specs.Number.{limit}
@@ -10,8 +11,10 @@ use Rattle.expr_syntax.specs.declared.errors.ExprError.TheVariants.{Shape, Memor
 use Rattle.expr_syntax.specs.declared.token.Token.{Token}
 use Rattle.expr_syntax.specs.declared.token.Token.TheVariants.{Name, Number, Quoted, Mark}
 use Rattle.expr_syntax.specs.declared.token.Mark.{Mark as AnyMark}
-use Rattle.expr_syntax.specs.declared.token.Mark.TheVariants.{Or, And, Like, NotLike, Same, NotSame, Less, LessSame, More, MoreSame, Plus, Minus, Times, Over, Percent, Not, Question, Colon, Comma, Point, Open, Close, OpenSquare, CloseSquare}
-use Rattle.expr_syntax.specs.Tokens.{is_name_start, is_name_byte, escape_of, mark_text}
+use Rattle.expr_syntax.specs.declared.token.Mark.TheVariants.{Or, And, Like, NotLike, Same, NotSame, Less, LessSame, More, MoreSame, Plus}
+use Rattle.expr_syntax.specs.declared.token.Mark.TheVariants.{Minus, Times, Over, Percent, Not, Question, Colon, Comma, Point, Open, Close}
+use Rattle.expr_syntax.specs.declared.token.Mark.TheVariants.{OpenSquare, CloseSquare}
+use Rattle.expr_syntax.specs.Tokens.{is_name_start, is_name_byte, unescape, mark_text}
 
 -- what is read from the front and the bytes after it, or that there is nothing to read
 abbrev pub Read : Type 0 → Type 0
@@ -103,7 +106,7 @@ with_escape (Some byte) read = with_byte byte read
 -- the text up to the quote, behind a `\` where the flag is set
 unfoldable pub inside_at : ℕ → Bool → List ℕ → Read (List ℕ)
 inside_at quote escaped [] = Err tt
-inside_at quote true (byte ∷ others) = with_escape (escape_of byte) (inside_at quote false others)
+inside_at quote true (byte ∷ others) = with_escape (unescape byte) (inside_at quote false others)
 inside_at quote false (byte ∷ others) =
     if byte == quote then Ok ([], others)
     else (if byte == 92 then inside_at quote true others else with_byte byte (inside_at quote false others))

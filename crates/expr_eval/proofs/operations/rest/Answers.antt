@@ -10,7 +10,8 @@ rest_fits : (a b : ℤ) → mag a < 2 ^ 127 → mag (int_rem a b) < 2 ^ 127
 rest_fits a b f = omega (arith, mag_rem a b)
 
 -- a remainder of two numbers that fit
-fitting : (a b x y : ℤ) → a ≡ x → b ≡ y → mag a < 2 ^ 127 → mag b < 2 ^ 127 → to_z w128 (of_z w128 (int_rem (to_z w128 (of_z w128 a)) (to_z w128 (of_z w128 b)))) ≡ x -ℤ y *ℤ int_div x y
+fitting : (a b x y : ℤ) → a ≡ x → b ≡ y → mag a < 2 ^ 127 → mag b < 2 ^ 127
+    → to_z w128 (of_z w128 (int_rem (to_z w128 (of_z w128 a)) (to_z w128 (of_z w128 b)))) ≡ x -ℤ y *ℤ int_div x y
 fitting a b x y p q f g =
     (λ i. to_z w128 (of_z w128 (int_rem (to_z-of_z w128 a (record { sfits = f }) i) (to_z-of_z w128 b (record { sfits = g }) i))))
     ∙ to_z-of_z w128 (int_rem a b) (record { sfits = rest_fits a b f })

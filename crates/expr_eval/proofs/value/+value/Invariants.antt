@@ -1,6 +1,6 @@
 use Rattle.std.proofs.Common.{◌≡◌, map, sum_by, ◌+◌, ◌*◌, max, take, Some}
 use Rattle.expr_syntax.specs.declared.expr.Expr.{size-Expr}
-use Rattle.expr_eval.specs.Ranges.{all_of}
+use Rattle.fixed_num.specs.Ranges.{all_found}
 use Rattle.expr_eval.specs.Value.{value_of}
 use Rattle.expr_eval.specs.Reads.{reads_of}
 use Rattle.expr_eval.specs.Answers.{RisesBy}
@@ -29,6 +29,6 @@ decreases-eval_call g l = 4 * goal.size-eval_call g l + 3
 
 abbrev pub invariant-eval_all-loop-arg : goal.invariant-eval_all-loop-arg
 invariant-eval_all-loop-arg g l = record {
-  values : all_of (map (value_of (g.R.RowReader.cells l.row) (g.P.ParamReader.values l.params)) (take l.arg-index l.args)) ≡ Some l.out;
+  values : all_found (map (value_of (g.R.RowReader.cells l.row) (g.P.ParamReader.values l.params)) (take l.arg-index l.args)) ≡ Some l.out;
   steps : RisesBy (sum_by (reads_of (g.P.ParamReader.values l.params)) (take l.arg-index l.args)) l.initial.steps l.steps;
 }

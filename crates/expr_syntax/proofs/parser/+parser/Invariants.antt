@@ -51,7 +51,8 @@ decreases-inside_of l = 100 * (l.nesting + l.limit) + 2
 
 abbrev pub invariant-arguments_at-loop : goal.invariant-arguments_at-loop
 invariant-arguments_at-loop l = record {
-  read : arguments_at (inside_of l.nesting l.limit) (most_arguments - l.counter) l.arguments l.rest ≡ arguments_at (inside_of l.nesting l.limit) most_arguments [] l.tokens;
+  read : arguments_at (inside_of l.nesting l.limit) (most_arguments - l.counter) l.arguments l.rest
+      ≡ arguments_at (inside_of l.nesting l.limit) most_arguments [] l.tokens;
   told : l.highest ≡ list_max (map height l.arguments);
 }
 
@@ -63,6 +64,7 @@ invariant-binary_at-loop-tight l = record {
 
 abbrev pub invariant-chain_at-loop : goal.invariant-chain_at-loop
 invariant-chain_at-loop l = record {
-  read : chain_at (tree_at l.nesting (l.limit - 1) (l.level - 1)) l.limit l.level (l.limit - l.counter) l.left.tree l.rest ≡ chain_at (tree_at l.nesting (l.limit - 1) (l.level - 1)) l.limit l.level l.limit l.fn.first.tree l.tokens;
+  read : chain_at (tree_at l.nesting (l.limit - 1) (l.level - 1)) l.limit l.level (l.limit - l.counter) l.left.tree l.rest
+      ≡ chain_at (tree_at l.nesting (l.limit - 1) (l.level - 1)) l.limit l.level l.limit l.fn.first.tree l.tokens;
   told : l.left.height ≡ height l.left.tree;
 }

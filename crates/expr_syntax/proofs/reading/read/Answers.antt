@@ -9,10 +9,13 @@ pub returns-in-Err-clause-shape : goal.returns-in-Err-clause-shape
 returns-in-Err-clause-shape c = refused_shape c.args.text.now c.in-Err.error c.in-Err.ensures.shape
 
 pub returns-clause-complete : goal.returns-clause-complete
-returns-clause-complete c = read_complete c.args.text.now c.in-Ok.tokens c.whole_at.result c.in-Ok.ensures.ok (rw c.as_slice.ensures at c.whole_at.ensures)
+returns-clause-complete c =
+    read_complete c.args.text.now c.in-Ok.tokens c.whole_at.result c.in-Ok.ensures.ok (rw c.as_slice.ensures at c.whole_at.ensures)
 
 pub returns-clause-shape : goal.returns-clause-shape
-returns-clause-shape c = read_shape c.args.text.now c.in-Ok.tokens c.whole_at.result c.in-Ok.ensures.ok (rw c.as_slice.ensures at c.whole_at.ensures)
+returns-clause-shape c =
+    read_shape c.args.text.now c.in-Ok.tokens c.whole_at.result c.in-Ok.ensures.ok (rw c.as_slice.ensures at c.whole_at.ensures)
 
 pub returns-clause-sound : goal.returns-clause-sound
-returns-clause-sound c = read_is_sound c.args.text.now c.in-Ok.tokens c.whole_at.result c.in-Ok.ensures.ok (rw c.as_slice.ensures at c.whole_at.ensures)
+returns-clause-sound c =
+    read_is_sound c.args.text.now c.in-Ok.tokens c.whole_at.result c.in-Ok.ensures.ok (rw c.as_slice.ensures at c.whole_at.ensures)

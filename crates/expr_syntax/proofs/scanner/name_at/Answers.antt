@@ -7,4 +7,5 @@ use Rattle.expr_syntax.proofs.scanner.name_at.Goals as goal
 
 pub split_at-requires : goal.split_at-requires
 split_at-requires c =
-    subst (IsCharBoundary c.args.text.now) (sym (c.name_len.ensures ∙ ap (prefix_len is_name_byte) c.as_bytes.ensures.value)) (cut_behind_name c.args.text.now c.utf8.text)
+    subst (IsCharBoundary c.args.text.now) (sym (c.name_len.ensures ∙ ap (prefix_len is_name_byte) c.as_bytes.ensures.value))
+    (cut_behind_name c.args.text.now c.utf8.text)

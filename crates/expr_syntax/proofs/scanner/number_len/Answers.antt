@@ -9,7 +9,9 @@ returns-then-not-belongs c = omega (arith, c.loop-i.invariant, len_ends c.loop-i
 pub loop-i-preserved : goal.loop-i-preserved
 loop-i-preserved c =
     let more = len_more c.loop-i.behind c.args.bytes.now c.loop-i.i c.loop-i-test.true (sym c.belongs.ensures ∙ c.if-not-belongs.false) in
-    let next : number_len c.is_exponent_mark-behind.result (drop (c.loop-i.i + 1) c.args.bytes.now) ≡ number_len (is_exponent_mark (get_or c.args.bytes.now c.loop-i.i 0)) (drop (c.loop-i.i + 1) c.args.bytes.now) = ap (λ m. number_len m (drop (c.loop-i.i + 1) c.args.bytes.now)) c.is_exponent_mark-behind.ensures in
+    let next : number_len c.is_exponent_mark-behind.result (drop (c.loop-i.i + 1) c.args.bytes.now)
+    ≡ number_len (is_exponent_mark (get_or c.args.bytes.now c.loop-i.i 0)) (drop (c.loop-i.i + 1) c.args.bytes.now) =
+    ap (λ m. number_len m (drop (c.loop-i.i + 1) c.args.bytes.now)) c.is_exponent_mark-behind.ensures in
     omega (arith, c.loop-i.invariant, more, next)
 
 pub returns : goal.returns

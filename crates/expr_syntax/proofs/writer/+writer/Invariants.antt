@@ -6,4 +6,5 @@ use Rattle.expr_syntax.specs.Writing.{written, as_part}
 use Rattle.expr_syntax.proofs.writer.+writer.Given as goal
 
 abbrev pub invariant-push_arguments-loop-argument : goal.invariant-push_arguments-loop-argument
-invariant-push_arguments-loop-argument l = l.out ≡ l.initial.out ++ flat_map (λ e. Mark mark.Comma ∷ as_part (written e)) (take l.argument-index l.others)
+invariant-push_arguments-loop-argument l =
+    l.out ≡ l.initial.out ++ flat_map (λ e. Mark mark.Comma ∷ as_part (written e)) (take l.argument-index l.others)

@@ -1,4 +1,0 @@
-use Rattle.expr_eval.proofs.tests.value_over.Given as goal
-
-abbrev pub ghosts-counted : goal.ghosts-counted
-ghosts-counted _ a = record { name = a.blank.name; parts = a.blank.parts }
