@@ -1,0 +1,136 @@
+// What transforms of rows are told.
+use cell_value::Cell;
+use fixed_num::Num;
+use text_kit::{Seq, Text};
+
+/// How the numbers of a field are put into bins.
+#[derive(Debug, Drop)]
+pub struct BinOf {
+    /// The field.
+    pub field: Text,
+    /// The least and the greatest number that the bins take in, in either order; None for those of the list.
+    pub extent: Option<(Num, Num)>,
+    /// How wide a bin is, over 0; None where the extent and `maxbins` say it.
+    pub step: Option<Num>,
+    /// How many bins there are at most, from 1 on.
+    pub maxbins: u32,
+    /// The name of the bin's start.
+    pub out: Text,
+    /// The name of the bin's end.
+    pub out_end: Text,
+}
+
+/// How the instants of a field are put into units of time.
+#[derive(Debug, Drop)]
+pub struct TimeOf {
+    /// The field.
+    pub field: Text,
+    /// The code of the unit among `TIME_UNITS`.
+    pub unit: u16,
+    /// The name of the unit's start.
+    pub out: Text,
+    /// The name of the unit's end.
+    pub out_end: Text,
+}
+
+/// An operation on the rows of a group or of a frame.
+#[derive(Debug, Drop)]
+pub struct OpOf {
+    /// The code of the operation among `OPERATIONS`.
+    pub op: u16,
+    /// The field; None reads as null in each row.
+    pub field: Option<Text>,
+    /// The name of what it gives.
+    pub out: Text,
+}
+
+/// What is computed of each group of rows.
+#[derive(Debug, Drop)]
+pub struct GroupOf {
+    /// The fields whose equal cells make a group.
+    pub groupby: Seq<Text>,
+    /// The operations on each group.
+    pub ops: Seq<OpOf>,
+}
+
+/// A field by which rows are sorted.
+#[derive(Debug, Drop)]
+pub struct SortBy {
+    /// The field.
+    pub field: Text,
+    /// Whether the greatest cell stands first.
+    pub descending: bool,
+}
+
+/// How the values of a field are stacked.
+#[derive(Debug, Drop)]
+pub struct StackOf {
+    /// The field.
+    pub field: Text,
+    /// The fields whose equal cells make a stack.
+    pub groupby: Seq<Text>,
+    /// The order within a stack, with ties by key.
+    pub sort: Seq<SortBy>,
+    /// Where a stack begins.
+    pub offset: Offset,
+    /// The name of where a value begins.
+    pub out: Text,
+    /// The name of where a value ends.
+    pub out_end: Text,
+}
+
+/// Where a stack begins.
+#[derive(Clone, Copy, Debug, PartialEq, Eq)]
+pub enum Offset {
+    /// At zero, negative values downwards.
+    Zero,
+    /// At zero, each value as its part of the stack's whole.
+    Normalize,
+    /// Where the middles of all stacks are level.
+    Center,
+}
+
+/// What is computed of each row over its neighbours.
+#[derive(Debug, Drop)]
+pub struct WindowOf {
+    /// The operations.
+    pub ops: Seq<OpOf>,
+    /// The number that each operation takes, one for each.
+    pub params: Seq<u32>,
+    /// The fields whose equal cells make a partition.
+    pub groupby: Seq<Text>,
+    /// The order within a partition, with ties by key.
+    pub sort: Seq<SortBy>,
+    /// The first row of the frame, counted from the row, negative before it; None for the partition's first.
+    pub before: Option<i32>,
+    /// The last row of the frame, counted likewise; None for the partition's last.
+    pub after: Option<i32>,
+    /// Whether the frame stands as it is, and isn't widened to rows that are equal in `sort`.
+    pub ignore_peers: bool,
+}
+
+/// How cells of another list are taken.
+#[derive(Debug, Drop)]
+pub struct LookupOf {
+    /// The field of the row that is sought.
+    pub key_here: Text,
+    /// The field of the other list that it is sought in.
+    pub key_there: Text,
+    /// The fields that are taken.
+    pub fields: Seq<Text>,
+    /// Their names here, one for each.
+    pub outs: Seq<Text>,
+    /// What stands where no row has the key.
+    pub otherwise: Cell,
+}
+
+/// How one row is made for each of several fields.
+#[derive(Debug, Drop)]
+pub struct FoldOf {
+    /// The fields.
+    pub fields: Seq<Text>,
+    /// The name of the field's name.
+    pub out_key: Text,
+    /// The name of the field's cell.
+    pub out_value: Text,
+}
