@@ -17,7 +17,7 @@ use Rattle.scene_tree.specs.declared.scene.Item.{Item}
 use Rattle.scene_tree.specs.declared.scene.Scene.{Scene}
 use Rattle.scene_tree.specs.Outcome.{Outcome, Drawn, ◌>>=◌, outcome_map, in_reach, all_drawn}
 use Rattle.svg_text.specs.SceneText.{svg_of}
-use Rattle.vega_meaning.specs.Ranges.{in_range}
+use Rattle.fixed_num.specs.Ranges.{in_range}
 use Rattle.vega_meaning.specs.Domains.{placed_in, ascending, least, greatest, extent_of, with_zero}
 use Rattle.vega_meaning.specs.Steps.{nice_of}
 use Rattle.vega_meaning.specs.Scales.{place_of_number, band_place, place_of_entry}

@@ -10,10 +10,10 @@ use Rattle.std.proofs.lemmas.List.Elements.{All-nil, All-cons}
 use Rattle.fixed_num.specs.Number.{million}
 use Rattle.json_exact.specs.declared.json.Json.{Json, out-Json}
 use Rattle.json_exact.specs.declared.json.Member.{Member}
-use Rattle.param_flow.specs.Commands.{text_in, items_in}
-use Rattle.vega_meaning.specs.Ranges.{◌>>=◌}
+use Rattle.json_exact.specs.Inside.{text_in, number_in, items_in}
+use Rattle.fixed_num.specs.Ranges.{◌>>=◌, all_found}
 use Rattle.first_form.specs.declared.form.Value.{Value}
-use Rattle.first_form.specs.FirstForm.{object_of, number_in, found_at, all_found, is_whole_amount, value_in, field_at, fields_of, rows_of, bars_in}
+use Rattle.first_form.specs.FirstForm.{object_of, found_at, is_whole_amount, value_in, field_at, fields_of, data_in, bars_in}
 use Rattle.first_form.specs.Drawable.{IsDrawableAmount, IsDrawable}
 use Rattle.first_form.specs.Laws.{FormsAreDrawable}
 
@@ -57,7 +57,7 @@ values_drawable x y (row ∷ rows) values are =
     subst (λ ws. (length ws ≡ suc (length rows)) × All IsDrawableAmount ws) same
     (ap suc all.0, All-cons IsDrawableAmount v vs (value_drawable x y row v is) all.1)
 
-few_rows : (top : List Member) (found : List ℕ × List Json) → rows_of top ≡ Some found → length found.1 ≤ 1000
+few_rows : (top : List Member) (found : List ℕ × List Json) → data_in top ≡ Some found → length found.1 ≤ 1000
 few_rows top found is =
     let (source, object, rest) = bind_some (found_at (object_of (codes "name" ∷ codes "values" ∷ [])) top (codes "data")) _ found is in
     let (name, text, rest) = bind_some (found_at text_in source (codes "name")) _ found rest in
@@ -83,7 +83,7 @@ fields_differ top fields is =
 pub forms_are_drawable : FormsAreDrawable
 forms_are_drawable tree form is =
     let (top, bars, rest) = bind_some (bars_in tree) _ form is in
-    let (source, rows, rest) = bind_some (rows_of top) _ form rest in
+    let (source, rows, rest) = bind_some (data_in top) _ form rest in
     let (fields, names, rest) = bind_some (fields_of top) _ form rest in
     let (values, found, rest) = bind_some (all_found (map (value_in fields.0 fields.1) source.1)) _ form rest in
     let all = values_drawable fields.0 fields.1 source.1 values found in

@@ -8,7 +8,7 @@ use Rattle.std.proofs.lemmas.Bool.Decides.{nat_tests}
 use Rattle.std.proofs.lemmas.Option.{same_Some}
 use Rattle.std.proofs.lemmas.List.Folds.{find-append}
 use Rattle.fixed_num.specs.Number.{limit, million, IsNumber, floored, ceiled}
-use Rattle.vega_meaning.specs.Ranges.{◌>>=◌, in_range}
+use Rattle.fixed_num.specs.Ranges.{◌>>=◌, in_range}
 use Rattle.vega_meaning.specs.Steps.{steps_at, steps_below, step_of, span_of, widened, widened_times, nice_of}
 use Rattle.first_form.proofs.RangeLemmas.{in_range_at_number, size_of_above, ceiled_near, floored_zero}
 

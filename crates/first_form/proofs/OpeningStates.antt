@@ -5,7 +5,7 @@ use Rattle.std.proofs.lemmas.List.{append-nil}
 use Rattle.std.proofs.lemmas.List.Elements.{All-nil, All-cons}
 use Rattle.std.proofs.lemmas.List.Kept.{AllPairs-cons}
 use Rattle.cell_value.specs.Datum.{Datum, datum_of}
-use Rattle.cell_value.specs.State.{Dataset, state_of, ids_of, all_rows}
+use Rattle.cell_value.specs.State.{Dataset, state_of, ids_of, all_rows, ReadsItsId}
 use Rattle.first_form.specs.declared.form.Value.{Value}
 use Rattle.first_form.specs.Bars.{with_ids}
 use Rattle.first_form.specs.Opening.{value_row, opening_of}
@@ -14,6 +14,10 @@ use Rattle.first_form.specs.Laws.{OpeningIsState}
 module _ (x y : List ℕ) where
   abbrev rows_from : ℕ → List Value → List Datum
   rows_from id values = map datum_of (map (value_row x y) (with_ids id values))
+
+  ids_read : (id : ℕ) (values : List Value) → All ReadsItsId (rows_from id values)
+  ids_read id [] = All-nil ReadsItsId
+  ids_read id (v ∷ vs) = All-cons ReadsItsId (datum_of (value_row x y (id, v))) (rows_from (suc id) vs) refl (ids_read (suc id) vs)
 
   no_branch : (id : ℕ) (values : List Value) → All (λ (d : Datum). d.key.branch ≡ 0) (rows_from id values)
   no_branch id [] = All-nil (λ (d : Datum). d.key.branch ≡ 0)
@@ -47,6 +51,7 @@ is_state_of form drawable =
     let IdsRise : Dataset → Type 0 = λ source. AllPairs (λ a b. a < b) (ids_of source.rows) in
     record {
       is = record {
+        ids_read = subst (All ReadsItsId) (sym all) (ids_read form.x form.y 1 form.values);
         no_branch = subst (All (λ (d : Datum). d.key.branch ≡ 0)) (sym all) (no_branch form.x form.y 1 form.values);
         ids_rise = All-cons IdsRise (record { name = form.name; rows = rows }) [] up (All-nil IdsRise);
         ids_distinct = subst (λ rows. AllPairs (λ a b. a ≢ b) (ids_of rows)) (sym all)

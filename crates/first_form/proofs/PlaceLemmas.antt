@@ -1,36 +1,45 @@
 -- Why the places of bars are in range.
-use Rattle.std.proofs.Common.{◌≡◌, ℕ, zero, suc, ◌+◌, ◌*◌, ◌^◌, ◌<◌, ◌≤◌, min, ℤ, pos, ◌+ℤ◌, ◌-ℤ◌, ◌*ℤ◌, ◌≤ℤ◌, int_lt, true, false, if◌then◌else◌, List, length, unsigned_abs, arith, refl, sym, ap, subst, ◌∙◌}
+use Rattle.std.proofs.Common.{◌≡◌, ℕ, zero, suc, ◌+◌, ◌*◌, ◌^◌, ◌<◌, ◌≤◌, ℤ, pos, ◌+ℤ◌, ◌-ℤ◌, ◌*ℤ◌, ◌≤ℤ◌, int_lt, true, false, if◌then◌else◌, List, length, unsigned_abs, arith, refl, sym, ap, subst, ◌∙◌}
+use Rattle.std.specs.Ordering.{int_eq}
 use Rattle.std.proofs.lemmas.Int.{ints}
 use Rattle.fixed_num.specs.Number.{million, IsNumber, rounded, floor_quotient}
 use Rattle.cell_value.specs.declared.cell.Cell.{Cell}
 use Rattle.scene_tree.specs.Outcome.{Outcome, Drawn, in_reach}
-use Rattle.vega_meaning.specs.Ranges.{in_range}
-use Rattle.vega_meaning.specs.Scales.{Linear, place_of_number, steps_of, space_of, place_at}
-use Rattle.first_form.specs.Bars.{plot_height, x_scale, base_of}
+use Rattle.fixed_num.specs.Ranges.{in_range}
+use Rattle.fixed_num.specs.Bands.{steps_of, space_of}
+use Rattle.vega_meaning.specs.Scales.{Linear, place_of_number, place_at}
+use Rattle.first_form.specs.Bars.{plot_width, plot_height, x_scale, base_of}
 use Rattle.first_form.proofs.RangeLemmas.{in_range_at_number, rounded_multiple, rounded_within}
 
 -- with these paddings a band takes one step
-steps_usual : (n : ℕ) → steps_of n 100000 50000 ≡ pos (n * million)
+steps_usual : (n : ℕ) → steps_of (pos (n * million)) (pos 100000) (pos 50000) ≡ pos (n * million)
 steps_usual n = omega (arith, ints)
 
-space_usual : (n : ℕ) → space_of n 100000 50000 ≡ n * million
+space_usual : (n : ℕ) → space_of (pos (n * million)) (pos 100000) (pos 50000) ≡ pos (n * million)
 space_usual zero = refl
-space_usual (suc n) = let yes : int_lt (pos 0) (pos (suc n * million)) ≡ true = grind (arith, ints) in rw (steps_usual (suc n), yes) refl
+space_usual (suc n) =
+    let some : int_eq (pos (suc n * million)) (pos 0) ≡ false = grind (arith, ints) in
+    let yes : int_lt (pos 0) (pos (suc n * million)) ≡ true = grind (arith, ints) in
+    rw (some, steps_usual (suc n), yes) refl
+
+-- the width of a plot of bands that are not too many
+width_usual : (n : ℕ) → n ≤ 1000 → plot_width n ≡ pos (20 * (n * million))
+width_usual n few = rw (space_usual n) (grind (arith, ints))
 
 -- the place in a range upward
-abbrev place_upward : ℤ → ℕ → ℤ → Outcome ℤ → Outcome ℤ
+abbrev place_upward : ℤ → ℤ → ℤ → Outcome ℤ → Outcome ℤ
 place_upward z w j other =
-    if int_lt (pos w) (pos 0) then other else in_reach (in_range (pos 0 +ℤ rounded ((pos w -ℤ pos 0) *ℤ j) (unsigned_abs z)))
+    if int_lt w (pos 0) then other else in_reach (in_range (pos 0 +ℤ rounded ((w -ℤ pos 0) *ℤ j) (unsigned_abs z)))
 
-band_place_at : (z : ℤ) (s w j : ℕ) (other middle : Outcome ℤ) → z ≡ pos s → 0 < s → w ≡ 20 * s → j ≤ 10 ^ 12
+band_place_at : (z w : ℤ) (s j : ℕ) (other middle : Outcome ℤ) → z ≡ pos s → 0 < s → w ≡ pos (20 * s) → j ≤ 10 ^ 12
     → (if int_lt (pos 0) z then place_upward z w (pos j) other else middle) ≡ Drawn (pos (20 * j))
-band_place_at z s w j other middle steps some wide small =
+band_place_at z w s j other middle steps some wide small =
     let yes : int_lt (pos 0) (pos s) ≡ true = grind (arith, ints) in
-    let no : int_lt (pos w) (pos 0) ≡ false = grind (arith, ints) in
-    let product : (pos w -ℤ pos 0) *ℤ pos j ≡ pos (20 * j * s) = rw wide (omega (arith, ints)) in
+    let no : int_lt (pos (20 * s)) (pos 0) ≡ false = grind (arith, ints) in
+    let product : (pos (20 * s) -ℤ pos 0) *ℤ pos j ≡ pos (20 * j * s) = omega (arith, ints) in
     let within : IsNumber (pos 0 +ℤ pos (20 * j)) = (omega (arith, ints), omega (arith, ints)) in
     let same : pos 0 +ℤ pos (20 * j) ≡ pos (20 * j) = omega (arith, ints) in
-    rw (steps, yes, no)
+    rw (steps, wide, yes, no)
     (ap (λ x. in_reach (in_range (pos 0 +ℤ x))) (rounded_multiple (20 * j) s _ some product)
     ∙ ap in_reach (in_range_at_number (pos 0 +ℤ pos (20 * j)) within) ∙ ap Drawn same)
 
@@ -39,10 +48,8 @@ pub band_drawn : (domain : List Cell) (index : ℕ) → index < length domain �
     → place_at (x_scale domain) index ≡ Drawn (pos (20 * (50000 + index * million)))
 band_drawn domain index h few =
     let n = length domain in
-    let width = min (20 * space_of n 100000 50000) (10 ^ 11 * million) in
-    let wide : width ≡ 20 * (n * million) = let space = space_usual n in omega arith in
-    band_place_at (steps_of n 100000 50000) (n * million) width (50000 + index * million) _ _
-    (steps_usual n) (omega arith) wide (omega arith)
+    band_place_at (steps_of (pos (n * million)) (pos 100000) (pos 50000)) (plot_width n) (n * million) (50000 + index * million) _ _
+    (steps_usual n) (omega arith) (width_usual n few) (omega arith)
 
 -- the scale of amounts whose nice domain ends at n
 abbrev pub scale_to : ℕ → Linear

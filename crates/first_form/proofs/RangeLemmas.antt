@@ -1,13 +1,10 @@
 -- What is in range, and bounds on multiples and rounded quotients.
-use Rattle.std.proofs.Common.{◌≡◌, ℕ, ◌+◌, ◌*◌, ◌<◌, ◌/◌, ℤ, pos, negsuc, neg_ℤ, ◌≤ℤ◌, ◌<ℤ◌, ◌+ℤ◌, ◌-ℤ◌, ◌*ℤ◌, Some, unsigned_abs, arith, refl, ap, ◌∙◌}
+use Rattle.std.proofs.Common.{◌≡◌, ℕ, ◌+◌, ◌*◌, ◌<◌, ◌/◌, ℤ, pos, negsuc, neg_ℤ, ◌≤ℤ◌, ◌<ℤ◌, ◌+ℤ◌, ◌-ℤ◌, ◌*ℤ◌, unsigned_abs, arith, refl, ap, ◌∙◌}
 use Rattle.std.proofs.lemmas.Int.{ints}
 use Rattle.std.proofs.lemmas.Nat.{div_below, div-mul-add}
 use Rattle.std.proofs.Math.Nat.{div-add-mod', suc-mul, div-eq_of_lt}
-use Rattle.fixed_num.specs.Number.{IsNumber, floored, ceiled, rounded, floor_quotient}
-use Rattle.vega_meaning.specs.Ranges.{in_range}
-
-pub in_range_at_number : (x : ℤ) → IsNumber x → in_range x ≡ Some x
-in_range_at_number x h = grind (arith, ints)
+use Rattle.fixed_num.specs.Number.{floored, ceiled, rounded, floor_quotient}
+pub use Rattle.fixed_num.proofs.RangeLemmas.{in_range_at_number}
 
 pub size_of_above : (z : ℤ) → pos 0 ≤ℤ z → z ≡ pos (unsigned_abs z)
 size_of_above (pos n) h = refl

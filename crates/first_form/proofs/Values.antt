@@ -1,6 +1,6 @@
 -- Values that are found one by one.
 use Rattle.std.proofs.Common.{◌≡◌, Option, Some, None, List, [], ◌∷◌, ◌++◌, append_assoc, refl, ap}
-use Rattle.vega_meaning.specs.Ranges.{◌>>=◌}
+use Rattle.fixed_num.specs.Ranges.{◌>>=◌}
 
 -- the values that were found, and then the others
 abbrev pub after : {X : Type 0} → List X → Option (List X) → Option (List X)

@@ -1,5 +1,5 @@
 -- The picture of a chart of the first form.
-use Rattle.std.specs.Prelude.{ℕ, suc, ◌*◌, ◌^◌, min, ℤ, pos, ◌-ℤ◌, int_lt, unsigned_abs, ◌||◌, Option, Some, None, List, [], ◌∷◌, length, map, if◌then◌else◌, codes}
+use Rattle.std.specs.Prelude.{ℕ, suc, ◌*◌, ◌^◌, ℤ, pos, ◌-ℤ◌, ◌*ℤ◌, int_lt, unsigned_abs, ◌||◌, Option, Some, None, List, [], ◌∷◌, length, map, if◌then◌else◌, codes}
 use Rattle.std.specs.Int.{int_min}
 use Rattle.std.specs.List.{filter_map}
 use Rattle.std.specs.Str.{bytes_eq}
@@ -13,10 +13,12 @@ use Rattle.scene_tree.specs.declared.scene.Item.{Item}
 use Rattle.scene_tree.specs.declared.shape.Shape.TheVariants.{Rect}
 use Rattle.scene_tree.specs.Outcome.{Outcome, Drawn, ◌>>=◌, outcome_map, in_reach, all_drawn}
 use Rattle.svg_text.specs.SceneText.{svg_of}
-use Rattle.vega_meaning.specs.Ranges.{in_range, pixels}
+use Rattle.fixed_num.specs.Ranges.{in_range}
+use Rattle.fixed_num.specs.Bands.{space_of}
+use Rattle.vega_meaning.specs.Pixels.{pixels}
 use Rattle.vega_meaning.specs.Domains.{ascending, extent_of, with_zero}
 use Rattle.vega_meaning.specs.Steps.{nice_of}
-use Rattle.vega_meaning.specs.Scales.{Linear, place_of_number, Band, band_place, band_width, space_of}
+use Rattle.vega_meaning.specs.Scales.{Linear, place_of_number, Band, band_place, band_width}
 use Rattle.vega_meaning.specs.Frames.{scene_around}
 use Rattle.first_form.specs.declared.form.FirstForm.{FirstForm}
 use Rattle.first_form.specs.declared.form.Value.{Value}
@@ -59,7 +61,8 @@ outer_padding = 50000
 
 -- the plot is a step of 20 pixels wide for each unit of the bands' space, at most 10^11 pixels
 abbrev pub plot_width : ℕ → ℤ
-plot_width count = pos (min (20 * space_of count inner_padding outer_padding) (10 ^ 11 * million))
+plot_width count =
+    int_min (pos 20 *ℤ space_of (pos (count * million)) (pos inner_padding) (pos outer_padding)) (pos (10 ^ 11 * million))
 
 -- the plot is 200 pixels high
 abbrev pub plot_height : ℤ

@@ -6,7 +6,7 @@ use Rattle.std.specs.Fmt.{digits}
 use Rattle.std.specs.Str.{chars}
 use lib.Utf8.{encode}
 use Rattle.first_form.specs.declared.form.Value.{Value}
-use Rattle.vega_meaning.specs.Ranges.{pixels}
+use Rattle.vega_meaning.specs.Pixels.{pixels}
 use Rattle.vega_meaning.specs.Steps.{step_of}
 use Rattle.scene_tree.specs.Outcome.{Outcome, Drawn}
 use Rattle.first_form.specs.Bars.{chart_of}

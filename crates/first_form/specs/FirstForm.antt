@@ -9,8 +9,8 @@ use Rattle.json_exact.specs.declared.json.Json.TheVariants as json
 use Rattle.json_exact.specs.declared.json.Json.TheOpen as level
 use Rattle.json_exact.specs.declared.json.Member.{Member}
 use Rattle.json_exact.specs.Path.{member_value}
-use Rattle.param_flow.specs.Commands.{text_in, items_in, members_in}
-use Rattle.vega_meaning.specs.Ranges.{◌>>=◌}
+use Rattle.json_exact.specs.Inside.{text_in, number_in, items_in, members_in}
+use Rattle.fixed_num.specs.Ranges.{◌>>=◌, all_found}
 use Rattle.first_form.specs.declared.form.FirstForm.{FirstForm}
 use Rattle.first_form.specs.declared.form.Value.{Value}
 
@@ -24,11 +24,6 @@ object_of names tree = do
   members ← members_in tree
   if length members == length names && has_each members names then Some members else None
 
--- the number in a value
-abbrev pub number_in : Json-F Json Member → Option ℤ
-number_in (level.Number n) = Some n
-number_in other = None
-
 -- nothing, where a value is null
 abbrev pub null_in : Json-F Json Member → Option (Unit {0})
 null_in level.Null = Some tt
@@ -39,14 +34,6 @@ abbrev pub found_at : {X : Type 0} → (Json-F Json Member → Option X) → Lis
 found_at found_in members name = do
   tree ← member_value members name
   found_in (out-Json tree)
-
--- what is found for all, if it is for each
-abbrev pub all_found : {X : Type 0} → List (Option X) → Option (List X)
-all_found [] = Some []
-all_found (found ∷ others) = do
-  x ← found
-  xs ← all_found others
-  Some (x ∷ xs)
 
 -- a whole number from 0 to 1,000,000,000
 abbrev pub is_whole_amount : ℤ → Bool
@@ -79,8 +66,8 @@ fields_of top = do
   if bytes_eq x y then None else Some (x, y)
 
 -- the name of the list of rows, and the rows, which are at most 1000
-abbrev pub rows_of : List Member → Option (List ℕ × List Json)
-rows_of top = do
+abbrev pub data_in : List Member → Option (List ℕ × List Json)
+data_in top = do
   source ← found_at (object_of (codes "name" ∷ codes "values" ∷ [])) top (codes "data")
   name ← found_at text_in source (codes "name")
   rows ← found_at items_in source (codes "values")
@@ -103,7 +90,7 @@ form_with name x y rows = do
 abbrev pub form_of : Json → Option FirstForm
 form_of tree = do
   top ← bars_in tree
-  source ← rows_of top
+  source ← data_in top
   fields ← fields_of top
   form_with source.0 fields.0 fields.1 source.1
 

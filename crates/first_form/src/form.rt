@@ -1,10 +1,11 @@
 //! Charts of the first form, and how they are read.
 ghost use Rattle.std.specs.Prelude.{◌≡◌, map, IfOk};
 ghost use Rattle.std.specs.Option.{option_map};
-ghost use Rattle.first_form.specs.FirstForm.{value_in, all_found, form_with, form_of};
+ghost use Rattle.fixed_num.specs.Ranges.{all_found};
+ghost use Rattle.first_form.specs.FirstForm.{value_in, form_with, form_of};
 
 use crate::objects::{number_at, object_of, text_at};
-use crate::parts::{bars_in, fields_of, is_whole_amount, rows_of};
+use crate::parts::{bars_in, data_in, fields_of, is_whole_amount};
 use fixed_num::Num;
 use json_exact::Json;
 use std::alloc::Global;
@@ -107,7 +108,7 @@ pub fn first_form(alloc: Global, tree: &Json) -> Result<Option<FirstForm>, OutOf
     let Some(top) = bars_in(tree) else {
         return Ok(None);
     };
-    let Some((name, rows)) = rows_of(top) else {
+    let Some((name, rows)) = data_in(top) else {
         return Ok(None);
     };
     let Some((x, y)) = fields_of(top) else {

@@ -7,8 +7,6 @@ mod laws;
 mod objects;
 mod opening;
 mod parts;
-#[cfg(test)]
-mod tests;
 
 pub use form::{FirstForm, Value, first_form};
 pub use laws::{charts_are_drawn, forms_are_drawable, opening_is_a_state, vega_chart_is_the_chart};

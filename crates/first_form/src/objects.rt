@@ -3,8 +3,8 @@ ghost use Rattle.std.specs.Prelude.{◌≡◌, map};
 ghost use Rattle.std.specs.Option.{option_copied};
 ghost use Rattle.json_exact.specs.declared.json.Json.{out-Json};
 ghost use Rattle.json_exact.specs.Path.{member_value};
-ghost use Rattle.param_flow.specs.Commands.{text_in, items_in};
-ghost use Rattle.first_form.specs.FirstForm.{has_each, object_of, number_in, null_in, found_at};
+ghost use Rattle.json_exact.specs.Inside.{text_in, number_in, items_in};
+ghost use Rattle.first_form.specs.FirstForm.{has_each, object_of, null_in, found_at};
 
 use fixed_num::Num;
 use json_exact::{Json, Member};

@@ -1,7 +1,7 @@
 //! The parts of a specification of the first form.
 ghost use Rattle.std.specs.Prelude.{◌≡◌, pos};
 ghost use Rattle.std.specs.Option.{option_copied, option_map};
-ghost use Rattle.first_form.specs.FirstForm.{is_whole_amount, field_at, fields_of, rows_of, bars_in};
+ghost use Rattle.first_form.specs.FirstForm.{is_whole_amount, field_at, fields_of, data_in, bars_in};
 
 use crate::objects::{items_at, null_at, object_at, object_of, text_at};
 use fixed_num::Num;
@@ -51,8 +51,8 @@ pub fn fields_of(top: &[Member]) -> Option<(&Text, &Text)>
 }
 
 /// The name of the list of rows, and the rows, which are at most 1000.
-pub fn rows_of(top: &[Member]) -> Option<(&Text, &Seq<Json>)>
-    ensures { option_map (λ v. (v.0.now, v.1.now)) result ≡ rows_of top.now }
+pub fn data_in(top: &[Member]) -> Option<(&Text, &Seq<Json>)>
+    ensures { option_map (λ v. (v.0.now, v.1.now)) result ≡ data_in top.now }
 {
     let source = object_at(top, "data", &["name", "values"])?;
     let name = text_at(source, "name")?;

@@ -1,5 +1,6 @@
 pub mod Rows
 pub mod Semantics
+pub mod Change
 pub mod Machine
 pub mod Commands
 pub mod Script

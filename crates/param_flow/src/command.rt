@@ -2,12 +2,28 @@
 
 use crate::Event;
 use cell_value::Cell;
+use expr_syntax::Expr;
 use json_exact::Json;
 use text_kit::{Seq, Text};
 
-/// What a change does to a source.
+/// An entry of a change: what it sets in the rows for which its test holds.
+#[derive(Debug, Drop)]
+pub struct Modify {
+    /// Of which rows the field is set: those for which this is truthy.
+    pub test: Expr,
+    /// The name of the field.
+    pub field: Text,
+    /// Its new value.
+    pub value: Expr,
+}
+
+/// What a change does to a source. Its expressions read the rows and the parameters as they were before it.
 #[derive(Debug, Drop)]
 pub struct ChangeOf {
+    /// Which rows are removed: those for which this is truthy.
+    pub remove: Option<Expr>,
+    /// What is set in the rows that aren't removed. Where two entries set one field of a row, the later one holds.
+    pub modify: Seq<Modify>,
     /// The rows that are added at the end, in order, as they were written.
     pub insert: Seq<Json>,
 }

@@ -8,7 +8,7 @@ mod param_error;
 mod reply;
 mod unit_rows;
 
-pub use command::{ChangeOf, Command};
+pub use command::{ChangeOf, Command, Modify};
 pub use event::Event;
 pub use param_error::ParamError;
 pub use reply::{Cause, Reply};

@@ -1,4 +1,6 @@
-mod Items
+mod CommandForms
+mod CommandLines
+mod FoundEntries
 pub mod Feeds
 pub mod Split
 pub mod Sinks

@@ -1,5 +1,5 @@
 -- From a state whose chart is drawn each line has a reply, and so lines have an output; the chart of the state after them is drawn.
-use Rattle.std.proofs.Common.{◌≡◌, ◌≢◌, ℕ, suc, nat_lt, not, Bool, true, false, List, [], ◌∷◌, ◌++◌, length, Option, Some, None, Result, Ok, Err, if◌then◌else◌, refl, sym, ap, ◌∙◌, ltb-true, ltb-false}
+use Rattle.std.proofs.Common.{◌≡◌, ◌≢◌, ℕ, suc, nat_lt, not, Bool, true, false, List, [], ◌∷◌, ◌++◌, length, Option, Some, None, Result, Ok, Err, if◌then◌else◌, refl, sym, ◌∙◌, ltb-true, ltb-false}
 use Rattle.cell_value.specs.State.{State}
 use Rattle.scene_tree.specs.Outcome.{Outcome, Drawn, Overflow, Panels}
 use Rattle.json_exact.proofs.Sound.{text_sound}
@@ -13,49 +13,62 @@ use Rattle.param_flow.specs.declared.reply.Reply.{Reply}
 use Rattle.param_flow.specs.declared.reply.Reply.TheVariants.{Done, Refused}
 use Rattle.param_flow.specs.declared.reply.Cause.TheVariants as cause
 use Rattle.param_flow.specs.Commands.{IsCommand, command_of}
-use Rattle.param_flow.specs.Semantics.{Semantics, has_source, has_settable}
-use Rattle.param_flow.specs.Machine.{reply_to_chart, reply_to_rows, reply_to_change, reply_to_set, reply_of, state_if, state_after, state_with, state_set, is_past_limit}
+use Rattle.param_flow.specs.Semantics.{Semantics, has_settable}
+use Rattle.param_flow.specs.Machine.{reply_to_chart, reply_to_rows, reply_to_state, reply_to_change, reply_to_set, reply_of, has_names, state_if, state_after, state_changed, state_set, is_past_limit}
 use Rattle.param_flow.specs.Rows.{first_bad}
 use Rattle.param_flow.specs.Playing.{IsReply, reply_text, refused, printed, told}
 use Rattle.param_flow.specs.Script.{IsLine, IsOutput, is_silent, most_line_bytes, refused_line, silent, too_long, replied, no_line, one_line}
-use Rattle.play_script.specs.inner.Once.{same_tree}
+use Rattle.play_script.specs.inner.Once.{read_command, is_command}
+use Rattle.play_script.specs.inner.Reading.{script_expression}
 
 -- where a command is done, the new chart is drawn
-module _ {X : Type 0} where
-  chart_drawn : (o : Outcome X) → reply_to_chart o ≡ Done → (picture : X) × (o ≡ Drawn picture)
-  chart_drawn (Drawn picture) e = (picture, refl)
-  chart_drawn Overflow e = absurd cc
-  chart_drawn (Panels n) e = absurd cc
-
-  change_drawn : (known past : Bool) (bad : Option (ℕ × List ℕ)) (o : Outcome X)
-      → (if not known then Refused cause.Name else reply_to_rows bad (if past then Refused cause.Limit else reply_to_chart o)) ≡ Done
-      → (picture : X) × (o ≡ Drawn picture)
-  change_drawn false past bad o e = absurd cc
-  change_drawn true past (Some b) o e = absurd cc
-  change_drawn true true None o e = absurd cc
-  change_drawn true false None o e = chart_drawn o e
-
-  set_drawn : (known : Bool) (o : Outcome X) → (if known then reply_to_chart o else Refused cause.Name) ≡ Done → (picture : X) × (o ≡ Drawn picture)
-  set_drawn false o e = absurd cc
-  set_drawn true o e = chart_drawn o e
+chart_drawn : {X : Type 0} (o : Outcome X) → reply_to_chart o ≡ Done → (picture : X) × (o ≡ Drawn picture)
+chart_drawn (Drawn picture) e = (picture, refl)
+chart_drawn Overflow e = absurd cc
+chart_drawn (Panels n) e = absurd cc
 
 module _ (meaning : Semantics) where
   -- the chart of the state is drawn
   abbrev pub HasPicture : State → Type 0
   HasPicture st = (picture : List ℕ) × (meaning.chart st ≡ Drawn picture)
 
-  state_drawn : (r : Reply) (st new : State) → HasPicture st → (r ≡ Done → HasPicture new) → HasPicture (state_if r st new)
-  state_drawn Done st new old done = done refl
-  state_drawn (Refused why) st new old done = old
+  -- where there is a state, its chart is drawn
+  abbrev HaveDrawn : Option State → Type 0
+  HaveDrawn None = Unit {0}
+  HaveDrawn (Some new) = HasPicture new
+
+  new_drawn : (o : Option State) → reply_to_state meaning o ≡ Done → HaveDrawn o
+  new_drawn None e = tt
+  new_drawn (Some new) e = chart_drawn (meaning.chart new) e
+
+  change_drawn : (known past : Bool) (bad : Option (ℕ × List ℕ)) (o : Option State)
+      → (if not known then Refused cause.Name
+      else reply_to_rows bad (if past then Refused cause.Limit else reply_to_state meaning o)) ≡ Done
+      → HaveDrawn o
+  change_drawn false past bad o e = absurd cc
+  change_drawn true past (Some b) o e = absurd cc
+  change_drawn true true None o e = absurd cc
+  change_drawn true false None o e = new_drawn o e
+
+  set_drawn : (known : Bool) (new : State) → (if known then reply_to_chart (meaning.chart new) else Refused cause.Name) ≡ Done
+      → HasPicture new
+  set_drawn false new e = absurd cc
+  set_drawn true new e = chart_drawn (meaning.chart new) e
+
+  state_drawn : (r : Reply) (st : State) (o : Option State) → HasPicture st → (r ≡ Done → HaveDrawn o) → HasPicture (state_if r st o)
+  state_drawn Done st (Some new) old done = done refl
+  state_drawn Done st None old done = old
+  state_drawn (Refused why) st o old done = old
 
   -- the chart of the state after a command is drawn
   pub after_drawn : (st : State) (c : Command) → HasPicture st → HasPicture (state_after meaning st c)
   after_drawn st (Change name change) old =
-      let new = state_with st name change.insert in
-      state_drawn (reply_to_change meaning st name change.insert) st new old
-      (change_drawn (has_source meaning name) (is_past_limit st change.insert) (first_bad 0 change.insert) (meaning.chart new))
+      let new = state_changed (meaning.values st) st name change in
+      state_drawn (reply_to_change meaning st name change) st new old
+      (change_drawn (has_names meaning name change) (is_past_limit (meaning.values st) st name change) (first_bad 0 change.insert) new)
   after_drawn st (Set name value) old =
-      state_drawn (reply_to_set meaning st name value) st (state_set st name value) old (set_drawn (has_settable meaning name) (meaning.chart (state_set st name value)))
+      let new = state_set st name value in
+      state_drawn (reply_to_set meaning st name value) st (Some new) old (set_drawn (has_settable meaning name) new)
   after_drawn st (Event event) old = old
   after_drawn st Print old = old
 
@@ -81,15 +94,14 @@ module _ (meaning : Semantics) where
     refused_one none = record { reply = refused_line; note = []; now = st; is = refused st n line none; drawn = drawn }
 
     -- a line that reads as a tree is a command or none
-    by_command : (tree : Json) → Reads line tree → (o : Option Command) → command_of tree ≡ o → HasReply (IsReply meaning st n line)
-    by_command tree reads (Some c) e = command_line c (record { tree = tree; reads = reads; is = e })
+    by_command : (tree : Json) → Reads line tree → (o : Option Command) → command_of script_expression tree ≡ o → HasReply (IsReply meaning st n line)
+    by_command tree reads (Some c) e = command_line c (is_command line tree reads c e)
     by_command tree reads None e = refused_one (λ c is.
-        let same : is.tree ≡ tree = same_tree line is.tree tree is.reads reads in
-        let both : Some c ≡ None = sym is.is ∙ ap command_of same ∙ e in
+        let both : Some c ≡ None = sym (read_command line tree reads c is) ∙ e in
         absurd cc)
 
     by_tree : (r : Result Json ℕ) → text_at line ≡ r → HasReply (IsReply meaning st n line)
-    by_tree (Ok tree) e = by_command tree (text_sound line tree e) (command_of tree) refl
+    by_tree (Ok tree) e = by_command tree (text_sound line tree e) (command_of script_expression tree) refl
     by_tree (Err k) e = refused_one (λ c is. is_fault line k e is.tree is.reads)
 
     by_length : is_silent line ≡ false → (b : Bool) → nat_lt most_line_bytes (length line) ≡ b → HasReply (IsLine (IsReply meaning) st n line)

@@ -1,4 +1,4 @@
 pub mod Pending
 pub mod Progress
+pub mod Reading
 pub mod Once
-pub mod EmptyChart

@@ -1,188 +1,157 @@
-// Trees as commands.
-ghost use Rattle.std.specs.Prelude.{◌≡◌, Some, [], ◌∷◌};
-ghost use Rattle.std.specs.List.{list_all};
-ghost use Rattle.std.specs.Option.{is_none};
-ghost use Rattle.json_exact.specs.declared.json.Json.{Json as Tree, out-Json};
-ghost use Rattle.json_exact.specs.declared.json.Json.TheOpen as level;
-ghost use Rattle.param_flow.specs.Commands.{text_in, items_in, members_in, is_word, is_good_object, good_rows, insert_of};
-ghost use Rattle.param_flow.specs.Commands.{change_of, command_in, command_of};
-ghost use Rattle.param_flow.specs.Rows.{is_huge, bad_field_in};
+//! Trees as commands.
+ghost use Rattle.std.specs.Prelude.{◌≡◌};
+ghost use Rattle.param_flow.specs.Commands.{event_at, change_of, set_of, event_of, drag_of, command_of_two, command_in, command_of};
+ghost use Rattle.play_script.specs.inner.Reading.{ReadsAs, script_expression, three_in, command_of_three, print_in, other_command_in};
 
-use json_exact::{Json, Member};
-use param_flow::{ChangeOf, Command};
-use text_kit::{Seq, Text};
+use crate::LineError;
+use crate::changes::change_in;
+use crate::values::{items_of, number_in, settable_in, text_in, text_of};
+use fixed_num::Num;
+use json_exact::Json;
+use param_flow::{Command, Event};
+use std::alloc::Global;
+use text_kit::Seq;
 
-/// Whether this is a number out of range.
-fn is_huge(tree: &Json) -> bool
-    ensures { result ≡ is_huge (out-Json tree.now) }
+// What was found, else a fault.
+fn or_fault<X>(found: Option<X>) -> Result<X, LineError>
+    ensures { ReadsAs result found }
 {
-    match tree {
-        Json::Huge => true,
-        Json::Null
-        | Json::Flag(_)
-        | Json::Number(_)
-        | Json::Text(_)
-        | Json::List(_)
-        | Json::Object(_) => false,
+    match found {
+        Some(x) => Ok(x),
+        None => Err(LineError::Fault),
     }
 }
 
-/// Whether no value of the members is a number out of range.
-fn are_in_range(members: &[Member]) -> bool
-    ensures { result ≡ is_none (bad_field_in (level.Object members.now)) }
+// The change of a source.
+fn change_of(alloc: Global, source: Json, tree: Json) -> Result<Command, LineError>
+    ensures { ReadsAs result (change_of script_expression source tree) }
 {
-    for member in members {
-        if is_huge(&member.value) {
-            return false;
-        }
-    }
-    true
+    let source = or_fault(text_of(source))?;
+    let change = change_in(alloc, tree)?;
+    Ok(Command::Change { source, change })
 }
 
-/// Whether this is an object none of whose members is a number out of range.
-fn is_good_object(tree: &Json) -> bool
-    ensures { result ≡ is_good_object tree.now }
+// The setting of a parameter.
+fn set_of(parameter: Json, tree: Json) -> Option<Command>
+    ensures { result ≡ set_of parameter tree }
 {
-    match tree {
-        Json::Object(members) => are_in_range(members.as_slice()),
-        Json::Null | Json::Flag(_) | Json::Number(_) | Json::Huge | Json::Text(_) | Json::List(_) =>
-            false,
-    }
+    let name = text_of(parameter)?;
+    let value = settable_in(tree)?;
+    Some(Command::Set { name, value })
 }
 
-/// Whether each row is an object none of whose members is a number out of range.
-fn are_good_objects(rows: &[Json]) -> bool
-    ensures { result ≡ list_all is_good_object rows.now }
+// The event of the mouse at one place that a word names.
+fn event_at(word: &str, x: Num, y: Num) -> Option<Event>
+    ensures { result ≡ event_at word.now x y }
 {
-    rows.iter().all(is_good_object)
-}
-
-/// The text of a tree that is one.
-fn text_of(tree: Json) -> Option<Text>
-    ensures { result ≡ text_in (out-Json tree) }
-{
-    match tree {
-        Json::Text(text) => Some(text),
-        Json::Null
-        | Json::Flag(_)
-        | Json::Number(_)
-        | Json::Huge
-        | Json::List(_)
-        | Json::Object(_) => None,
-    }
-}
-
-/// The items of a tree that is a list.
-fn items_of(tree: Json) -> Option<Seq<Json>>
-    ensures { result ≡ items_in (out-Json tree) }
-{
-    match tree {
-        Json::List(items) => Some(items),
-        Json::Null
-        | Json::Flag(_)
-        | Json::Number(_)
-        | Json::Huge
-        | Json::Text(_)
-        | Json::Object(_) => None,
-    }
-}
-
-/// The members of a tree that is an object.
-fn members_of(tree: Json) -> Option<Seq<Member>>
-    ensures { result ≡ members_in (out-Json tree) }
-{
-    match tree {
-        Json::Object(members) => Some(members),
-        Json::Null | Json::Flag(_) | Json::Number(_) | Json::Huge | Json::Text(_) | Json::List(_) =>
-            None,
-    }
-}
-
-/// Whether a tree is this text.
-fn is_text(tree: &Json, text: &str) -> bool
-    ensures { result ≡ is_word text.now (text_in (out-Json tree.now)) }
-{
-    match tree {
-        Json::Text(own) => own.as_str() == text,
-        Json::Null
-        | Json::Flag(_)
-        | Json::Number(_)
-        | Json::Huge
-        | Json::List(_)
-        | Json::Object(_) => false,
-    }
-}
-
-/// The rows, if each is an object none of whose members is a number out of range.
-fn good_rows(rows: Seq<Json>) -> Option<Seq<Json>>
-    ensures { result ≡ good_rows (Some rows) }
-{
-    if are_good_objects(rows.as_slice()) {
-        Some(rows)
+    if word == "click" {
+        Some(Event::Click { x, y })
+    } else if word == "shift" {
+        Some(Event::Shift { x, y })
+    } else if word == "double" {
+        Some(Event::Double { x, y })
     } else {
         None
     }
 }
 
-/// The rows that a member inserts.
-fn insert_in(member: Member) -> Option<Seq<Json>>
-    ensures { result ≡ insert_of (Some (member ∷ [])) }
+// An event of the mouse at one place.
+fn event_of(word: &str, a: &Json, b: &Json) -> Option<Command>
+    ensures { result ≡ event_of word.now a.now b.now }
 {
-    let Member { name, value } = member;
-    if name.as_str() == "insert" {
-        good_rows(items_of(value)?)
+    let x = number_in(a)?;
+    let y = number_in(b)?;
+    Some(Command::Event(event_at(word, x, y)?))
+}
+
+// A drag from one place to another.
+fn drag_of(word: &str, a: &Json, b: &Json, c: &Json, d: &Json) -> Option<Command>
+    ensures { result ≡ drag_of word.now a.now b.now c.now d.now }
+{
+    let x1 = number_in(a)?;
+    let y1 = number_in(b)?;
+    let x2 = number_in(c)?;
+    let y2 = number_in(d)?;
+    if word == "drag" {
+        Some(Command::Event(Event::Drag { x1, y1, x2, y2 }))
     } else {
         None
     }
 }
 
-/// The rows that a change inserts.
-fn insert_of(members: Seq<Member>) -> Option<Seq<Json>>
-    ensures { result ≡ insert_of (Some members) }
+// The command that a word and two values are.
+fn command_of_two(alloc: Global, word: &str, a: Json, b: Json) -> Result<Command, LineError>
+    ensures { ReadsAs result (command_of_two script_expression word.now a b) }
 {
-    let mut members = members.into_vec().into_iter();
-    match (members.next(), members.next()) {
-        (Some(member), None) => insert_in(member),
+    if word == "change" {
+        change_of(alloc, a, b)
+    } else if word == "set" {
+        or_fault(set_of(a, b))
+    } else {
+        or_fault(event_of(word, &a, &b))
+    }
+}
+
+// The items of a list of three.
+fn three_in(items: Seq<Json>) -> Option<(Json, Json, Json)>
+    ensures { result ≡ three_in items }
+{
+    let mut items = items.into_vec().into_iter();
+    let a = items.next()?;
+    let b = items.next()?;
+    let c = items.next()?;
+    match items.next() {
+        None => Some((a, b, c)),
+        Some(_) => None,
+    }
+}
+
+// The command that a list of a word and two values is.
+fn command_of_three(alloc: Global, items: Seq<Json>) -> Result<Command, LineError>
+    ensures { ReadsAs result (command_of_three script_expression items) }
+{
+    let (word, a, b) = or_fault(three_in(items))?;
+    let word = or_fault(text_of(word))?;
+    command_of_two(alloc, word.as_str(), a, b)
+}
+
+// The print that a word is.
+fn print_in(word: &Json) -> Option<Command>
+    ensures { result ≡ print_in word.now }
+{
+    if text_in(word)?.as_str() == "print" {
+        Some(Command::Print)
+    } else {
+        None
+    }
+}
+
+// The command that a list of one or five items is.
+fn other_command_in(items: &[Json]) -> Option<Command>
+    ensures { result ≡ other_command_in items.now }
+{
+    match items {
+        [word] => print_in(word),
+        [word, a, b, c, d] => drag_of(text_in(word)?.as_str(), a, b, c, d),
         _ => None,
     }
 }
 
-/// The change of a source.
-fn change_of(source: Json, change: Json) -> Option<Command>
-    ensures { result ≡ change_of (text_in (out-Json source)) (insert_of (members_in (out-Json change))) }
+// The command that the items of a list are.
+#[tactic(auto, using(crate::proofs::CommandForms::three_is, crate::proofs::CommandForms::other_is))]
+fn command_in(alloc: Global, items: Seq<Json>) -> Result<Command, LineError>
+    ensures { ReadsAs result (command_in script_expression items) }
 {
-    let source = text_of(source)?;
-    let insert = insert_of(members_of(change)?)?;
-    Some(Command::Change {
-        source,
-        change: ChangeOf { insert },
-    })
-}
-
-/// The change that a list of three items makes, whatever its first item is.
-fn change_in(items: Seq<Json>) -> Option<Command>
-    ensures { (word source change : Tree) → items ≡ word ∷ source ∷ change ∷ []
-        → result ≡ change_of (text_in (out-Json source)) (insert_of (members_in (out-Json change))) }
-{
-    let mut items = items;
-    let change = items.pop()?;
-    change_of(items.pop()?, change)
-}
-
-/// The command that the items of a list are.
-fn command_in(items: Seq<Json>) -> Option<Command>
-    ensures { result ≡ command_in (Some items) }
-{
-    match items.as_slice() {
-        [word] if is_text(word, "print") => Some(Command::Print),
-        [word, _, _] if is_text(word, "change") => change_in(items),
-        _ => None,
+    if items.len() == 3 {
+        command_of_three(alloc, items)
+    } else {
+        or_fault(other_command_in(items.as_slice()))
     }
 }
 
-/// The command that a tree is; None exactly where it is none.
-pub fn command_of(tree: Json) -> Option<Command>
-    ensures { result ≡ command_of tree }
+/// The command that a tree is; `Fault` exactly where it is none.
+pub fn command_of(alloc: Global, tree: Json) -> Result<Command, LineError>
+    ensures { ReadsAs result (command_of script_expression tree) }
 {
-    command_in(items_of(tree)?)
+    command_in(alloc, or_fault(items_of(tree))?)
 }

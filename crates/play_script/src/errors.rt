@@ -1,5 +1,6 @@
 // Why lines are not read, pictures not printed and scripts not played.
 ghost use Rattle.std.specs.Prelude.{◌≡◌};
+ghost use Rattle.play_script.specs.declared.errors.LineError.TheVariants as line;
 ghost use Rattle.play_script.specs.declared.errors.PlayError.TheVariants.{Memory, Write};
 
 use chart_io::WriteFault;
@@ -42,6 +43,14 @@ pub enum PlayError {
     /// Memory was refused.
     #[error("memory was refused")]
     Memory,
+}
+
+impl From<OutOfMemory> for LineError {
+    ghost from_gives = { λ _ e. e ≡ line.Memory };
+
+    fn from(_: OutOfMemory) -> LineError {
+        LineError::Memory
+    }
 }
 
 impl From<OutOfMemory> for PlayError {

@@ -1,6 +1,7 @@
 //! Scripts: a line is a command, an engine replies to each, and the replies are the output.
 #![tactic(auto)]
 
+mod changes;
 mod commands;
 mod engine;
 mod engine_lines;
@@ -10,10 +11,9 @@ mod lines;
 mod pending;
 mod playing;
 mod reading;
-#[cfg(test)]
-mod reading_tests;
 mod replies;
 mod script;
+mod values;
 
 pub use engine::Engine;
 pub use engine_lines::{EngineLines, play};
@@ -22,6 +22,3 @@ pub use laws::{an_output, as_vega, begins, ended_first, one_output, played_begin
 pub use playing::play_lines;
 pub use reading::read_command;
 pub use script::Lines;
-
-#[cfg(test)]
-mod tests;

@@ -20,7 +20,7 @@ pub fn read_command(alloc: Global, line: &[u8]) -> Result<Command, LineError>
     ensures fault { result ≡ Err Fault → (command : CommandOf) → IsCommand line.now command → ⊥ }
 {
     match json_exact::read(alloc, line) {
-        Ok(tree) => command_of(tree).ok_or(LineError::Fault),
+        Ok(tree) => command_of(alloc, tree),
         Err(JsonError::Fault { .. }) => Err(LineError::Fault),
         Err(JsonError::Memory) => Err(LineError::Memory),
     }

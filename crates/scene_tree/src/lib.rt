@@ -3,8 +3,6 @@
 
 mod scene;
 mod shape;
-#[cfg(test)]
-mod tests;
 
 pub use scene::{Item, Panel, Scene};
 pub use shape::{Anchor, Point, Shape};

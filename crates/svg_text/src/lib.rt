@@ -7,6 +7,3 @@ mod scene_text;
 mod shapes;
 
 pub use scene_text::print;
-
-#[cfg(test)]
-mod tests;

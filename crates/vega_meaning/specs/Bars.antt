@@ -1,5 +1,5 @@
 -- The chart of a Vega specification over a state: a bar for each row of one source that has a number.
-use Rattle.std.specs.Prelude.{ℕ, ◌*◌, ◌^◌, min, ℤ, pos, ◌-ℤ◌, int_lt, unsigned_abs, ◌||◌, Option, Some, None, List, [], ◌∷◌, length, map, find, unwrap_or, if◌then◌else◌, codes}
+use Rattle.std.specs.Prelude.{ℕ, ◌*◌, ◌^◌, ℤ, pos, ◌-ℤ◌, ◌*ℤ◌, int_lt, unsigned_abs, ◌||◌, Option, Some, None, List, [], ◌∷◌, length, map, find, unwrap_or, if◌then◌else◌, codes}
 use Rattle.std.specs.Option.{option_map}
 use Rattle.std.specs.List.{flat_map, filter_map}
 use Rattle.std.specs.Int.{int_min}
@@ -17,10 +17,12 @@ use Rattle.scene_tree.specs.declared.shape.Shape.TheVariants.{Rect}
 use Rattle.scene_tree.specs.Outcome.{Outcome, Drawn, ◌>>=◌, outcome_map, in_reach, all_drawn}
 use Rattle.svg_text.specs.SceneText.{svg_of}
 use Rattle.vega_model.specs.declared.spec.VgSpec.{VgSpec}
-use Rattle.vega_meaning.specs.Ranges.{in_range, pixels}
+use Rattle.fixed_num.specs.Ranges.{in_range}
+use Rattle.fixed_num.specs.Bands.{space_of}
+use Rattle.vega_meaning.specs.Pixels.{pixels}
 use Rattle.vega_meaning.specs.Domains.{ascending, extent_of, with_zero}
 use Rattle.vega_meaning.specs.Steps.{nice_of}
-use Rattle.vega_meaning.specs.Scales.{Linear, place_of_number, linear_place, Band, band_place, band_width, space_of}
+use Rattle.vega_meaning.specs.Scales.{Linear, place_of_number, linear_place, Band, band_place, band_width}
 use Rattle.vega_meaning.specs.Frames.{scene_around}
 
 -- the rows of the first source of this name; none where there is none
@@ -50,7 +52,8 @@ outer_padding = 50000
 
 -- the plot is a step of 20 pixels wide for each unit of the bands' space, at most 10^11 pixels
 abbrev pub plot_width : ℕ → ℤ
-plot_width count = pos (min (20 * space_of count inner_padding outer_padding) (10 ^ 11 * million))
+plot_width count =
+    int_min (pos 20 *ℤ space_of (pos (count * million)) (pos inner_padding) (pos outer_padding)) (pos (10 ^ 11 * million))
 
 -- the plot is 200 pixels high
 abbrev pub plot_height : ℤ

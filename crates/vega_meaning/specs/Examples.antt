@@ -11,7 +11,7 @@ use Rattle.cell_value.specs.declared.cell.Cell.TheVariants.{Null, Flag, Number, 
 use Rattle.cell_value.specs.Datum.{Datum}
 use Rattle.scene_tree.specs.Outcome.{Outcome, Drawn, outcome_map}
 use Rattle.svg_text.specs.SceneText.{svg_of}
-use Rattle.vega_meaning.specs.Ranges.{pixels}
+use Rattle.vega_meaning.specs.Pixels.{pixels}
 use Rattle.vega_meaning.specs.Steps.{step_of}
 use Rattle.vega_meaning.specs.Bars.{scene_of_rows}
 

@@ -2,7 +2,7 @@
 use Rattle.std.specs.Prelude.{ℤ, ◌+ℤ◌, Some, None, List, [], ◌∷◌}
 use Rattle.scene_tree.specs.declared.scene.Scene.{Scene}
 use Rattle.scene_tree.specs.declared.scene.Item.{Item}
-use Rattle.vega_meaning.specs.Ranges.{pixels, cut}
+use Rattle.vega_meaning.specs.Pixels.{pixels, cut}
 
 -- the one plot of a picture, of this size and without guides, stands 5 pixels from each edge; its marks are counted from 0
 abbrev pub scene_around : ℤ → ℤ → List Item → Scene

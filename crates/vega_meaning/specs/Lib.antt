@@ -1,4 +1,4 @@
-pub mod Ranges
+pub mod Pixels
 pub mod Domains
 pub mod Steps
 pub mod Scales

@@ -1,11 +1,13 @@
 -- Places on scales, in millionths of a pixel. A cell may have no place, and a place may be out of range.
-use Rattle.std.specs.Prelude.{ℕ, zero, suc, ◌+◌, ◌*◌, ℤ, pos, ◌+ℤ◌, ◌-ℤ◌, ◌*ℤ◌, int_lt, unsigned_abs, Option, Some, None, List, [], ◌∷◌, length, position, codes, if◌then◌else◌, ◌≡◌, refl}
+use Rattle.std.specs.Prelude.{ℕ, ◌+◌, ◌*◌, ℤ, pos, ◌+ℤ◌, ◌-ℤ◌, ◌*ℤ◌, int_lt, unsigned_abs, Option, Some, None, List, [], ◌∷◌, length, position, codes, if◌then◌else◌, ◌≡◌, refl}
 use Rattle.fixed_num.specs.Number.{million, rounded, floor_quotient}
 use Rattle.cell_value.specs.declared.cell.Cell.{Cell}
 use Rattle.cell_value.specs.declared.cell.Cell.TheVariants.{Null, Number, Text}
 use Rattle.cell_value.specs.Cell.{same_cells}
 use Rattle.scene_tree.specs.Outcome.{Outcome, Drawn, outcome_map, in_reach}
-use Rattle.vega_meaning.specs.Ranges.{in_range, pixels}
+use Rattle.fixed_num.specs.Ranges.{in_range}
+use Rattle.fixed_num.specs.Bands.{steps_of}
+use Rattle.vega_meaning.specs.Pixels.{pixels}
 
 -- the middle between two places
 abbrev pub middle : ℤ → ℤ → Outcome ℤ
@@ -37,18 +39,9 @@ pub record Band : Type 0 where
   pub r0 : ℤ
   pub r1 : ℤ
 
--- so many steps, in millionths of one, less the inner padding and with the outer one at both ends
-abbrev pub steps_of : ℕ → ℕ → ℕ → ℤ
-steps_of count inner outer = pos (count * million + 2 * outer) -ℤ pos inner
-
--- the space that so many bands take, in millionths of a step: their steps, and one step where that isn't positive; none without a band
-abbrev pub space_of : ℕ → ℕ → ℕ → ℕ
-space_of zero inner outer = 0
-space_of (suc n) inner outer =
-    if int_lt (pos 0) (steps_of (suc n) inner outer) then unsigned_abs (steps_of (suc n) inner outer) else million
-
+-- the steps of the bands of its domain, in millionths of one
 abbrev pub band_steps : Band → ℤ
-band_steps b = steps_of (length b.domain) b.inner b.outer
+band_steps b = steps_of (pos (length b.domain * million)) (pos b.inner) (pos b.outer)
 
 -- the lesser end of the band at an index of the domain; the middle of the range where the steps aren't positive
 abbrev pub place_at : Band → ℕ → Outcome ℤ

@@ -1,6 +1,7 @@
 -- What a Vega specification means to commands, and what comes of commands and scripts over it.
 use Rattle.std.specs.Prelude.{ℕ, List, [], ◌∷◌}
 use Rattle.cell_value.specs.State.{State}
+use Rattle.expr_eval.specs.Plain.{no_values}
 use Rattle.param_flow.specs.declared.command.Command.{Command}
 use Rattle.param_flow.specs.declared.reply.Reply.{Reply}
 use Rattle.param_flow.specs.Semantics.{Semantics}
@@ -12,7 +13,7 @@ use Rattle.vega_meaning.specs.Bars.{vega_chart_of}
 
 -- it has one source and no parameters
 abbrev pub vega_semantics : VgSpec → Semantics
-vega_semantics g = record { sources = g.source ∷ []; params = []; chart = vega_chart_of g }
+vega_semantics g = record { sources = g.source ∷ []; params = []; values = λ st. no_values; chart = vega_chart_of g }
 
 -- what the direct machine replies to a command other than a print
 abbrev pub vega_reply_of : VgSpec → State → Command → Reply

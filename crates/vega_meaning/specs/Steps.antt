@@ -1,7 +1,8 @@
 -- Steps of ticks, and nice domains.
 use Rattle.std.specs.Prelude.{ℕ, zero, suc, ◌*◌, ◌^◌, ℤ, pos, ◌-ℤ◌, int_lt, unsigned_abs, Option, Some, None, List, [], ◌∷◌, ◌++◌, find, nat_lt, nat_le, if◌then◌else◌, ◌≡◌, refl}
 use Rattle.fixed_num.specs.Number.{limit, million, floored, ceiled, floor_quotient}
-use Rattle.vega_meaning.specs.Ranges.{◌>>=◌, in_range, pixels}
+use Rattle.fixed_num.specs.Ranges.{◌>>=◌, in_range}
+use Rattle.vega_meaning.specs.Pixels.{pixels}
 
 -- the steps 1, 2 and 5 of a power of ten, each with a million times the spacing below which it is taken
 abbrev pub steps_at : ℕ → List (ℕ × ℕ)

@@ -2,7 +2,5 @@
 #![tactic(auto)]
 
 mod spec;
-#[cfg(test)]
-mod tests;
 
 pub use spec::VgSpec;

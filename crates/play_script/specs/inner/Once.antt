@@ -14,15 +14,31 @@ use Rattle.param_flow.specs.Machine.{reply_of, state_after}
 use Rattle.param_flow.specs.Playing.{IsReply, reply_text, refused, printed, told}
 use Rattle.vega_meaning.specs.Semantics.{vega_semantics}
 use Rattle.play_script.specs.Meaning.{Meaning, IsReplyIn}
+use Rattle.play_script.specs.inner.Reading.{script_expression}
+use Rattle.expr_syntax.proofs.Expressed.{reads_rightly, same_readers}
 
 pub same_tree : (line : List ℕ) (s t : Json) → Reads line s → Reads line t → s ≡ t
 same_tree line s t r u = ok_is s t (sym (text_again-whole line s r) ∙ text_again-whole line t u)
 
+-- a line that reads as a tree is the command that the tree is
+pub read_command : (line : List ℕ) (tree : Json) → Reads line tree → (c : Command) → IsCommand line c
+    → command_of script_expression tree ≡ Some c
+read_command line tree reads c p =
+    let same : p.tree ≡ tree = same_tree line p.tree tree p.reads reads in
+    let read : p.expression_of ≡ script_expression = same_readers p.expression_of script_expression p.expressions reads_rightly in
+    sym (λ i. command_of (read i) (same i)) ∙ p.is
+
+-- and where the tree is a command, the line is it
+pub is_command : (line : List ℕ) (tree : Json) → Reads line tree → (c : Command) → command_of script_expression tree ≡ Some c
+    → IsCommand line c
+is_command line tree reads c is =
+    record { tree = tree; reads = reads; expression_of = script_expression; expressions = reads_rightly; is = is }
+
 -- no line is two commands
 pub one_command : (line : List ℕ) (c d : Command) → IsCommand line c → IsCommand line d → c ≡ d
 one_command line c d p q =
-    let same : p.tree ≡ q.tree = same_tree line p.tree q.tree p.reads q.reads in
-    let both : Some c ≡ Some d = sym p.is ∙ ap command_of same ∙ q.is in
+    let other : command_of script_expression p.tree ≡ Some d = read_command line p.tree p.reads d q in
+    let both : Some c ≡ Some d = sym (read_command line p.tree p.reads c p) ∙ other in
     cc
 
 -- a line has one reply of the direct machine

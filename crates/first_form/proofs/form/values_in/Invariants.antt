@@ -1,5 +1,6 @@
 use Rattle.std.proofs.Common.{◌≡◌, drop, map}
-use Rattle.first_form.specs.FirstForm.{value_in, all_found}
+use Rattle.fixed_num.specs.Ranges.{all_found}
+use Rattle.first_form.specs.FirstForm.{value_in}
 use Rattle.first_form.proofs.Values.{after}
 use Rattle.first_form.proofs.form.values_in.Given as goal
 
