@@ -1,5 +1,5 @@
 -- Why bars in turn give all bars, and what an answer says of the parts before it.
-use Rattle.std.proofs.Common.{◌≡◌, ℕ, ◌+◌, ◌<◌, ◌≤◌, List, [], ◌∷◌, ◌++◌, length, map, drop, get_or, suc, Option, Some, None, Result, Ok, Err, Bor, arith, refl, sym, ap, ◌∙◌, subst, append_assoc, add-one}
+use Rattle.std.proofs.Common.{◌≡◌, ℕ, ◌+◌, ◌<◌, List, ◌∷◌, ◌++◌, length, drop, get_or, Option, Some, None, Result, Ok, Err, Bor, refl, sym, ap, ◌∙◌, subst, append_assoc, add-one}
 use Rattle.std.specs.Option.{option_to_list}
 use Rattle.std.specs.Result.{IsErrAnd}
 use Rattle.std.specs.List.{filter_map}
@@ -8,12 +8,13 @@ use Rattle.cell_value.specs.declared.cell.Cell.{Cell}
 use Rattle.cell_value.specs.declared.state.Key.{Key}
 use Rattle.cell_value.specs.declared.state.Keyed.{Keyed}
 use Rattle.scene_tree.specs.declared.scene.Item.{Item}
-use Rattle.scene_tree.specs.Outcome.{Outcome, Drawn, Overflow, Panels, ◌>>=◌, outcome_map, all_drawn}
+use Rattle.scene_tree.specs.Outcome.{Outcome, Drawn, Overflow, Panels, ◌>>=◌, outcome_map}
 use Rattle.vega_meaning.specs.declared.open.OpenError.{OpenError}
 use Rattle.vega_meaning.specs.declared.open.OpenError.TheVariants as error
 use Rattle.vega_meaning.specs.Answers.{Draws}
+use Rattle.row_edits.specs.Rows.{rows_at}
 use Rattle.plain_engine.specs.inner.Columns.{cells_of}
-use Rattle.plain_engine.specs.inner.Bars.{drawn_along, bars_along}
+use Rattle.plain_engine.specs.inner.Bars.{bars_along}
 
 -- a part and the parts after it
 part_and_rest : {X : Type 0} (part : Outcome (Option X)) (rest : Outcome (List (Option X)))
@@ -43,12 +44,12 @@ stopped : {X Y Z : Type 0} (part : Outcome X) (rest : X → Outcome Y) (f : Y �
 stopped part rest f whole e (Ok z) told is same = absurd same
 stopped part rest f whole e (Err g) told is same = subst (λ g. Draws whole (Err g)) (sym same) (subst (λ w. Draws w (Err e)) (sym is) (stopped_at part rest f e told))
 
-module _ (draw : Key → Cell → Cell → Outcome (Option Item)) (rows : List Keyed) (xs ys : List (Bor Cell)) (i : ℕ) where
+module _ (draw : Key → Cell → Cell → Outcome (Option Item)) (rows : List (Bor Keyed)) (xs ys : List (Bor Cell)) (i : ℕ) where
   -- the bars from a row on
   abbrev pub bars_from : Outcome (List Item)
-  bars_from = bars_along draw (drop i rows) (cells_of (drop i xs)) (cells_of (drop i ys))
+  bars_from = bars_along draw (rows_at (drop i rows)) (cells_of (drop i xs)) (cells_of (drop i ys))
 
-module _ (draw : Key → Cell → Cell → Outcome (Option Item)) (rows : List Keyed) (xs ys : List (Bor Cell)) (i : ℕ) (row : Keyed) (x y : Bor Cell) where
+module _ (draw : Key → Cell → Cell → Outcome (Option Item)) (rows : List (Bor Keyed)) (xs ys : List (Bor Cell)) (i : ℕ) (row : Bor Keyed) (x y : Bor Cell) where
   -- the row at an index, and its cells along x and y
   pub record IsRow : Type 0 where
     pub row_within : i < length rows
@@ -58,17 +59,17 @@ module _ (draw : Key → Cell → Cell → Outcome (Option Item)) (rows : List K
     pub x_is : x ≡ get_or xs i x
     pub y_is : y ≡ get_or ys i y
 
-  one_bar : IsRow → bars_from draw rows xs ys i ≡ (draw row.key x.now y.now >>= (λ bar. outcome_map (λ more. option_to_list bar ++ more) (bars_from draw rows xs ys (i + 1))))
+  one_bar : IsRow → bars_from draw rows xs ys i ≡ (draw row.now.key x.now y.now >>= (λ bar. outcome_map (λ more. option_to_list bar ++ more) (bars_from draw rows xs ys (i + 1))))
   one_bar h =
       rw (drop-cons rows i row h.row_within, drop-cons xs i x h.x_within, drop-cons ys i y h.y_within, add-one i, ← h.row_is, ← h.x_is, ← h.y_is) (part_and_rest _ _)
 
   pub next_bar : (whole : Outcome (List Item)) (items longer : List Item) (bar : Option Item) → IsRow → whole ≡ outcome_map (λ all. items ++ all) (bars_from draw rows xs ys i)
-      → draw row.key x.now y.now ≡ Drawn bar → longer ≡ items ++ option_to_list bar → whole ≡ outcome_map (λ all. longer ++ all) (bars_from draw rows xs ys (i + 1))
+      → draw row.now.key x.now y.now ≡ Drawn bar → longer ≡ items ++ option_to_list bar → whole ≡ outcome_map (λ all. longer ++ all) (bars_from draw rows xs ys (i + 1))
   next_bar whole items longer bar h is drawn added =
       let rest = bars_from draw rows xs ys (i + 1) in
       is ∙ ap (outcome_map (λ all. items ++ all)) (one_bar h ∙ ap (λ o. o >>= (λ bar. outcome_map (λ more. option_to_list bar ++ more) rest)) drawn)
       ∙ taken_on items (option_to_list bar) rest ∙ ap (λ items. outcome_map (λ all. items ++ all) rest) (sym added)
 
   pub stopped_bar : (whole : Outcome (List Item)) (items : List Item) (e : OpenError) (r : Result (List Item) OpenError) → IsRow → whole ≡ outcome_map (λ all. items ++ all) (bars_from draw rows xs ys i)
-      → Draws (draw row.key x.now y.now) (Err e) → IsErrAnd r (λ g. g ≡ e) → Draws whole r
+      → Draws (draw row.now.key x.now y.now) (Err e) → IsErrAnd r (λ g. g ≡ e) → Draws whole r
   stopped_bar whole items e r h is told same = stopped _ _ (λ all. items ++ all) whole e r told (is ∙ ap (outcome_map (λ all. items ++ all)) (one_bar h)) same

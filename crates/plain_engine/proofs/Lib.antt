@@ -7,5 +7,7 @@ pub mod BarLemmas
 pub mod SceneLemmas
 pub mod SourceLemmas
 pub mod OneSource
-pub mod Insertion
+pub mod LeftRows
+pub mod Changes
+pub mod MentionLemmas
 pub mod Replies

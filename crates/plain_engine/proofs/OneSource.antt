@@ -1,5 +1,5 @@
 -- States of one source, as they are read.
-use Rattle.std.proofs.Common.{◌≡◌, ℕ, zero, suc, ◌+◌, ◌<◌, ◌≤◌, Bool, true, false, ◌||◌, nat_lt, List, [], ◌∷◌, ◌++◌, length, map, refl, sym, ap, subst, ◌∙◌, arith, append_assoc, length-append}
+use Rattle.std.proofs.Common.{◌≡◌, ℕ, suc, ◌+◌, ◌<◌, ◌≤◌, true, false, ◌||◌, nat_lt, List, [], ◌∷◌, ◌++◌, length, map, refl, sym, ap, subst, ◌∙◌, arith, append_assoc}
 use Rattle.std.specs.Prelude.{◌≢◌}
 use Rattle.std.specs.List.{All, AllPairs}
 use Rattle.std.specs.Str.{bytes_eq}
@@ -13,21 +13,19 @@ use Rattle.cell_value.specs.declared.cell.Cell.{Cell}
 use Rattle.cell_value.specs.declared.state.Keyed.{Keyed}
 use Rattle.cell_value.specs.declared.state.StoreOf.{StoreOf}
 use Rattle.cell_value.specs.Datum.{Datum, datum_of}
-use Rattle.cell_value.specs.State.{Dataset, State, all_rows, ids_of, most_rows, greatest_id, IsState}
+use Rattle.cell_value.specs.State.{Dataset, State, all_rows, ids_of, most_rows, greatest_id, ReadsItsId}
 use Rattle.param_flow.specs.Rows.{row_of_json}
-use Rattle.param_flow.specs.Machine.{new_rows, state_with, is_past_limit}
+use Rattle.param_flow.specs.Machine.{new_rows}
 use Rattle.vega_model.specs.declared.spec.VgSpec.{VgSpec}
 use Rattle.vega_meaning.specs.Bars.{rows_of, scene_of_rows, vega_scene_of}
 use Rattle.vega_meaning.specs.States.{IsStateOf}
-use Rattle.plain_engine.specs.inner.Columns.{Fits}
+use Rattle.row_edits.specs.Rows.{Fits}
+use Rattle.plain_engine.specs.inner.Sources.{single}
 use Rattle.plain_engine.proofs.DomainLemmas.{map-map}
 
--- the state of one source
-abbrev pub single : List ℕ → ℕ → List Datum → State
-single source next_id rows = record { next_id = next_id; sources = record { name = source; rows = rows } ∷ []; params = []; stores = [] }
-
 -- what holds of the rows of a state
-record AreRows (next_id : ℕ) (rows : List Datum) : Type 0 where
+pub record AreRows (next_id : ℕ) (rows : List Datum) : Type 0 where
+  pub ids_read : All ReadsItsId rows
   pub no_branch : All (λ (datum : Datum). datum.key.branch ≡ 0) rows
   pub rise : AllPairs (λ a b. a < b) (ids_of rows)
   pub below : All (λ id. id < next_id) (ids_of rows)
@@ -37,12 +35,13 @@ abbrev pub new_data : ℕ → List Json → List Datum
 new_data next_id trees = map datum_of (new_rows next_id trees)
 
 -- one row more, with the next id
-one_more : (next_id : ℕ) (rows : List Datum) (datum : Datum) → datum.key ≡ record { id = next_id; branch = 0 } → AreRows next_id rows → AreRows (suc next_id) (rows ++ datum ∷ [])
-one_more next_id rows datum key h =
+one_more : (next_id : ℕ) (rows : List Datum) (datum : Datum) → datum.key ≡ record { id = next_id; branch = 0 } → ReadsItsId datum → AreRows next_id rows → AreRows (suc next_id) (rows ++ datum ∷ [])
+one_more next_id rows datum key read h =
     let added = map-append (λ (datum : Datum). datum.key.id) rows (datum ∷ []) in
     let id : datum.key.id ≡ next_id = cc in
     let branch : datum.key.branch ≡ 0 = cc in
     record {
+      ids_read = All-push ReadsItsId rows datum h.ids_read read;
       no_branch = All-push (λ (datum : Datum). datum.key.branch ≡ 0) rows datum h.no_branch branch;
       rise = subst (AllPairs (λ a b. a < b)) (sym added)
           (all_pairs_push (λ a b. a < b) (ids_of rows) datum.key.id h.rise (λ k d in_it. let low = All-get_or (λ id. id < next_id) (ids_of rows) k d in_it h.below in omega arith));
@@ -51,22 +50,22 @@ one_more next_id rows datum key h =
     }
 
 -- rows that are inserted
-inserted : (next_id : ℕ) (trees : List Json) (rows : List Datum) → AreRows next_id rows → AreRows (next_id + length trees) (rows ++ new_data next_id trees)
+pub inserted : (next_id : ℕ) (trees : List Json) (rows : List Datum) → AreRows next_id rows → AreRows (next_id + length trees) (rows ++ new_data next_id trees)
 inserted next_id [] rows h =
     let same : next_id ≡ next_id + 0 = omega arith in
     subst (λ n. AreRows n (rows ++ [])) same (subst (AreRows next_id) (sym (append-nil rows)) h)
 inserted next_id (tree ∷ trees) rows h =
     let keyed : Keyed = record { key = record { id = next_id; branch = 0 }; row = row_of_json tree } in
-    let more = inserted (suc next_id) trees _ (one_more next_id rows (datum_of keyed) refl h) in
+    let more = inserted (suc next_id) trees _ (one_more next_id rows (datum_of keyed) refl refl h) in
     let count : suc next_id + length trees ≡ next_id + suc (length trees) = omega arith in
     subst (λ n. AreRows n (rows ++ new_data next_id (tree ∷ trees))) count
     (subst (AreRows (suc next_id + length trees)) (append_assoc rows (datum_of keyed ∷ []) (new_data (suc next_id) trees)) more)
 
-counted : (next_id : ℕ) (trees : List Json) → length (new_data next_id trees) ≡ length trees
+pub counted : (next_id : ℕ) (trees : List Json) → length (new_data next_id trees) ≡ length trees
 counted next_id [] = refl
 counted next_id (tree ∷ trees) = ap suc (counted (suc next_id) trees)
 
-within : (a b m n : ℕ) → (nat_lt a m || nat_lt b n) ≡ false → (m ≤ a) × (n ≤ b)
+pub within : (a b m n : ℕ) → (nat_lt a m || nat_lt b n) ≡ false → (m ≤ a) × (n ≤ b)
 within a b m n h =
     let parts = or_parts _ _ h in
     (ltb-false a m parts.0, ltb-false b n parts.1)
@@ -76,21 +75,23 @@ apart : (ids : List ℕ) → AllPairs (λ a b. a < b) ids → AllPairs (λ a b. 
 apart ids h = λ i j d before in_it same. let lt = h i j d before in_it in omega arith
 
 -- the rows of a state of one source
-rows_in : (g : VgSpec) (next_id : ℕ) (rows : List Datum) → IsStateOf g (single g.source next_id rows) → AreRows next_id rows
+pub rows_in : (g : VgSpec) (next_id : ℕ) (rows : List Datum) → IsStateOf g (single g.source next_id rows) → AreRows next_id rows
 rows_in g next_id rows h =
     let all : all_rows (single g.source next_id rows) ≡ rows = append-nil rows in
     record {
+      ids_read = subst (All ReadsItsId) all h.is.ids_read;
       no_branch = subst (All (λ (datum : Datum). datum.key.branch ≡ 0)) all h.is.no_branch;
       rise = All-head (λ (source : Dataset). AllPairs (λ a b. a < b) (ids_of source.rows)) _ [] h.is.ids_rise;
       below = subst (λ rows. All (λ id. id < next_id) (ids_of rows)) all h.is.ids_below_next;
     }
 
 -- a state of one source
-state_from : (g : VgSpec) (next_id : ℕ) (rows : List Datum) → AreRows next_id rows → 1 ≤ next_id → next_id ≤ greatest_id + 1 → length rows ≤ most_rows → IsStateOf g (single g.source next_id rows)
+pub state_from : (g : VgSpec) (next_id : ℕ) (rows : List Datum) → AreRows next_id rows → 1 ≤ next_id → next_id ≤ greatest_id + 1 → length rows ≤ most_rows → IsStateOf g (single g.source next_id rows)
 state_from g next_id rows h from to few =
     let all : rows ≡ all_rows (single g.source next_id rows) = sym (append-nil rows) in
     record {
       is = record {
+        ids_read = subst (All ReadsItsId) all h.ids_read;
         no_branch = subst (All (λ (datum : Datum). datum.key.branch ≡ 0)) all h.no_branch;
         ids_rise = All-cons (λ (source : Dataset). AllPairs (λ a b. a < b) (ids_of source.rows)) _ [] h.rise (All-nil _);
         ids_distinct = subst (λ rows. AllPairs (λ a b. a ≢ b) (ids_of rows)) all (apart (ids_of rows) h.rise);
@@ -111,12 +112,8 @@ same_text text = (bytes_eq-Decides text text).1 refl
 pub scene_of_single : (g : VgSpec) (next_id : ℕ) (rows : List Datum) → vega_scene_of g (single g.source next_id rows) ≡ scene_of_rows g.x g.y rows
 scene_of_single g next_id rows = rw (same_text g.source)
 
--- a state of one source with rows inserted
-pub state_with_single : (source : List ℕ) (next_id : ℕ) (rows : List Datum) (trees : List Json)
-    → state_with (single source next_id rows) source trees ≡ single source (next_id + length trees) (rows ++ new_data next_id trees)
-state_with_single source next_id rows trees = rw (same_text source)
-
-one_of : (g : VgSpec) (next_id : ℕ) (sources : List Dataset) (params : List (List ℕ × Cell)) (stores : List StoreOf)
+-- the state has one source
+pub one_of : (g : VgSpec) (next_id : ℕ) (sources : List Dataset) (params : List (List ℕ × Cell)) (stores : List StoreOf)
     → (let st : State = record { next_id = next_id; sources = sources; params = params; stores = stores } in IsStateOf g st → (rows : List Datum) × (st ≡ single g.source next_id rows))
 one_of g next_id [] params stores h = absurd (let e = h.sources in cc)
 one_of g next_id (source ∷ []) params stores h =
@@ -124,22 +121,6 @@ one_of g next_id (source ∷ []) params stores h =
     let named : source.name ≡ g.source = cc in
     (source.rows, λ i. record { next_id = next_id; sources = record { name = named i; rows = source.rows } ∷ []; params = h.params i; stores = h.stores i })
 one_of g next_id (source ∷ other ∷ sources) params stores h = absurd (let e = h.sources in cc)
-
--- with rows that don't go past the limit it stays a state of the specification
-pub is_state_with : (g : VgSpec) (st : State) (trees : List Json) → IsStateOf g st → is_past_limit st trees ≡ false → IsStateOf g (state_with st g.source trees)
-is_state_with g st trees h free =
-    let one = one_of g st.next_id st.sources st.params st.stores h in
-    let next_id = st.next_id in
-    let rows = one.0 in
-    let within_limit : is_past_limit (single g.source next_id rows) trees ≡ false = ap (λ st. is_past_limit st trees) (sym one.1) ∙ free in
-    let of : IsStateOf g (single g.source next_id rows) = subst (IsStateOf g) one.1 h in
-    let room = within most_rows (greatest_id + 1) (length (all_rows (single g.source next_id rows)) + length trees) (next_id + length trees) within_limit in
-    let all = ap length (append-nil rows) in
-    let count = counted next_id trees in
-    let both = length-append rows (new_data next_id trees) in
-    let wide = state_from g (next_id + length trees) (rows ++ new_data next_id trees) (inserted next_id trees rows (rows_in g next_id rows of)) (omega (arith, of.is.next_id_from)) room.1
-    (omega (arith, room.0, all, count, both)) in
-    subst (IsStateOf g) (sym (ap (λ st. state_with st g.source trees) one.1 ∙ state_with_single g.source next_id rows trees)) wide
 
 -- the rows of a state of one source fit a chart, and their ids are in range
 pub rows_fit : (g : VgSpec) (next_id : ℕ) (rows : List Keyed) → IsStateOf g (single g.source next_id (map datum_of rows)) → Fits rows
@@ -164,9 +145,3 @@ source_fits g st rows h e =
     let one = one_of g st.next_id st.sources st.params st.stores h in
     let same : map datum_of rows ≡ one.0 = e ∙ ap (λ st. rows_of st g.source) one.1 ∙ rows_of_single g.source st.next_id one.0 in
     rows_fit g st.next_id rows (subst (IsStateOf g) (one.1 ∙ ap (single g.source st.next_id) (sym same)) h)
-
--- new rows alone are those of a state
-pub new_state : (g : VgSpec) (trees : List Json) → length trees ≤ most_rows → IsStateOf g (single g.source (1 + length trees) (new_data 1 trees))
-new_state g trees few =
-    let none : AreRows 1 [] = record { no_branch = All-nil _; rise = λ i j d before in_it. absurd (omega arith); below = All-nil _ } in
-    state_from g (1 + length trees) (new_data 1 trees) (inserted 1 trees [] none) (omega arith) (omega arith) (omega (arith, counted 1 trees))

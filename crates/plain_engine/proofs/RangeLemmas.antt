@@ -1,5 +1,5 @@
 -- What is in range, and bounds on rounded quotients and multiples.
-use Rattle.std.proofs.Common.{◌≡◌, ℕ, ◌+◌, ◌*◌, ◌<◌, ◌≤◌, ◌/◌, ℤ, pos, negsuc, neg_ℤ, ◌≤ℤ◌, ◌<ℤ◌, ◌+ℤ◌, ◌*ℤ◌, Option, Some, None, arith, refl, sym, ap, ◌∙◌, unsigned_abs}
+use Rattle.std.proofs.Common.{◌≡◌, ℕ, ◌+◌, ◌*◌, ◌<◌, ◌≤◌, ◌/◌, ℤ, pos, negsuc, neg_ℤ, ◌≤ℤ◌, ◌<ℤ◌, ◌+ℤ◌, ◌*ℤ◌, Option, arith, refl, ap, ◌∙◌, unsigned_abs}
 use Rattle.std.specs.Option.{SomeIff}
 use Rattle.std.proofs.lemmas.Int.{ints}
 use Rattle.std.proofs.Math.IntN.{*ℤ-one}
@@ -7,18 +7,8 @@ use lib.IntN.{one}
 use Rattle.std.proofs.Math.Nat.{mul-le-mul_left, div-add-mod', suc-mul, div-lt_iff_lt-mul}
 use Rattle.scene_tree.specs.Outcome.{Drawn, in_reach}
 use Rattle.fixed_num.specs.Number.{IsNumber, floored, ceiled, floor_quotient, rounded, rounded_ratio, limit}
-use Rattle.vega_meaning.specs.Ranges.{in_range}
-
-pub in_range_at_number : (x : ℤ) → IsNumber x → in_range x ≡ Some x
-in_range_at_number x h = grind (arith, ints)
-
-in_range_elsewhere : (x : ℤ) → (IsNumber x → ⊥) → in_range x ≡ None
-in_range_elsewhere x h = grind (arith, ints)
-
--- an answer that is exact is what is in range
-pub in_range_from_exact : (o : Option ℤ) (x : ℤ) → SomeIff o (IsNumber x) x → o ≡ in_range x
-in_range_from_exact None x h = sym (in_range_elsewhere x h)
-in_range_from_exact (Some y) x h = ap Some h.1 ∙ sym (in_range_at_number x h.0)
+use Rattle.fixed_num.specs.Ranges.{in_range}
+pub use Rattle.fixed_num.proofs.RangeLemmas.{in_range_at_number, in_range_from_exact}
 
 -- a multiple below a number, and one above it
 pub floored_below : (m s : ℤ) → pos 0 <ℤ s → floored m s ≤ℤ m

@@ -7,7 +7,7 @@ use Rattle.std.proofs.lemmas.Bool.{cases_lt}
 use Rattle.std.proofs.Math.Nat.{pow-le-pow_right}
 use Rattle.fixed_num.specs.Number.{limit, million}
 use Rattle.vega_meaning.specs.Steps.{steps_at, steps_below, step_of, widened, widened_times}
-use Rattle.vega_meaning.specs.Ranges.{◌>>=◌}
+use Rattle.fixed_num.specs.Ranges.{◌>>=◌}
 
 -- the step that is taken below the n-th power of ten is the same below a later one
 found_later : (p : ℕ × ℕ → Bool) (n m : ℕ) (s : ℕ × ℕ) → find p (steps_below n) ≡ Some s → n ≤ m → find p (steps_below m) ≡ Some s

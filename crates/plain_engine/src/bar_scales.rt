@@ -1,5 +1,5 @@
 //! The scales of bars.
-ghost use Rattle.std.specs.Prelude.{◌≡◌, ◌≤◌, length};
+ghost use Rattle.std.specs.Prelude.{◌≡◌, ◌≤◌, ◌≤ℤ◌, pos, length};
 ghost use Rattle.cell_value.specs.State.{most_rows};
 ghost use Rattle.scene_tree.specs.Outcome.{outcome_map};
 ghost use Rattle.vega_meaning.specs.Bars.{plot_width, x_scale, y_scale, base_of};
@@ -26,7 +26,8 @@ const WIDEST: i128 = 100_000_000_000_000_000;
 /// The width of a plot of so many bands: 20 pixels for each unit of their space, at most 10^11 pixels.
 pub fn plot_width(count: usize) -> Num
     requires { count ≤ most_rows }
-    ensures { result ≡ plot_width count }
+    ensures value { result ≡ plot_width count }
+    ensures not_below_zero { pos 0 ≤ℤ result }
 {
     let Some(width) = Num::of_millionths((20 * space_of(count, INNER, OUTER)).min(WIDEST)) else {
         unreachable!()

@@ -4,7 +4,8 @@ ghost use Rattle.std.specs.Option.{option_to_list};
 ghost use Rattle.scene_tree.specs.Outcome.{in_reach};
 ghost use Rattle.vega_meaning.specs.Answers.{Draws};
 ghost use Rattle.vega_meaning.specs.Bars.{bar_between, bar_of};
-ghost use Rattle.vega_meaning.specs.Ranges.{in_range};
+ghost use Rattle.fixed_num.specs.Ranges.{in_range};
+ghost use Rattle.row_edits.specs.Rows.{rows_at};
 ghost use Rattle.plain_engine.specs.inner.Columns.{cells_of};
 ghost use Rattle.plain_engine.specs.inner.Scales.{outcome_of, linear_of, band_of};
 ghost use Rattle.plain_engine.specs.inner.Bars.{IsPlot, bars_along};
@@ -98,14 +99,14 @@ fn add(items: &mut Seq<Item>, bar: Option<Item>) -> Result<(), OutOfMemory>
 pub fn bars_of(
     alloc: Global,
     plot: &Plot,
-    rows: &[Keyed],
+    rows: &[&Keyed],
     xs: &[&Cell],
     ys: &[&Cell],
 ) -> Result<Seq<Item>, OpenError>
     requires plot { IsPlot plot.now }
     requires along_x { length xs.now ≡ length rows.now }
     requires along_y { length ys.now ≡ length rows.now }
-    ensures { Draws (bars_along (bar_of (band_of plot.now.bands) (linear_of plot.now.scale)) rows.now (cells_of xs.now)
+    ensures { Draws (bars_along (bar_of (band_of plot.now.bands) (linear_of plot.now.scale)) (rows_at rows.now) (cells_of xs.now)
         (cells_of ys.now)) result }
 {
     let mut items = Seq::with_capacity(alloc, rows.len())?;

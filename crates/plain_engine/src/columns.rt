@@ -4,15 +4,14 @@ ghost use Rattle.fixed_num.specs.Number.{million};
 ghost use Rattle.cell_value.specs.declared.cell.Cell.TheVariants.{Null, Number};
 ghost use Rattle.cell_value.specs.Row.{cell_of};
 ghost use Rattle.cell_value.specs.State.{greatest_id};
-ghost use Rattle.plain_engine.specs.inner.Columns.{cells_of, id_cells, ids_under, column, Fits};
+ghost use Rattle.row_edits.specs.Rows.{rows_at, Fits};
+ghost use Rattle.plain_engine.specs.inner.Columns.{cells_of, id_cells, ids_under, column};
 
 use cell_value::{Cell, Keyed, Row};
 use fixed_num::Num;
+use row_edits::ID_NAME;
 use std::alloc::Global;
 use text_kit::OutOfMemory;
-
-/// The name under which every row reads as its id.
-pub const ID_NAME: &str = "_vgsid_";
 
 // An id as a cell.
 fn id_cell(id: u64) -> Cell
@@ -26,9 +25,9 @@ fn id_cell(id: u64) -> Cell
 }
 
 // The ids of rows, as cells.
-fn id_cells(alloc: Global, rows: &[Keyed]) -> Result<Vec<Cell>, OutOfMemory>
-    requires { Fits rows.now }
-    ensures { IfOk result (λ cells. cells.items ≡ id_cells rows.now) }
+fn id_cells(alloc: Global, rows: &[&Keyed]) -> Result<Vec<Cell>, OutOfMemory>
+    requires { Fits (rows_at rows.now) }
+    ensures { IfOk result (λ cells. cells.items ≡ id_cells (rows_at rows.now)) }
 {
     let mut cells = Vec::with_capacity(alloc, rows.len())?;
     for keyed in rows {
@@ -38,9 +37,9 @@ fn id_cells(alloc: Global, rows: &[Keyed]) -> Result<Vec<Cell>, OutOfMemory>
 }
 
 /// The ids of rows, as cells, where the name reads as the id; none under another name.
-pub fn ids_under(alloc: Global, name: &str, rows: &[Keyed]) -> Result<Vec<Cell>, OutOfMemory>
-    requires { Fits rows.now }
-    ensures { IfOk result (λ cells. cells.items ≡ ids_under name.now rows.now) }
+pub fn ids_under(alloc: Global, name: &str, rows: &[&Keyed]) -> Result<Vec<Cell>, OutOfMemory>
+    requires { Fits (rows_at rows.now) }
+    ensures { IfOk result (λ cells. cells.items ≡ ids_under name.now (rows_at rows.now)) }
 {
     if name == ID_NAME {
         id_cells(alloc, rows)
@@ -64,11 +63,11 @@ fn cell_of<'a>(row: &'a Row, name: &str, null: &'a Cell) -> &'a Cell
 fn held_cells<'a>(
     alloc: Global,
     name: &str,
-    rows: &'a [Keyed],
+    rows: &'a [&Keyed],
     null: &'a Cell,
 ) -> Result<Vec<&'a Cell>, OutOfMemory>
     requires { null.now ≡ Null }
-    ensures { IfOk result (λ cells. cells_of cells.items ≡ map (λ keyed. cell_of keyed.row name.now) rows.now) }
+    ensures { IfOk result (λ cells. cells_of cells.items ≡ map (λ keyed. cell_of keyed.row name.now) (rows_at rows.now)) }
 {
     let mut cells = Vec::with_capacity(alloc, rows.len())?;
     for keyed in rows {
@@ -81,13 +80,13 @@ fn held_cells<'a>(
 pub fn column<'a>(
     alloc: Global,
     name: &str,
-    rows: &'a [Keyed],
+    rows: &'a [&Keyed],
     ids: &'a [Cell],
     null: &'a Cell,
 ) -> Result<Vec<&'a Cell>, OutOfMemory>
-    requires ids { ids.now ≡ ids_under name.now rows.now }
+    requires ids { ids.now ≡ ids_under name.now (rows_at rows.now) }
     requires null { null.now ≡ Null }
-    ensures { IfOk result (λ cells. cells_of cells.items ≡ column name.now rows.now) }
+    ensures { IfOk result (λ cells. cells_of cells.items ≡ column name.now (rows_at rows.now)) }
 {
     if name == ID_NAME {
         Ok(ids.iter().collect(alloc)?)

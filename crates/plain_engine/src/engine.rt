@@ -1,17 +1,18 @@
 // The engine.
 ghost use Rattle.std.specs.Prelude.{◌≡◌, IfOk, OnErr};
 ghost use Rattle.cell_value.specs.State.{state_of};
-ghost use Rattle.param_flow.specs.Machine.{reply_to_change, state_with, state_if};
+ghost use Rattle.expr_eval.specs.Plain.{no_values};
+ghost use Rattle.param_flow.specs.Machine.{reply_to_change, state_changed, state_if};
 ghost use Rattle.vega_meaning.specs.Semantics.{vega_semantics};
 ghost use Rattle.vega_meaning.specs.States.{IsStateOf};
 ghost use Rattle.plain_engine.specs.inner.Kept.{IsKept, IsKept-prop};
 
 use crate::json_rows::first_bad;
-use crate::sources::{insert, is_past_limit, scene_of_state};
+use crate::mentions::has_names;
+use crate::sources::{change_source, scene_of_state};
 use cell_value::{ChartState, Steps};
 use chart_io::{Sink, WriteFault};
-use json_exact::Json;
-use param_flow::{Cause, Command, Reply};
+use param_flow::{Cause, ChangeOf, Command, Reply};
 use play_script::{Engine, PrintError};
 use scene_tree::Scene;
 use std::alloc::Global;
@@ -20,9 +21,6 @@ use svg_text::print;
 use text_kit::{OutOfMemory, Text};
 use vega_meaning::OpenError;
 use vega_model::VgSpec;
-
-#[cfg(test)]
-mod tests;
 
 /// An engine that evaluates the whole chart after each command. It keeps its state, and the scene of that.
 #[derive(Debug, Drop)]
@@ -50,34 +48,23 @@ impl PlainEngine {
     }
 
     // Does a change of a source. Where memory is refused the state stays.
-    fn change(&mut self, alloc: Global, name: &str, trees: &[Json]) -> Result<Reply, OutOfMemory>
+    fn change(&mut self, alloc: Global, name: &str, change: &ChangeOf) -> Result<Reply, OutOfMemory>
         ensures reply { IfOk result (λ reply. reply
-            ≡ reply_to_change (vega_semantics self.old.spec) (state_of self.old.state) name.now trees.now) }
+            ≡ reply_to_change (vega_semantics self.old.spec) (state_of self.old.state) name.now change.now) }
         ensures done { IfOk result (λ reply. meaning_of self.new ≡ record {
           spec = self.old.spec;
-          state = state_if reply (state_of self.old.state) (state_with (state_of self.old.state) name.now trees.now);
+          state = state_if reply (state_of self.old.state) (state_changed no_values (state_of self.old.state) name.now change.now);
         }) }
         ensures kept { OnErr result (meaning_of self.new ≡ meaning_of self.old) }
     {
-        if self.spec.source.as_str() != name {
+        if !has_names(alloc, &self.spec, name, change)? {
             return Ok(Reply::Refused(Cause::Name));
         }
-        if let Some((row, field)) = first_bad(trees) {
+        if let Some((row, field)) = first_bad(change.insert.as_slice()) {
             let field = Text::of(alloc, field)?;
             return Ok(Reply::Refused(Cause::Row { row, field }));
         }
-        if is_past_limit(&self.state, trees) {
-            return Ok(Reply::Refused(Cause::Limit));
-        }
-        match insert(alloc, &self.spec, &mut self.state, trees) {
-            Ok(scene) => {
-                self.scene = scene;
-                Ok(Reply::Done)
-            }
-            Err(OpenError::Overflow) => Ok(Reply::Refused(Cause::Overflow)),
-            Err(OpenError::Panels(_)) => Ok(Reply::Refused(Cause::Limit)),
-            Err(OpenError::Memory) => Err(OutOfMemory),
-        }
+        change_source(alloc, &self.spec, &mut self.state, &mut self.scene, change)
     }
 }
 
@@ -98,9 +85,7 @@ impl Engine for PlainEngine {
         _steps: &mut Steps<L>,
     ) -> Result<Reply, OutOfMemory> {
         match c {
-            Command::Change { source, change } => {
-                self.change(alloc, source.as_str(), change.insert.as_slice())
-            }
+            Command::Change { source, change } => { self.change(alloc, source.as_str(), change) }
             Command::Set { name: _, value: _ } => Ok(Reply::Refused(Cause::Name)),
             Command::Event(_) | Command::Print => Ok(Reply::Done),
         }

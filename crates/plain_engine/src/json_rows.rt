@@ -7,9 +7,9 @@ ghost use Rattle.param_flow.specs.Rows.{cell_in, is_huge, cells_of, row_of_json,
 ghost use Rattle.param_flow.specs.Machine.{new_rows};
 ghost use Rattle.plain_engine.specs.inner.JsonRows.{bad_row, huge_name};
 
-use crate::columns::ID_NAME;
 use cell_value::{Cell, Key, Keyed, Row, Rows};
 use json_exact::{Json, Member};
+use row_edits::ID_NAME;
 use std::alloc::Global;
 use text_kit::{OutOfMemory, Seq, Text};
 

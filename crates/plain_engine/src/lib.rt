@@ -7,6 +7,7 @@ mod columns;
 mod domains;
 mod engine;
 mod json_rows;
+mod mentions;
 mod pixels;
 mod places;
 mod scales;

@@ -1,6 +1,6 @@
 //! Sizes in pixels.
 ghost use Rattle.std.specs.Prelude.{◌≡◌};
-ghost use Rattle.vega_meaning.specs.Ranges.{pixels};
+ghost use Rattle.vega_meaning.specs.Pixels.{pixels};
 
 use fixed_num::Num;
 

@@ -2,7 +2,7 @@
 ghost use Rattle.std.specs.Prelude.{◌≡◌, ◌+◌, ◌*◌, ◌<◌, ◌≤◌, pos, ◌+ℤ◌, ◌-ℤ◌, ◌*ℤ◌, ◌<ℤ◌, ◌≤ℤ◌, unsigned_abs, length};
 ghost use Rattle.fixed_num.specs.Number.{limit, million, rounded};
 ghost use Rattle.scene_tree.specs.Outcome.{in_reach};
-ghost use Rattle.vega_meaning.specs.Ranges.{in_range};
+ghost use Rattle.fixed_num.specs.Ranges.{in_range};
 ghost use Rattle.vega_meaning.specs.Scales.{middle, place_of_number, linear_place, band_steps, place_at, band_place, band_width};
 ghost use Rattle.plain_engine.specs.inner.Columns.{AreAscending};
 ghost use Rattle.plain_engine.specs.inner.Scales.{outcome_of, linear_of, band_of};

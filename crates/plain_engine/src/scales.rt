@@ -1,9 +1,9 @@
 //! Places on scales.
 ghost use Rattle.std.specs.Prelude.{◌≡◌, ◌*◌, ◌^◌, ◌≤◌, pos, ◌-ℤ◌, ◌≤ℤ◌, unsigned_abs, length, position};
 ghost use Rattle.fixed_num.specs.Number.{limit, million};
+ghost use Rattle.fixed_num.specs.Bands.{steps_of, space_of};
 ghost use Rattle.cell_value.specs.Cell.{same_cells};
 ghost use Rattle.vega_meaning.specs.declared.open.OpenError.TheVariants as error;
-ghost use Rattle.vega_meaning.specs.Scales.{steps_of, space_of};
 ghost use Rattle.plain_engine.specs.inner.Columns.{cells_of, AreAscending};
 
 use cell_value::Cell;
@@ -61,10 +61,10 @@ pub fn steps_of(count: usize, inner: u32, outer: u32) -> i128
     requires few { count ≤ 10 ^ 9 }
     requires inner_within { inner ≤ million }
     requires outer_within { outer ≤ million }
-    ensures value { result ≡ steps_of count inner outer }
+    ensures value { result ≡ steps_of (pos (count * million)) (pos inner) (pos outer) }
     ensures bound { unsigned_abs result ≤ 2 * limit }
 {
-    count as i128 * STEP + 2 * i128::from(outer) - i128::from(inner)
+    count as i128 * STEP - i128::from(inner) + 2 * i128::from(outer)
 }
 
 /// The space that so many bands take, in millionths of a step: one step where their steps aren't positive.
@@ -72,7 +72,8 @@ pub fn space_of(count: usize, inner: u32, outer: u32) -> i128
     requires few { count ≤ 10 ^ 9 }
     requires inner_within { inner ≤ million }
     requires outer_within { outer ≤ million }
-    ensures value { result ≡ pos (space_of count inner outer) }
+    ensures value { result ≡ space_of (pos (count * million)) (pos inner) (pos outer) }
+    ensures not_below_zero { pos 0 ≤ℤ result }
     ensures bound { result ≤ℤ pos (2 * limit) }
 {
     let steps = steps_of(count, inner, outer);

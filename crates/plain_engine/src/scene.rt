@@ -5,8 +5,9 @@ ghost use Rattle.cell_value.specs.State.{most_rows};
 ghost use Rattle.vega_meaning.specs.Answers.{Draws};
 ghost use Rattle.vega_meaning.specs.Bars.{scene_of_rows};
 ghost use Rattle.vega_meaning.specs.Frames.{scene_around};
-ghost use Rattle.vega_meaning.specs.Ranges.{pixels, cut};
-ghost use Rattle.plain_engine.specs.inner.Columns.{cells_of, AreAscending, Fits};
+ghost use Rattle.vega_meaning.specs.Pixels.{pixels, cut};
+ghost use Rattle.row_edits.specs.Rows.{rows_at, Fits};
+ghost use Rattle.plain_engine.specs.inner.Columns.{cells_of, AreAscending};
 ghost use Rattle.plain_engine.specs.inner.Bars.{scene_along};
 
 use crate::bar_scales::{base_of, plot_width, x_scale, y_scale};
@@ -68,7 +69,7 @@ fn scene_around(
 fn scene_along(
     alloc: Global,
     domain: &[&Cell],
-    rows: &[Keyed],
+    rows: &[&Keyed],
     xs: &[&Cell],
     ys: &[&Cell],
 ) -> Result<Scene, OpenError>
@@ -76,7 +77,7 @@ fn scene_along(
     requires ordered { AreAscending domain.now }
     requires along_x { length xs.now ≡ length rows.now }
     requires along_y { length ys.now ≡ length rows.now }
-    ensures { Draws (scene_along (cells_of domain.now) rows.now (cells_of xs.now) (cells_of ys.now)) result }
+    ensures { Draws (scene_along (cells_of domain.now) (rows_at rows.now) (cells_of xs.now) (cells_of ys.now)) result }
 {
     let scale = y_scale(ys)?;
     let base = base_of(&scale);
@@ -95,9 +96,9 @@ fn scene_along(
 
 /// The scene of rows: a bar for each that has a number under `y`, placed by its cell under `x`. `Overflow` and `Panels` come
 /// exactly where the definition gives them.
-pub fn scene_of(alloc: Global, x: &str, y: &str, rows: &[Keyed]) -> Result<Scene, OpenError>
-    requires { Fits rows.now }
-    ensures { Draws (scene_of_rows x.now y.now (map datum_of rows.now)) result }
+pub fn scene_of(alloc: Global, x: &str, y: &str, rows: &[&Keyed]) -> Result<Scene, OpenError>
+    requires { Fits (rows_at rows.now) }
+    ensures { Draws (scene_of_rows x.now y.now (map datum_of (rows_at rows.now))) result }
 {
     let null = Cell::Null;
     let x_ids = ids_under(alloc, x, rows)?;

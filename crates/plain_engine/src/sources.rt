@@ -1,22 +1,28 @@
 //! The sources of a state.
-ghost use Rattle.std.specs.Prelude.{◌≡◌, ◌≤◌, ◌+◌, ◌++◌, ◌∷◌, [], false, length, map, position, OnOk, OnErr};
+ghost use Rattle.std.specs.Prelude.{◌≡◌, ◌≤◌, ◌+◌, ◌++◌, ◌||◌, nat_lt, length, map, position, IfOk, OnErr};
 ghost use Rattle.std.specs.Str.{bytes_eq};
 ghost use Rattle.cell_value.specs.Datum.{datum_of};
-ghost use Rattle.cell_value.specs.State.{state_of, all_rows, most_rows, IsState};
-ghost use Rattle.param_flow.specs.Machine.{state_with, is_past_limit};
+ghost use Rattle.cell_value.specs.State.{state_of, most_rows, greatest_id};
+ghost use Rattle.expr_eval.specs.Plain.{no_values};
 ghost use Rattle.vega_meaning.specs.Answers.{Draws};
 ghost use Rattle.vega_meaning.specs.Bars.{rows_of, scene_of_rows, vega_scene_of};
 ghost use Rattle.vega_meaning.specs.States.{IsStateOf};
-ghost use Rattle.plain_engine.specs.inner.Columns.{Fits};
+ghost use Rattle.param_flow.specs.Machine.{state_changed, state_if, reply_to_chart};
+ghost use Rattle.row_edits.specs.Rows.{rows_at, Fits};
+ghost use Rattle.row_edits.specs.Edits.{edited};
+ghost use Rattle.plain_engine.specs.inner.Kept.{IsKept};
+ghost use Rattle.plain_engine.specs.inner.Sources.{single, rows_changed, reply_over, reply_within, rows_if, IsLeft, IsShown};
 
 use crate::json_rows::new_rows;
 use crate::scene::scene_of;
 use cell_value::{ChartState, Keyed, Named, Rows};
-use json_exact::Json;
+use expr_eval::NoParams;
+use param_flow::{Cause, ChangeOf, Reply};
+use row_edits::{Edit, Edits, commit, edits_of, view};
 use scene_tree::Scene;
 use std::alloc::Global;
 use std::mem::replace;
-use text_kit::Seq;
+use text_kit::{OutOfMemory, Seq};
 use vega_meaning::OpenError;
 use vega_model::VgSpec;
 
@@ -38,26 +44,20 @@ fn rows_of<'a>(st: &'a ChartState, name: &str) -> &'a [Keyed]
     &[]
 }
 
-// How many rows all sources have.
-fn row_count(st: &ChartState) -> usize
-    requires { length (all_rows (state_of st.now)) ≤ most_rows }
-    ensures { result ≡ length (all_rows (state_of st.now)) }
+// Whether there would be too many rows, of so many that stay and so many more, or one of these would have too great an id.
+fn is_past_limit(next_id: u64, staying: usize, more: usize) -> bool
+    requires few { staying ≤ most_rows }
+    requires next { next_id ≤ greatest_id + 1 }
+    ensures { result ≡ (nat_lt most_rows (staying + more) || nat_lt (greatest_id + 1) (next_id + more)) }
 {
-    let mut count = 0;
-    for source in st.sources.as_slice() {
-        count += source.rows.len();
-    }
-    count
+    more > MOST_ROWS - staying || more as u64 > GREATEST_ID + 1 - next_id
 }
 
-/// Whether there would be too many rows, or an inserted row would have too great an id.
-pub fn is_past_limit(st: &ChartState, trees: &[Json]) -> bool
-    requires { IsState (state_of st.now) }
-    ensures { result ≡ is_past_limit (state_of st.now) trees.now }
+// Rows, where they stand.
+fn all_of<'a>(alloc: Global, rows: &'a [Keyed]) -> Result<Vec<&'a Keyed>, OutOfMemory>
+    ensures { IfOk result (λ all. rows_at all.items ≡ rows.now) }
 {
-    let rows_left = MOST_ROWS - row_count(st);
-    let ids_left = GREATEST_ID + 1 - st.next_id;
-    trees.len() > rows_left || trees.len() as u64 > ids_left
+    Ok(rows.iter().collect(alloc)?)
 }
 
 /// The scene of a specification over a state of it.
@@ -65,30 +65,83 @@ pub fn scene_of_state(alloc: Global, g: &VgSpec, st: &ChartState) -> Result<Scen
     requires { IsStateOf g.now (state_of st.now) }
     ensures { Draws (vega_scene_of g.now (state_of st.now)) result }
 {
-    scene_of(
-        alloc,
-        g.x.as_str(),
-        g.y.as_str(),
-        rows_of(st, g.source.as_str()),
-    )
+    let rows = all_of(alloc, rows_of(st, g.source.as_str()))?;
+    scene_of(alloc, g.x.as_str(), g.y.as_str(), &rows)
 }
 
-// Adds rows at the end, and gives the scene of all. Where it can't be drawn, or memory is refused, the rows stay.
-fn scene_with(alloc: Global, g: &VgSpec, rows: &mut Rows, more: Rows) -> Result<Scene, OpenError>
-    requires { Fits (rows.old ++ more) }
-    ensures drawn { Draws (scene_of_rows g.now.x g.now.y (map datum_of (rows.old ++ more))) result }
-    ensures added { OnOk result (rows.new ≡ rows.old ++ more) }
-    ensures kept { OnErr result (rows.new ≡ rows.old) }
+// The scene of rows after their edits, with rows that are added at the end.
+fn scene_after(
+    alloc: Global,
+    g: &VgSpec,
+    rows: &[Keyed],
+    edits: &[Edit],
+    more: &[Keyed],
+) -> Result<Scene, OpenError>
+    requires { Fits (edited edits.now rows.now ++ more.now) }
+    ensures { Draws (scene_of_rows g.now.x g.now.y (map datum_of (edited edits.now rows.now ++ more.now))) result }
 {
-    let count = rows.len();
-    rows.append(more)?;
-    match scene_of(alloc, g.x.as_str(), g.y.as_str(), rows.as_slice()) {
-        Ok(scene) => Ok(scene),
-        Err(error) => {
-            rows.truncate(count);
-            Err(error)
+    let all = view(alloc, rows, edits, more)?;
+    scene_of(alloc, g.x.as_str(), g.y.as_str(), &all)
+}
+
+// Draws rows after their edits, with rows that are added at the end, and puts them in place of the rows. Where they can't be drawn, or
+// memory is refused, all stays.
+fn put_rows(
+    alloc: Global,
+    g: &VgSpec,
+    rows: &mut Rows,
+    scene: &mut Scene,
+    edits: Seq<Edit>,
+    more: Rows,
+) -> Result<Reply, OutOfMemory>
+    requires each { length edits ≡ length rows.old }
+    requires fit { Fits (edited edits rows.old ++ more) }
+    ensures reply { IfOk result (λ reply. reply
+        ≡ reply_to_chart (scene_of_rows g.now.x g.now.y (map datum_of (edited edits rows.old ++ more)))) }
+    ensures rows { IfOk result (λ reply. rows.new ≡ rows_if reply rows.old (edited edits rows.old ++ more)) }
+    ensures drawn { IfOk result (λ reply. IsShown reply g.now rows.new scene.old scene.new) }
+    ensures kept { OnErr result ((rows.new ≡ rows.old) × (scene.new ≡ scene.old)) }
+{
+    match scene_after(alloc, g, rows.as_slice(), edits.as_slice(), more.as_slice()) {
+        Ok(drawn) => {
+            commit(alloc, rows, edits, more)?;
+            *scene = drawn;
+            Ok(Reply::Done)
         }
+        Err(OpenError::Overflow) => Ok(Reply::Refused(Cause::Overflow)),
+        Err(OpenError::Panels(_)) => Ok(Reply::Refused(Cause::Limit)),
+        Err(OpenError::Memory) => Err(OutOfMemory),
     }
+}
+
+// Does a change of rows. Where it is refused, or memory is, all stays.
+fn change_rows(
+    alloc: Global,
+    g: &VgSpec,
+    rows: &mut Rows,
+    scene: &mut Scene,
+    next_id: u64,
+    change: &ChangeOf,
+) -> Result<Reply, OutOfMemory>
+    requires of { IsStateOf g.now (single g.now.source next_id (map datum_of rows.old)) }
+    ensures reply { IfOk result (λ reply. reply ≡ reply_over g.now next_id change.now (map datum_of rows.old)) }
+    ensures rows { IfOk result (λ reply. IsLeft reply (rows_changed next_id change.now (map datum_of rows.old)) rows.old rows.new) }
+    ensures drawn { IfOk result (λ reply. IsShown reply g.now rows.new scene.old scene.new) }
+    ensures kept { OnErr result ((rows.new ≡ rows.old) × (scene.new ≡ scene.old)) }
+{
+    let Edits {
+        each,
+        staying,
+        overflows,
+    } = edits_of(alloc, change, rows.as_slice(), &NoParams)?;
+    if is_past_limit(next_id, staying, change.insert.len()) {
+        return Ok(Reply::Refused(Cause::Limit));
+    }
+    if overflows {
+        return Ok(Reply::Refused(Cause::Overflow));
+    }
+    let more = new_rows(alloc, next_id, change.insert.as_slice())?;
+    put_rows(alloc, g, rows, scene, each, more)
 }
 
 // The index of the first source of this name.
@@ -100,33 +153,34 @@ fn place_of(sources: &[Named], name: &str) -> Option<usize>
         .position(|source| source.name.as_str() == name)
 }
 
-/// Inserts rows into the source of a specification, and gives the scene of the state after it. Where it can't be drawn, or memory is
-/// refused, the state stays.
-pub fn insert(
+/// Does a change of the source of a specification, over a state of it and the scene of that. Where it is refused, or memory is, all stays.
+pub fn change_source(
     alloc: Global,
     g: &VgSpec,
     st: &mut ChartState,
-    trees: &[Json],
-) -> Result<Scene, OpenError>
-    requires of { IsStateOf g.now (state_of st.old) }
-    requires free { is_past_limit (state_of st.old) trees.now ≡ false }
-    ensures drawn { Draws (vega_scene_of g.now (state_with (state_of st.old) g.now.source trees.now)) result }
-    ensures done { OnOk result (state_of st.new ≡ state_with (state_of st.old) g.now.source trees.now) }
-    ensures kept { OnErr result (st.new ≡ st.old) }
+    scene: &mut Scene,
+    change: &ChangeOf,
+) -> Result<Reply, OutOfMemory>
+    requires { IsKept g.now st.old scene.old }
+    ensures reply { IfOk result (λ reply. reply ≡ reply_within g.now (state_of st.old) change.now) }
+    ensures done { IfOk result (λ reply. state_of st.new
+        ≡ state_if reply (state_of st.old) (state_changed no_values (state_of st.old) g.now.source change.now)) }
+    ensures memory { OnErr result (st.new ≡ st.old) }
+    ensures kept { IsKept g.now st.new scene.new }
 {
-    let more = new_rows(alloc, st.next_id, trees)?;
     let Some(index) = place_of(st.sources.as_slice(), g.source.as_str()) else {
         unreachable!()
     };
     let mut sources = replace(&mut st.sources, Seq::new(alloc)).into_vec();
     let source = &mut sources[index];
-    let result = scene_with(alloc, g, &mut source.rows, more);
+    let result = change_rows(alloc, g, &mut source.rows, scene, st.next_id, change);
     st.sources = Seq::from_vec(sources);
     match result {
-        Ok(scene) => {
-            st.next_id += trees.len() as u64;
-            Ok(scene)
+        Ok(Reply::Done) => {
+            st.next_id += change.insert.len() as u64;
+            Ok(Reply::Done)
         }
-        Err(error) => Err(error),
+        Ok(Reply::Refused(cause)) => Ok(Reply::Refused(cause)),
+        Err(OutOfMemory) => Err(OutOfMemory),
     }
 }

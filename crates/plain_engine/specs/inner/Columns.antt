@@ -1,7 +1,6 @@
 -- Columns of cells in the program.
-use Rattle.std.specs.Prelude.{ℕ, ◌*◌, ◌≤◌, pos, List, [], length, map, if◌then◌else◌}
+use Rattle.std.specs.Prelude.{ℕ, ◌*◌, pos, List, [], map, if◌then◌else◌}
 use Rattle.std.specs.Borrow.{Bor}
-use Rattle.std.specs.List.{All}
 use Rattle.std.specs.Str.{bytes_eq}
 use Rattle.std.specs.declared.cmp.Ordering.{Ordering}
 use Rattle.std.specs.List.Sorted.{IsStrictlySortedBy}
@@ -11,7 +10,6 @@ use Rattle.cell_value.specs.declared.cell.Cell.TheVariants.{Number}
 use Rattle.cell_value.specs.declared.state.Keyed.{Keyed}
 use Rattle.cell_value.specs.Cell.{cell_cmp}
 use Rattle.cell_value.specs.Datum.{id_name, cell_at}
-use Rattle.cell_value.specs.State.{most_rows, greatest_id}
 
 -- the cells that these point to
 abbrev pub cells_of : List (Bor Cell) → List Cell
@@ -24,11 +22,6 @@ by_cells x y = cell_cmp x.now y.now
 -- each cell is below those after it
 abbrev pub AreAscending : List (Bor Cell) → Type 0
 AreAscending cells = IsStrictlySortedBy by_cells cells
-
--- they are no more rows than a chart may have, and no id is greater than a row may have
-pub record Fits (rows : List Keyed) : Type 0 where
-  pub few : length rows ≤ most_rows
-  pub ids : All (λ (keyed : Keyed). keyed.key.id ≤ greatest_id) rows
 
 -- the ids of rows, as cells
 abbrev pub id_cells : List Keyed → List Cell

@@ -1,12 +1,8 @@
 -- What a plain engine keeps, and the sources of its state.
-use Rattle.std.specs.Prelude.{◌≡◌, List, [], map, find, unwrap_or}
+use Rattle.std.specs.Prelude.{◌≡◌}
 use Rattle.std.specs.Coded.{Coded-set}
-use Rattle.std.specs.Option.{option_map}
-use Rattle.std.specs.List.{flat_map}
-use Rattle.std.specs.Str.{bytes_eq}
 use Rattle.std.proofs.Props.{props}
 use mathlib.Core.Path.{ap}
-use Rattle.cell_value.specs.declared.state.Named.{Named}
 use Rattle.cell_value.specs.declared.state.ChartState.{ChartState}
 use Rattle.cell_value.specs.contracts.row.Row as row
 use Rattle.cell_value.specs.State.{state_of}

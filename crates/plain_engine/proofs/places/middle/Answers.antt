@@ -3,7 +3,7 @@ use Rattle.std.specs.Int.{w128}
 use Rattle.std.proofs.lemmas.Int.{ints}
 use Rattle.fixed_num.specs.Number.{rounded}
 use Rattle.scene_tree.specs.Outcome.{in_reach}
-use Rattle.vega_meaning.specs.Ranges.{in_range}
+use Rattle.fixed_num.specs.Ranges.{in_range}
 use Rattle.plain_engine.proofs.RangeLemmas.{times_one}
 use Rattle.plain_engine.proofs.places.middle.Goals as goal
 

@@ -8,10 +8,12 @@ use Rattle.plain_engine.proofs.engine.PlainEngineEngine.apply.Goals as goal
 pub returns-in-Change-clause-reply : goal.returns-in-Change-clause-reply
 returns-in-Change-clause-reply g c =
     subst (λ wanted. IfOk c.change.result (λ reply. reply ≡ wanted))
-    (asked (vega_semantics c.args.self.now.spec) (state_of c.args.self.now.state) c.args.c.now c.in-Change.source c.in-Change.change _ _ c.in-Change.is c.as_str.ensures c.as_slice.ensures) c.change.ensures.reply
+    (asked (vega_semantics c.args.self.now.spec) (state_of c.args.self.now.state) c.args.c.now c.in-Change.source c.in-Change.change _
+    c.in-Change.is c.as_str.ensures) c.change.ensures.reply
 
 pub returns-in-Change-clause-done : goal.returns-in-Change-clause-done
 returns-in-Change-clause-done g c =
     let meant : State → Meaning = λ st. record { spec = c.args.self.now.spec; state = st } in
-    done (vega_semantics c.args.self.now.spec) (state_of c.args.self.now.state) c.args.c.now c.in-Change.source c.in-Change.change _ _ c.in-Change.is c.as_str.ensures c.as_slice.ensures
+    done (vega_semantics c.args.self.now.spec) (state_of c.args.self.now.state) c.args.c.now c.in-Change.source c.in-Change.change _
+    c.in-Change.is c.as_str.ensures
     meant _ c.change.result c.change.ensures.reply c.change.ensures.done
