@@ -9,8 +9,13 @@ use chart_io::{
 use std::alloc::Global;
 use std::test::Fail;
 
-const THREE_BARS: &str =
-    "{\"data\":{\"name\":\"t\",\"values\":[{\"a\":\"A\",\"b\":28},{\"a\":\"B\",\"b\":55},{\"a\":\"C\",\"b\":43}]},\"mark\":\"bar\",\"encoding\":{\"x\":{\"field\":\"a\",\"type\":\"nominal\",\"axis\":null},\"y\":{\"field\":\"b\",\"type\":\"quantitative\",\"axis\":null}}}";
+const THREE_BARS: &str = concat!(
+    "{\"data\":{\"name\":\"t\",\"values\":[",
+    "{\"a\":\"A\",\"b\":28},{\"a\":\"B\",\"b\":55},{\"a\":\"C\",\"b\":43}",
+    "]},\"mark\":\"bar\",\"encoding\":{",
+    "\"x\":{\"field\":\"a\",\"type\":\"nominal\",\"axis\":null},",
+    "\"y\":{\"field\":\"b\",\"type\":\"quantitative\",\"axis\":null}}}",
+);
 
 // How runs end: the status, and the note.
 const DONE: (u8, &str) = (0, "");
@@ -99,16 +104,25 @@ fn is_refused(
 
 // A chart of the first form over these values, by its two fields.
 fn chart_of(alloc: Global, values: &str, x: &str, y: &str) -> Result<String, Fail> {
-    Ok(format!(in alloc;
-        "{{\"data\":{{\"name\":\"t\",\"values\":[{values}]}},\"mark\":\"bar\",\"encoding\":{{\"x\":{{\"field\":\"{x}\",\"type\":\"nominal\",\"axis\":null}},\"y\":{{\"field\":\"{y}\",\"type\":\"quantitative\",\"axis\":null}}}}}}"
-    )?)
+    let mut text = String::from_str(alloc, "{\"data\":{\"name\":\"t\",\"values\":[")?;
+    text.push_str(values)?;
+    text.push_str("]},\"mark\":\"bar\",\"encoding\":{\"x\":{\"field\":\"")?;
+    text.push_str(x)?;
+    text.push_str("\",\"type\":\"nominal\",\"axis\":null},\"y\":{\"field\":\"")?;
+    text.push_str(y)?;
+    text.push_str("\",\"type\":\"quantitative\",\"axis\":null}}}")?;
+    Ok(text)
 }
 
 // The picture of these bars in a plot of this width.
 fn picture_of(alloc: Global, width: u32, bars: &[&str]) -> Result<String, Fail> {
-    let mut text = format!(in alloc;
-        "<svg xmlns=\"http://www.w3.org/2000/svg\" version=\"1.1\" width=\"{width}\" height=\"210\" viewBox=\"0 0 {width} 210\">\n<g transform=\"translate(5,5)\">\n"
+    let mut text = String::from_str(
+        alloc,
+        "<svg xmlns=\"http://www.w3.org/2000/svg\" version=\"1.1\" ",
     )?;
+    let size = format!(in alloc; "width=\"{width}\" height=\"210\" viewBox=\"0 0 {width} 210\"")?;
+    text.push_str(size.as_str())?;
+    text.push_str(">\n<g transform=\"translate(5,5)\">\n")?;
     for bar in bars {
         text.push_str(format!(in alloc; "<rect {bar} fill=\"#4c78a8\"/>\n")?.as_str())?;
     }
@@ -294,12 +308,40 @@ fn a_fourth_bar_is_exact_in_pieces_of_any_size(rt: HostRuntime) -> Result<(), Fa
 }
 
 // Lines, and the output of each alone.
-const LINES: [(&str, &str); 6] = [
+const LINES: [(&str, &str); 16] = [
     ("[\"change\",\"u\",{\"insert\":[]}]", "refused name\n"),
     ("", ""),
     ("# note", ""),
     ("[\"prnt\"]", "refused line\n"),
     ("[\"change\",\"t\",{\"insert\":[{\"a\":\"D\"}]}]", "ok\n"),
+    (
+        "[\"change\",\"t\",{\"insert\":[{\"a\":\"D\",\"b\":1000000000000000}]}]",
+        "ok\n",
+    ),
+    (
+        "[\"change\",\"t\",{\"insert\":[{\"a\":\"E\",\"b\":1000000000000000.000001}]}]",
+        "refused row 0 \"b\"\n",
+    ),
+    (
+        "[\"change\",\"t\",{\"insert\":[[1]]}]",
+        "refused row 0 \"\"\n",
+    ),
+    ("[\"change\",\"t\",{}]", "ok\n"),
+    ("[\"change\",\"u\",{}]", "refused name\n"),
+    (
+        "[\"change\",\"t\",{\"remove\":\"datum.b >\"}]",
+        "refused line\n",
+    ),
+    (
+        "[\"change\",\"t\",{\"remove\":\"datum.b > k\"}]",
+        "refused name\n",
+    ),
+    (
+        "[\"change\",\"t\",{\"modify\":[{\"where\":\"true\",\"field\":\"b\",\"set\":\"datum.b * 100000000000000\"}]}]",
+        "refused overflow\n",
+    ),
+    ("[\"set\",\"k\",3]", "refused name\n"),
+    ("[\"click\",1,1]", "ok\n"),
     ("[\"print\"]", PICTURE),
 ];
 
@@ -307,6 +349,63 @@ const LINES: [(&str, &str); 6] = [
 fn each_line_has_its_reply(rt: HostRuntime) -> Result<(), Fail> {
     for (line, output) in LINES {
         let is_so = is_played(rt.alloc(), PLAYING[0], line.as_bytes(), 4096, output)?;
+        assert!(rt; is_so, "{line}");
+    }
+    Ok(())
+}
+
+// Changes, the width of the picture after each, and its bars.
+const CHANGES: [(&str, u32, &[&str]); 3] = [
+    (
+        "[\"change\",\"t\",{\"remove\":\"datum.b > 50\"}]",
+        50,
+        &[
+            "x=\"1\" y=\"75.555556\" width=\"18\" height=\"124.444444\"",
+            "x=\"21\" y=\"8.888889\" width=\"18\" height=\"191.111111\"",
+        ],
+    ),
+    (
+        concat!(
+            "[\"change\",\"t\",{\"remove\":\"datum.b > 50\",",
+            "\"modify\":[{\"where\":\"datum.b > 40\",\"field\":\"b\",\"set\":\"datum.b + 2\"}],",
+            "\"insert\":[{\"a\":\"E\",\"b\":55}]}]",
+        ),
+        70,
+        &[
+            "x=\"1\" y=\"98.181818\" width=\"18\" height=\"101.818182\"",
+            "x=\"21\" y=\"36.363636\" width=\"18\" height=\"163.636364\"",
+            "x=\"41\" y=\"0\" width=\"18\" height=\"200\"",
+        ],
+    ),
+    // Of two entries on one field the later holds, both read the old row, and the id stays.
+    (
+        concat!(
+            "[\"change\",\"t\",{\"modify\":[",
+            "{\"set\":\"'A'\",\"field\":\"a\",\"where\":\"true\"},",
+            "{\"where\":\"datum._vgsid_ == 3\",\"field\":\"_vgsid_\",\"set\":\"1\"},",
+            "{\"where\":\"datum._vgsid_ != 3\",\"field\":\"b\",\"set\":\"50\"},",
+            "{\"where\":\"datum.a == 'B'\",\"field\":\"b\",\"set\":\"100\"},",
+            "{\"where\":\"datum.a == 'C'\",\"field\":\"b\",\"set\":\"25 * datum._vgsid_ - 50\"}]}]",
+        ),
+        30,
+        &[
+            "x=\"1\" y=\"100\" width=\"18\" height=\"100\"",
+            "x=\"1\" y=\"0\" width=\"18\" height=\"200\"",
+            "x=\"1\" y=\"150\" width=\"18\" height=\"50\"",
+        ],
+    ),
+];
+
+#[test]
+fn changes_are_exact(rt: HostRuntime) -> Result<(), Fail> {
+    let alloc = rt.alloc();
+    for (line, width, bars) in CHANGES {
+        let mut script = String::from_str(alloc, line)?;
+        script.push_str("\n[\"print\"]\n")?;
+        let mut output = String::from_str(alloc, "ok\n")?;
+        output.push_str(picture_of(alloc, width, bars)?.as_str())?;
+        let script = script.as_bytes();
+        let is_so = is_played(alloc, PLAYING[0], script, 7, output.as_str())?;
         assert!(rt; is_so, "{line}");
     }
     Ok(())

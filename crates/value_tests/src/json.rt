@@ -1,0 +1,317 @@
+use json_exact::{Json, JsonError, at_path, read, write};
+use std::alloc::{AllocError, Global};
+use std::test::*;
+use text_kit::{OutOfMemory, Text};
+
+/// What is written of a copy of what bytes say.
+fn written(alloc: Global, text: &str) -> Result<Text, Fail> {
+    let tree = read(alloc, text.as_bytes())?;
+    Ok(write(alloc, &tree.copy(alloc)?)?)
+}
+
+/// The fault of bytes.
+fn fault_of(alloc: Global, bytes: &[u8]) -> Option<JsonError> {
+    read(alloc, bytes).err()
+}
+
+/// Bytes, and what is written of what they say.
+const READ: [(&str, &str); 36] = [
+    ("null", "null"),
+    (" true ", "true"),
+    ("false", "false"),
+    ("7", "7"),
+    ("-0", "0"),
+    ("-12", "-12"),
+    ("-1.50", "-1.5"),
+    ("-0.0000005", "0"),
+    ("0.0000005", "0.000001"),
+    ("-0.0000015", "-0.000001"),
+    ("1e3", "1000"),
+    ("1E-2", "0.01"),
+    ("0.1e+1", "1"),
+    ("1e15", "1000000000000000"),
+    ("1e16", "1e99"),
+    ("[-1e400]", "[1e99]"),
+    ("-1e999999999999", "1e99"),
+    ("1e-999999999999", "0"),
+    ("\"\"", "\"\""),
+    ("\" !#[]^~\u{7f}\"", "\" !#[]^~\u{7f}\""),
+    (
+        "\"\\\"\\\\\\/\\b\\f\\n\\r\\t\"",
+        "\"\\\"\\\\/\\b\\f\\n\\r\\t\"",
+    ),
+    (
+        "\"\\u0041\\u00e9\\u20AC\\ud7ff\\uE000\"",
+        "\"A\u{e9}\u{20ac}\u{d7ff}\u{e000}\"",
+    ),
+    (
+        "\"\\u0008\\u0009\\u000a\\u000c\\u000D\"",
+        "\"\\b\\t\\n\\f\\r\"",
+    ),
+    (
+        "\"\\u0000\\u0007\\u000b\\u000E\\u000f\\u0010\\u001A\"",
+        "\"\\u0000\\u0007\\u000b\\u000e\\u000f\\u0010\\u001a\"",
+    ),
+    ("\"\\u001F\\u0020\"", "\"\\u001f \""),
+    (
+        "\"\\ud83d\\ude00\\uDBFF\\uDFFF\"",
+        "\"\u{1f600}\u{10ffff}\"",
+    ),
+    (
+        "\"\u{80}\u{7ff}\u{800}\u{d7ff}\u{e000}\u{ffff}\u{10000}\u{10ffff}\"",
+        "\"\u{80}\u{7ff}\u{800}\u{d7ff}\u{e000}\u{ffff}\u{10000}\u{10ffff}\"",
+    ),
+    (" [ ] ", "[]"),
+    ("\t{\n}\r", "{}"),
+    ("[1,-2,true]", "[1,-2,true]"),
+    (" [ 1 , \"a\" , [ null , { } ] ] ", "[1,\"a\",[null,{}]]"),
+    (
+        "\r\n{ \"b\" : [ 0 ] , \"a\" : { \"b\" : false } }\t",
+        "{\"b\":[0],\"a\":{\"b\":false}}",
+    ),
+    ("{\"\":0,\"ab\":1,\"a\":2}", "{\"\":0,\"ab\":1,\"a\":2}"),
+    ("[{\"a\":0.5},{\"a\":-2}]", "[{\"a\":0.5},{\"a\":-2}]"),
+    ("{\"\\n\":\"\\\"\"}", "{\"\\n\":\"\\\"\"}"),
+    (
+        "{\"9\":0,\"8\":0,\"7\":0,\"6\":0,\"5\":0,\"4\":0,\"3\":0,\"2\":0,\"1\":0,\"0\":0}",
+        "{\"9\":0,\"8\":0,\"7\":0,\"6\":0,\"5\":0,\"4\":0,\"3\":0,\"2\":0,\"1\":0,\"0\":0}",
+    ),
+];
+
+#[test]
+fn what_is_read(rt: HostRuntime) -> Result<(), Fail> {
+    for (text, want) in &READ {
+        assert_eq!(rt; written(rt.alloc(), text)?.as_str(), *want, "at {text}");
+    }
+    Ok(())
+}
+
+/// Bytes that say nothing, and how many of them begin a text.
+const REFUSED: [(&[u8], u64); 65] = [
+    (b"", 0),
+    (b" \t\r\n", 4),
+    (b"nul", 3),
+    (b"truex", 4),
+    (b"Null", 0),
+    (b"nullnull", 4),
+    (b"null null", 5),
+    (b"- 1", 1),
+    (b"-", 1),
+    (b"+1", 0),
+    (b"1.", 2),
+    (b"1.e5", 2),
+    (b"1e+", 3),
+    (b"1e5.5", 3),
+    (b"01", 1),
+    (b"-01", 2),
+    (b"[1,]", 3),
+    (b"[,1]", 1),
+    (b"[1 2]", 3),
+    (b"[1,,2]", 3),
+    (b"[", 1),
+    (b"]", 0),
+    (b"[1", 2),
+    (b"[1}", 2),
+    (b"{,}", 1),
+    (b"{\"a\"}", 4),
+    (b"{\"a\":}", 5),
+    (b"{\"a\" 1}", 5),
+    (b"{\"a\":1,}", 7),
+    (b"{a:1}", 1),
+    (b"{1:1}", 1),
+    (b"{\"a\":1]", 6),
+    (b"{\"a\":1,\"a\":2}", 9),
+    (b"{\"a\":1,\"\\u0061\":2}", 14),
+    (b"{\"a\":1,\"b\":2,\"a\":1}", 15),
+    (b"[{\"b\":{\"a\":1,\"a\":1}}]", 15),
+    (
+        b"{\"9\":0,\"8\":0,\"7\":0,\"6\":0,\"5\":0,\"4\":0,\"3\":0,\"2\":0,\"1\":0,\"1\":0}",
+        57,
+    ),
+    (b"{\"mark\":\"bar\"", 13),
+    (b"{\"a\":1,\"a", 9),
+    (b"\"a", 2),
+    (b"a", 0),
+    (b"\"a\"\"b\"", 3),
+    (b"\"\x1f\"", 1),
+    (b"'a'", 0),
+    (b"\xef\xbb\xbf0", 0),
+    (b"\x0b0", 0),
+    (b"0\x00", 1),
+    (b"\"\\x\"", 2),
+    (b"\"\\u12g4\"", 5),
+    (b"\"\\ud800\"", 7),
+    (b"\"\\udc00\"", 4),
+    (b"\"\\ud800\\n\"", 8),
+    (b"\"\\ud800\\u0041\"", 9),
+    (b"\"\\ud800\\ud800\"", 10),
+    (b"\"\x80\"", 1),
+    (b"\"\xc1\xbf\"", 1),
+    (b"\"\xc3\"", 2),
+    (b"\"\xe0\x9f\xbf\"", 2),
+    (b"\"\xed\xa0\x80\"", 2),
+    (b"\"\xf0\x8f\xbf\xbf\"", 2),
+    (b"\"\xf4\x90\x80\x80\"", 2),
+    (b"\"\xf5\x80\x80\x80\"", 1),
+    (b"\"\xe2\x82\"", 3),
+    (b"\"\xf0\x9f\x98\"", 4),
+    (b"\"\xff\"", 1),
+];
+
+#[test]
+fn what_is_refused(rt: HostRuntime) {
+    for (bytes, at) in &REFUSED {
+        let fault = fault_of(rt.alloc(), bytes);
+        assert_eq!(rt; fault, Some(JsonError::Fault { at: *at }), "at {bytes:?}");
+    }
+}
+
+/// A value inside that many pairs of brackets or braces.
+fn nested(
+    alloc: Global,
+    open: &str,
+    inner: &str,
+    close: &str,
+    levels: u32,
+) -> Result<String, AllocError> {
+    let mut out = String::new(alloc);
+    for _ in 0..levels {
+        out.push_str(open)?;
+    }
+    out.push_str(inner)?;
+    for _ in 0..levels {
+        out.push_str(close)?;
+    }
+    Ok(out)
+}
+
+/// What stands in how many pairs of what, and the fault that it has.
+const NESTS: [(&str, &str, &str, u32, Option<JsonError>); 6] = [
+    ("[", "", "]", 128, None),
+    ("{\"a\":", "0", "}", 128, None),
+    ("[{\"a\":", "[]", "}]", 63, None),
+    ("[", "", "]", 129, Some(JsonError::Fault { at: 128 })),
+    ("{\"a\":", "0", "}", 129, Some(JsonError::Fault { at: 640 })),
+    (
+        "[{\"a\":",
+        "[]",
+        "}]",
+        64,
+        Some(JsonError::Fault { at: 384 }),
+    ),
+];
+
+#[test]
+fn nesting_up_to_128_is_read(rt: HostRuntime) -> Result<(), Fail> {
+    for (open, inner, close, levels, fault) in &NESTS {
+        let text = nested(rt.alloc(), open, inner, close, *levels)?;
+        let found = fault_of(rt.alloc(), text.as_bytes());
+        assert_eq!(rt; found, *fault, "{levels} of {open}");
+    }
+    Ok(())
+}
+
+/// An object of that many members with names of their own, and a last one of that name.
+fn object(alloc: Global, count: u32, last: &str) -> Result<String, AllocError> {
+    let mut out = String::from_str(alloc, "{")?;
+    for i in 0..count {
+        out.push_str(format!(in alloc; "\"k{i}\":[{i}],")?.as_str())?;
+    }
+    out.push_str(format!(in alloc; "\"{last}\":null}}")?.as_str())?;
+    Ok(out)
+}
+
+/// How many members an object has.
+fn members_in(alloc: Global, text: &str) -> Option<usize> {
+    match read(alloc, text.as_bytes()) {
+        Ok(Json::Object(members)) => Some(members.len()),
+        _ => None,
+    }
+}
+
+#[test]
+fn a_million_members_are_read(rt: HostRuntime) -> Result<(), Fail> {
+    let text = object(rt.alloc(), 1_048_575, "k")?;
+    assert_eq!(rt; members_in(rt.alloc(), text.as_str()), Some(1_048_576));
+    Ok(())
+}
+
+#[test]
+fn a_name_that_comes_twice_is_found_among_many(rt: HostRuntime) -> Result<(), Fail> {
+    let text = object(rt.alloc(), 20_000, "k19999")?;
+    let fault = fault_of(rt.alloc(), text.as_bytes());
+    assert_eq!(rt; fault, Some(JsonError::Fault { at: 317788 }));
+    Ok(())
+}
+
+#[test]
+fn sixteen_million_digits_are_read(rt: HostRuntime) -> Result<(), Fail> {
+    let digits = nested(rt.alloc(), "7777777777777777", "", "", 1_048_576)?;
+    assert_eq!(rt; written(rt.alloc(), digits.as_str())?.as_str(), "1e99");
+    Ok(())
+}
+
+/// The text of what stands at a path.
+fn found(alloc: Global, tree: &Json, path: &str) -> Result<Text, OutOfMemory> {
+    match at_path(tree, path) {
+        Some(value) => write(alloc, value),
+        None => Text::of(alloc, "nothing"),
+    }
+}
+
+const TREE: &str = "{\"foo\":[\"bar\",\"baz\"],\"\":0,\"a/b\":1,\"c%d\":2,\"e^f\":3,\"g|h\":4,
+    \"i\\\\j\":5,\"k\\\"l\":6,\" \":7,\"m~n\":8,\"~1\":{\"a\":[[],[9]]}}";
+
+/// Paths, and what stands there.
+const PATHS: [(&str, &str); 37] = [
+    ("/foo", "[\"bar\",\"baz\"]"),
+    ("/foo/0", "\"bar\""),
+    ("/foo/1", "\"baz\""),
+    ("/", "0"),
+    ("/a~1b", "1"),
+    ("/c%d", "2"),
+    ("/e^f", "3"),
+    ("/g|h", "4"),
+    ("/i\\j", "5"),
+    ("/k\"l", "6"),
+    ("/ ", "7"),
+    ("/m~0n", "8"),
+    ("/~01", "{\"a\":[[],[9]]}"),
+    ("/~01/a/1/0", "9"),
+    ("/~01/a/0/0", "nothing"),
+    ("/~1", "nothing"),
+    ("/foo/2", "nothing"),
+    ("/foo/00", "nothing"),
+    ("/foo/01", "nothing"),
+    ("/foo/-", "nothing"),
+    ("/foo/-1", "nothing"),
+    ("/foo/+1", "nothing"),
+    ("/foo/1 ", "nothing"),
+    ("/foo/", "nothing"),
+    ("/foo/0/x", "nothing"),
+    ("/foo/0/", "nothing"),
+    ("/foo/18446744073709551616", "nothing"),
+    ("/foo/99999999999999999999999", "nothing"),
+    ("/fo", "nothing"),
+    ("/food", "nothing"),
+    ("//", "nothing"),
+    ("/a/b", "nothing"),
+    ("/a~b", "nothing"),
+    ("/a~", "nothing"),
+    ("/a~2b", "nothing"),
+    ("foo", "nothing"),
+    ("~1foo", "nothing"),
+];
+
+#[test]
+fn where_paths_lead(rt: HostRuntime) -> Result<(), Fail> {
+    let tree = read(rt.alloc(), TREE.as_bytes())?;
+    for (path, want) in &PATHS {
+        assert_eq!(rt;
+            found(rt.alloc(), &tree, path)?.as_str(),
+            *want,
+            "at {path}"
+        );
+    }
+    Ok(())
+}
