@@ -1,0 +1,3 @@
+mod PathTexts
+mod Firsts
+mod InOrder

@@ -1,0 +1,7 @@
+pub mod Values
+pub mod Layouts
+pub mod Forms
+pub mod Faults
+pub mod Rows
+pub mod Order
+pub mod Tables

@@ -1,0 +1,20 @@
+//! The rules of a format as data, and what finds the first fault of a specification by them. A schema says for each object
+//! which members it has, of which forms, and which are required; every fault stands at one place, and places are in the
+//! order of the text.
+#![tactic(auto)]
+
+mod fault;
+mod form;
+mod layout;
+mod order;
+mod rows;
+mod schema;
+mod search;
+
+pub use fault::Fault;
+pub use form::{Form, Shape};
+pub use layout::{Layout, Rule, Test};
+pub use order::{earlier, faults_are_in_order};
+pub use rows::{Row, When, layout_by, names_by};
+pub use schema::Schema;
+pub use search::first_fault;

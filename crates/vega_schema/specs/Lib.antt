@@ -1,0 +1,13 @@
+pub mod Shapes
+pub mod Words
+pub mod Guides
+pub mod Sources
+pub mod Transforms
+pub mod Groupings
+pub mod Signals
+pub mod Scales
+pub mod Domains
+pub mod PlainMarks
+pub mod Marks
+pub mod Channels
+pub mod Schema

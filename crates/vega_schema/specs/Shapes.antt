@@ -1,0 +1,145 @@
+-- The forms of each shape.
+use Rattle.std.specs.Prelude.{ℕ, pos, negsuc, List, [], ◌∷◌, ◌++◌}
+use Rattle.spec_schema.specs.declared.form.Form.{Form}
+use Rattle.spec_schema.specs.declared.form.Form.TheVariants as form
+use Rattle.spec_schema.specs.declared.form.Shape.{Shape}
+use Rattle.vega_schema.specs.declared.codes.TheConstants.{ANGLE, AUTOSIZE, AUTOSIZE_NAMES, AXES, AXIS, BOUND, CELL, CELLS, CHANNEL, CHANNELS, CONTINUOUS_NAMES, CONTINUOUS_RANGE, COUNT, CROSS, DATA, DATA_LIST, DISCRETE_NAMES, DISCRETE_RANGE, DOMAIN, DOMAIN_ORDER, DOMAIN_SORT, EDGE, EDGE_NAMES, ENCODE, EVENTS, EVENT_NAMES, EXPRESSION, EXPRESSION_SIGNAL, EXTENT, EXTENT_SIGNAL, FACET, FLAG, FORMAT, FORMAT_NAMES, FORMAT_TYPE, FRAME, FREE, GROUP_FROM, HEADER, HEADERS, HEADER_NAMES, LABEL_FORMAT, LAYOUT, LEAST, LEGEND, LEGENDS, MARK, MARKS, MARK_FROM, MOST, NUMBER, OFFSET, OFFSET_NAMES, ON, ONE_TEXT, ON_LIST, OPERATION, OPERATIONS, OPERATION_NAMES, ORDER, ORDERS, ORDER_NAMES, ORDINAL_NAMES, ORDINAL_RANGE, PARAMETER, PARAMETERS, PARSE, PARSE_KIND, PARSE_NAMES, RANGE_ITEM, RANGE_NUMBER, REFERENCE, REFERENCES, SCALE, SCALES, SCALE_DOMAIN, SHARE, SIDE, SIDE_NAMES, SIGNAL, SIGNALS, SIZE, SORT, SPACE, STEP, TEXT, TEXTS, TEXTS_OR_NULLS, TEXT_OR_NULL, TEXT_OR_TEXTS, TICK_COUNT, TIME_UNIT, TOP, TRANSFORM, TRANSFORMS, TWO_TEXTS, UNIT_NAMES, VALUE, WINDOW_NAMES, WINDOW_OPERATION, WINDOW_OPERATIONS, WORDS_CHANNEL, WORDS_VALUE}
+
+-- a form of the shape of this code
+abbrev pub shape : ℕ → Form → Shape
+shape code form = record { code = code; form = form }
+
+-- the greatest length of a list
+abbrev pub MAX_LENGTH : ℕ
+MAX_LENGTH = 18446744073709551615
+
+-- values that hold no others
+unfoldable pub leaves : List Shape
+leaves =
+    shape FREE form.Free ∷
+    shape TEXT form.Text ∷
+    shape EXPRESSION form.Text ∷
+    shape LABEL_FORMAT form.Text ∷
+    shape FLAG form.Flag ∷
+    shape CELL form.Cell ∷
+    shape NUMBER (form.Number LEAST MOST) ∷
+    shape SPACE (form.Number (pos 0) (pos 1000000000)) ∷
+    shape SHARE (form.Number (pos 0) (pos 1000000)) ∷
+    shape COUNT (form.Whole (pos 1000000) (pos 1000000000)) ∷
+    shape TICK_COUNT (form.Whole (pos 1000000) (pos 100000000)) ∷
+    shape ANGLE (form.Number (pos 0) (pos 0)) ∷
+    shape ANGLE (form.Number (negsuc 89999999) (negsuc 89999999)) ∷
+    shape ANGLE (form.Number (pos 270000000) (pos 270000000)) ∷
+    shape STEP (form.Number (pos 1) MOST) ∷
+    shape PARAMETER (form.Whole (pos 0) MOST) ∷
+    shape PARAMETER form.Null ∷
+    shape BOUND (form.Whole LEAST MOST) ∷
+    shape BOUND form.Null ∷
+    shape RANGE_NUMBER (form.Number (pos 0) (pos 1000000000000)) ∷
+    shape SIZE (form.Number (pos 1) (pos 10000000000)) ∷
+    shape SIZE (form.Object EXPRESSION_SIGNAL) ∷
+    []
+
+-- values that are one of some names, and ranges
+unfoldable pub named : List Shape
+named =
+    shape AUTOSIZE (form.Name AUTOSIZE_NAMES) ∷
+    shape FORMAT_TYPE (form.Name FORMAT_NAMES) ∷
+    shape PARSE_KIND (form.Name PARSE_NAMES) ∷
+    shape OPERATION (form.Name OPERATION_NAMES) ∷
+    shape WINDOW_OPERATION (form.Name WINDOW_NAMES) ∷
+    shape TIME_UNIT (form.Name UNIT_NAMES) ∷
+    shape OFFSET (form.Name OFFSET_NAMES) ∷
+    shape ORDER (form.Name ORDER_NAMES) ∷
+    shape EVENTS (form.Name EVENT_NAMES) ∷
+    shape HEADER (form.Name HEADER_NAMES) ∷
+    shape HEADER form.Null ∷
+    shape SIDE (form.Name SIDE_NAMES) ∷
+    shape EDGE (form.Name EDGE_NAMES) ∷
+    shape CONTINUOUS_RANGE (form.Pair RANGE_NUMBER) ∷
+    shape CONTINUOUS_RANGE (form.Name CONTINUOUS_NAMES) ∷
+    shape DISCRETE_RANGE (form.Pair RANGE_NUMBER) ∷
+    shape DISCRETE_RANGE (form.Name DISCRETE_NAMES) ∷
+    shape ORDINAL_RANGE (form.List 1 MAX_LENGTH RANGE_ITEM) ∷
+    shape ORDINAL_RANGE (form.Name ORDINAL_NAMES) ∷
+    shape RANGE_ITEM form.Null ∷
+    shape RANGE_ITEM form.Flag ∷
+    shape RANGE_ITEM (form.Number (pos 0) (pos 1000000000000)) ∷
+    shape RANGE_ITEM form.Text ∷
+    shape RANGE_ITEM (form.Pair NUMBER) ∷
+    []
+
+-- lists, and what may be a list
+unfoldable pub lists : List Shape
+lists =
+    shape CELLS (form.List 0 MAX_LENGTH CELL) ∷
+    shape TEXTS (form.List 0 MAX_LENGTH TEXT) ∷
+    shape ONE_TEXT (form.List 1 1 TEXT) ∷
+    shape TWO_TEXTS (form.List 2 2 TEXT) ∷
+    shape TEXT_OR_TEXTS form.Text ∷
+    shape TEXT_OR_TEXTS (form.List 0 MAX_LENGTH TEXT) ∷
+    shape TEXT_OR_NULL form.Text ∷
+    shape TEXT_OR_NULL form.Null ∷
+    shape TEXTS_OR_NULLS (form.List 0 MAX_LENGTH TEXT_OR_NULL) ∷
+    shape OPERATIONS (form.List 0 MAX_LENGTH OPERATION) ∷
+    shape WINDOW_OPERATIONS (form.List 0 MAX_LENGTH WINDOW_OPERATION) ∷
+    shape PARAMETERS (form.List 0 MAX_LENGTH PARAMETER) ∷
+    shape FRAME (form.List 2 2 BOUND) ∷
+    shape ORDERS (form.Name ORDER_NAMES) ∷
+    shape ORDERS (form.List 0 MAX_LENGTH ORDER) ∷
+    shape EXTENT (form.Pair NUMBER) ∷
+    shape EXTENT (form.Object EXTENT_SIGNAL) ∷
+    shape DOMAIN_ORDER form.True ∷
+    shape DOMAIN_ORDER (form.Object DOMAIN_SORT) ∷
+    shape SCALE_DOMAIN (form.List 0 MAX_LENGTH CELL) ∷
+    shape SCALE_DOMAIN (form.Object DOMAIN) ∷
+    shape CHANNEL (form.Object VALUE) ∷
+    shape CHANNEL (form.List 0 MAX_LENGTH VALUE) ∷
+    shape WORDS_CHANNEL (form.Object WORDS_VALUE) ∷
+    shape WORDS_CHANNEL (form.List 0 MAX_LENGTH WORDS_VALUE) ∷
+    shape DATA_LIST (form.List 0 MAX_LENGTH DATA) ∷
+    shape TRANSFORMS (form.List 0 MAX_LENGTH TRANSFORM) ∷
+    shape SIGNALS (form.List 0 MAX_LENGTH SIGNAL) ∷
+    shape ON_LIST (form.List 0 MAX_LENGTH ON) ∷
+    shape SCALES (form.List 0 MAX_LENGTH SCALE) ∷
+    shape REFERENCES (form.List 0 MAX_LENGTH REFERENCE) ∷
+    shape MARKS (form.List 0 MAX_LENGTH MARK) ∷
+    shape HEADERS (form.List 0 MAX_LENGTH HEADER) ∷
+    shape AXES (form.List 0 MAX_LENGTH AXIS) ∷
+    shape LEGENDS (form.List 0 MAX_LENGTH LEGEND) ∷
+    []
+
+-- objects
+unfoldable pub objects : List Shape
+objects =
+    shape TOP (form.Object TOP) ∷
+    shape DATA (form.Object DATA) ∷
+    shape FORMAT (form.Object FORMAT) ∷
+    shape PARSE (form.Object PARSE) ∷
+    shape TRANSFORM (form.Object TRANSFORM) ∷
+    shape SORT (form.Object SORT) ∷
+    shape EXTENT_SIGNAL (form.Object EXTENT_SIGNAL) ∷
+    shape SIGNAL (form.Object SIGNAL) ∷
+    shape ON (form.Object ON) ∷
+    shape SCALE (form.Object SCALE) ∷
+    shape DOMAIN (form.Object DOMAIN) ∷
+    shape REFERENCE (form.Object REFERENCE) ∷
+    shape DOMAIN_SORT (form.Object DOMAIN_SORT) ∷
+    shape EXPRESSION_SIGNAL (form.Object EXPRESSION_SIGNAL) ∷
+    shape MARK (form.Object MARK) ∷
+    shape MARK_FROM (form.Object MARK_FROM) ∷
+    shape GROUP_FROM (form.Object GROUP_FROM) ∷
+    shape FACET (form.Object FACET) ∷
+    shape CROSS (form.Object CROSS) ∷
+    shape ENCODE (form.Object ENCODE) ∷
+    shape CHANNELS (form.Object CHANNELS) ∷
+    shape VALUE (form.Object VALUE) ∷
+    shape WORDS_VALUE (form.Object WORDS_VALUE) ∷
+    shape AXIS (form.Object AXIS) ∷
+    shape LEGEND (form.Object LEGEND) ∷
+    shape LAYOUT (form.Object LAYOUT) ∷
+    []
+
+-- those of all shapes
+abbrev pub shapes : List Shape
+shapes = leaves ++ named ++ lists ++ objects
