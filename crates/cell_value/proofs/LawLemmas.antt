@@ -23,7 +23,8 @@ not_tied Greater h = refl
 pub other_names_stay : OtherNamesStay
 other_names_stay row name c other apart =
     get-insert nat_list_cmp_total row name c other
-    ∙ ap (λ b. cond b (Some c) (get row other)) (not_tied (slice_cmp nat_cmp other name) (λ tied. apart (slice_cmp-IsAntisymmetric nat_cmp-IsAntisymmetric other name tied)))
+    ∙ ap (λ b. cond b (Some c) (get row other))
+    (not_tied (slice_cmp nat_cmp other name) (λ tied. apart (slice_cmp-IsAntisymmetric nat_cmp-IsAntisymmetric other name tied)))
 
 pub alike_rows_are_equal : AlikeRowsAreEqual
 alike_rows_are_equal a b h = same_map nat_list_cmp_total (slice_cmp-IsAntisymmetric nat_cmp-IsAntisymmetric) a b h

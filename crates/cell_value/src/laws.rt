@@ -1,5 +1,6 @@
 // Laws that callers build on.
-ghost use Rattle.cell_value.specs.Laws.{OrderIsTotal, OnlyEqualCellsTie, SameCellsAreEqual, WhatIsSetIsRead, OtherNamesStay, AlikeRowsAreEqual};
+ghost use Rattle.cell_value.specs.Laws.{OrderIsTotal, OnlyEqualCellsTie, SameCellsAreEqual, WhatIsSetIsRead, OtherNamesStay};
+ghost use Rattle.cell_value.specs.Laws.{AlikeRowsAreEqual};
 
 /// The order of cells is total, and a cell ties with itself alone.
 pub fn laws_of_cells()

@@ -1,5 +1,6 @@
 -- What the objects in memory hold.
-use Rattle.std.specs.Prelude.{◌≡◌, refl, ℕ, ◌-◌, nat_le, if◌then◌else◌, min, List, [], ◌∷◌, length, map, Option, Some, None, String, Vec, string_bytes}
+use Rattle.std.specs.Prelude.{◌≡◌, refl, ℕ, ◌-◌, nat_le, if◌then◌else◌, min, List, [], ◌∷◌, length, map, Option, Some, None, String, Vec}
+use Rattle.std.specs.Prelude.{string_bytes}
 use Rattle.std.specs.declared.alloc.Global.{Global}
 use Rattle.chart_io.specs.Counts.{CallCounts}
 use Rattle.chart_io.specs.declared.outside.Got.{Got}

@@ -4,6 +4,7 @@
 //! memory, whose failures are chosen, and adapters round the runtime's files, readers and writers.
 #![tactic(auto)]
 
+mod buffer;
 mod counting;
 mod counts;
 mod dir;
@@ -14,6 +15,7 @@ mod stream;
 mod sure;
 mod writing;
 
+pub use buffer::zeros;
 pub use counting::CountSink;
 pub use dir::DirFolder;
 pub use memory::{ListFolder, ListSource};

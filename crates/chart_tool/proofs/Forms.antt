@@ -30,7 +30,8 @@ missing_not_long None none long = absurd long
 missing_not_long (Some file) none long = absurd cc
 
 -- bytes that read are not unreadable
-read_not_unreadable : (file : Option (List ℕ)) (bytes : List ℕ) (tree : Json) (place : ℕ) → IsWithinSize file bytes → Reads bytes tree → IsUnreadable file place → ⊥
+read_not_unreadable : (file : Option (List ℕ)) (bytes : List ℕ) (tree : Json) (place : ℕ) → IsWithinSize file bytes → Reads bytes tree
+    → IsUnreadable file place → ⊥
 read_not_unreadable file bytes tree place whole reads (other, within, none) =
     let at : List ℕ → Type 0 = λ b. Reads b tree in
     none.none tree (subst at (file_is file bytes other whole within) reads)
@@ -69,12 +70,14 @@ module _ (name : List ℕ) (file : Option (List ℕ)) where
   unsupported_not_unreadable place (bytes, whole, is) un = read_not_unreadable file bytes is.tree place whole is.reads un
 
   -- a file is refused with one status
-  pub one_status : (why other : Refusal) → IsFileRefusal name file why → IsFileRefusal name file other → refusal_status why ≡ refusal_status other
+  pub one_status : (why other : Refusal) → IsFileRefusal name file why → IsFileRefusal name file other
+      → refusal_status why ≡ refusal_status other
   one_status Words other a b = absurd a
   one_status (Missing m) Words a b = absurd b
   one_status (Missing m) (Missing n) a b = refl
   one_status (Missing m) (Size n) a b = absurd (missing_not_long file a.1 b.1)
-  one_status (Missing m) (NoJson n place) a b = let (bytes, whole) = unreadable_is_there place b.1 in absurd (not_missing file bytes whole a.1)
+  one_status (Missing m) (NoJson n place) a b = let (bytes, whole) =
+      unreadable_is_there place b.1 in absurd (not_missing file bytes whole a.1)
   one_status (Missing m) Spec a (bytes, whole, none) = absurd (not_missing file bytes whole a.1)
   one_status (Size m) Words a b = absurd b
   one_status (Size m) (Missing n) a b = absurd (missing_not_long file b.1 a.1)
@@ -82,7 +85,8 @@ module _ (name : List ℕ) (file : Option (List ℕ)) where
   one_status (Size m) (NoJson n place) a b = let (bytes, whole) = unreadable_is_there place b.1 in absurd (not_long file bytes whole a.1)
   one_status (Size m) Spec a (bytes, whole, none) = absurd (not_long file bytes whole a.1)
   one_status (NoJson m place) Words a b = absurd b
-  one_status (NoJson m place) (Missing n) a b = let (bytes, whole) = unreadable_is_there place a.1 in absurd (not_missing file bytes whole b.1)
+  one_status (NoJson m place) (Missing n) a b = let (bytes, whole) =
+      unreadable_is_there place a.1 in absurd (not_missing file bytes whole b.1)
   one_status (NoJson m place) (Size n) a b = let (bytes, whole) = unreadable_is_there place a.1 in absurd (not_long file bytes whole b.1)
   one_status (NoJson m place) (NoJson n other) a b = refl
   one_status (NoJson m place) Spec a b = absurd (unsupported_not_unreadable place b a.1)

@@ -1,5 +1,6 @@
 -- How runs end: where opening a file stops them, and where playing or printing does.
-use Rattle.std.proofs.Common.{◌≡◌, ◌≤◌, ◌⊎◌, ◌↔◌, ℕ, true, false, Option, Some, None, List, [], length, Result, Ok, Err, IfSome, IsErrOf, refl, sym, subst, inl, inr}
+use Rattle.std.proofs.Common.{◌≡◌, ◌≤◌, ◌⊎◌, ◌↔◌, ℕ, true, false, Option, Some, None, List, [], length, Result, Ok, Err, IfSome, IsErrOf}
+use Rattle.std.proofs.Common.{refl, sym, subst, inl, inr}
 use Rattle.std.specs.Result.{result_err}
 use Rattle.chart_io.specs.Outside.{Files, file_of}
 use Rattle.play_script.specs.Played.{IsPastSize}
@@ -16,17 +17,20 @@ use Rattle.chart_tool.specs.inner.Stops.{stop_end, end_of, handed, IsOpenStop, I
 -- the cause refuses the file that is asked for
 refuses : (ask : Ask) (told : Option Files) (cause : Stop) (why : Refusal)
     → ((files : Files) → StopsOverFile (spec_name ask) (file_of files (spec_name ask)) cause → IsRefused (Some ask) files why)
-    → IfSome told (λ files. StopsOverFile (spec_name ask) (file_of files (spec_name ask)) cause) → IfSome told (λ files. IsRefused (Some ask) files why)
+    → IfSome told (λ files. StopsOverFile (spec_name ask) (file_of files (spec_name ask)) cause)
+    → IfSome told (λ files. IsRefused (Some ask) files why)
 refuses ask None cause why leads is = tt
 refuses ask (Some files) cause why leads is = leads files is
 
 module _ (ask : Ask) (told : Option Files) (script left : Option (List ℕ)) (Untouched Silent FolderRose ScriptRose OutRose : Type 0) where
   -- where opening stops a run, nothing was written and no script read
-  pub opened_end : (cause : Stop) → IsOpenStop cause → IfSome told (λ files. StopsOverFile (spec_name ask) (file_of files (spec_name ask)) cause)
+  pub opened_end : (cause : Stop) → IsOpenStop cause
+      → IfSome told (λ files. StopsOverFile (spec_name ask) (file_of files (spec_name ask)) cause)
       → Silent → Untouched → (cause ≡ stop.Read → FolderRose)
       → IsEnd (Some ask) told script left Untouched Silent FolderRose ScriptRose OutRose (stop_end (spec_name ask) cause)
   opened_end stop.Words is over silent same read = absurd is
-  opened_end stop.Missing is over silent same read = (refuses ask told stop.Missing (Missing (spec_name ask)) (λ files x. x) over, silent, same)
+  opened_end stop.Missing is over silent same read =
+      (refuses ask told stop.Missing (Missing (spec_name ask)) (λ files x. x) over, silent, same)
   opened_end (stop.Unreadable place) is over silent same read =
       (refuses ask told (stop.Unreadable place) (Json (spec_name ask) place) (λ files x. x) over, silent, same)
   opened_end stop.Unsupported is over silent same read = (refuses ask told stop.Unsupported Spec (λ files x. x) over, silent, same)
@@ -64,6 +68,7 @@ module _ (name : List ℕ) (told : Option Files) (Untouched Silent FolderRose Sc
   played_end script left (Err error.Memory) accepted read write size whole = tt
   played_end script left (Err error.Size) accepted read write size whole = (accepted, refl, past script size)
     where
-      past : (s : Option (List ℕ)) → IfSome s (λ bytes. (◌≡◌ {A = Result (Unit {0}) PlayError} (Err error.Size) (Err error.Size)) ↔ IsPastSize bytes left) → IfSome s (λ bytes. IsPastSize bytes left)
+      past : (s : Option (List ℕ)) → IfSome s (λ bytes. (◌≡◌ {A = Result (Unit {0}) PlayError} (Err error.Size) (Err error.Size))
+          ↔ IsPastSize bytes left) → IfSome s (λ bytes. IsPastSize bytes left)
       past None h = tt
       past (Some bytes) h = h.0 refl

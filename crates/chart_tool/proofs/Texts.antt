@@ -1,5 +1,6 @@
 -- The text that is wanted over an accepted file, and what printing and playing over it append.
-use Rattle.std.proofs.Common.{◌≡◌, ◌≤◌, ◌+◌, ℕ, Option, Some, None, List, [], ◌∷◌, ◌++◌, length, length-append, Result, Ok, Err, IfSome, OnOk, refl, sym, subst, ap, ◌∙◌, arith}
+use Rattle.std.proofs.Common.{◌≡◌, ◌≤◌, ◌+◌, ℕ, Option, Some, None, List, [], ◌∷◌, ◌++◌, length, length-append, Result, Ok, Err, IfSome}
+use Rattle.std.proofs.Common.{OnOk, refl, sym, subst, ap, ◌∙◌, arith}
 use Rattle.chart_io.specs.Outside.{Files, file_of, Kept, Appended, AppendedPrefix}
 use Rattle.cell_value.specs.State.{State, state_of}
 use Rattle.scene_tree.specs.Outcome.{Outcome, Drawn, IsDrawn}
@@ -37,14 +38,17 @@ picture_of : (file : Option (List ℕ)) (form : FirstForm) → HasForm file form
 picture_of file form (bytes, whole, are) = chart_drawn form (drawable bytes form are)
 
 -- what opens is drawn, as its form's chart
-pub opens_drawn : (form : FirstForm) → IsDrawable form → (text : List ℕ) × (vega_chart_of (bars_of form) (state_of (opening_of form)) ≡ Drawn text) × (chart_of form ≡ Drawn text)
+pub opens_drawn : (form : FirstForm) → IsDrawable form
+    → (text : List ℕ) × (vega_chart_of (bars_of form) (state_of (opening_of form)) ≡ Drawn text) × (chart_of form ≡ Drawn text)
 opens_drawn form is = let (text, drawn) = chart_drawn form is in (text, vega_chart_is form is.apart ∙ drawn, drawn)
 
-pub wanted_picture : (name : List ℕ) (files : Files) → IsAccepted (Render name) files → (text : List ℕ) × IsWanted (Render name) files [] text
+pub wanted_picture : (name : List ℕ) (files : Files) → IsAccepted (Render name) files
+    → (text : List ℕ) × IsWanted (Render name) files [] text
 wanted_picture name files (form, has) = let (text, drawn) = picture_of (file_of files name) form has in (text, (form, has, drawn))
 
 -- the output of a script over a file of a form
-pub wanted_output : (name : List ℕ) (files : Files) (script : List ℕ) → IsAccepted (Play name) files → (text : List ℕ) × IsWanted (Play name) files script text
+pub wanted_output : (name : List ℕ) (files : Files) (script : List ℕ) → IsAccepted (Play name) files
+    → (text : List ℕ) × IsWanted (Play name) files script text
 wanted_output name files script (form, (bytes, whole, are)) =
     let (text, vega, drawn) = opens_drawn form (drawable bytes form are) in
     let o = has_output (vega_semantics (bars_of form)) (state_of (opening_of form)) 1 (lines_of script) (text, vega) in
@@ -54,14 +58,16 @@ wanted_output name files script (form, (bytes, whole, are)) =
 drawn_as : (o : Outcome (List ℕ)) (P : List ℕ → Type 0) (text : List ℕ) → o ≡ Drawn text → IsDrawn o P → P text
 drawn_as o P text e is = subst (λ (x : Outcome (List ℕ)). IsDrawn x P) e is
 
-module _ (name : List ℕ) (files : Files) (form : FirstForm) (has : HasForm (file_of files name) form) (meaning : Meaning) (opens : IsOpening form meaning) where
+module _ (name : List ℕ) (files : Files) (form : FirstForm) (has : HasForm (file_of files name) form) (meaning : Meaning)
+    (opens : IsOpening form meaning) where
   chart_is : (text : List ℕ) → chart_of form ≡ Drawn text → chart_in meaning ≡ Drawn text
   chart_is text drawn =
       let (bytes, whole, are) = has in
       ap chart_in opens ∙ vega_chart_is form (drawable bytes form are).apart ∙ drawn
 
   -- what a print of the engine appends is the picture
-  pub printed_text : (r : Result (Unit {0}) Stop) (old now : Option (List ℕ)) → OnOk r (IsDrawn (chart_in meaning) (Appended old now)) → IsDrawn (chart_in meaning) (AppendedPrefix old now)
+  pub printed_text : (r : Result (Unit {0}) Stop) (old now : Option (List ℕ)) → OnOk r (IsDrawn (chart_in meaning) (Appended old now))
+      → IsDrawn (chart_in meaning) (AppendedPrefix old now)
       → IsTexted (Render name) files [] r old now
   printed_text r old now whole begun =
       let (text, drawn) = picture_of (file_of files name) form has in
@@ -72,11 +78,13 @@ module _ (name : List ℕ) (files : Files) (form : FirstForm) (has : HasForm (fi
         whole = on_ok r text drawn whole;
       }
     where
-      on_ok : (r : Result (Unit {0}) Stop) (text : List ℕ) → chart_of form ≡ Drawn text → OnOk r (IsDrawn (chart_in meaning) (Appended old now)) → OnOk r (Appended old now text)
+      on_ok : (r : Result (Unit {0}) Stop) (text : List ℕ) → chart_of form ≡ Drawn text
+          → OnOk r (IsDrawn (chart_in meaning) (Appended old now)) → OnOk r (Appended old now text)
       on_ok (Ok done) text drawn whole = drawn_as (chart_in meaning) (Appended old now) text (chart_is text drawn) whole
       on_ok (Err cause) text drawn whole = tt
 
-module _ (name : List ℕ) (files : Files) (form : FirstForm) (has : HasForm (file_of files name) form) (meaning now : Meaning) (opens : IsOpening form meaning)
+module _ (name : List ℕ) (files : Files) (form : FirstForm) (has : HasForm (file_of files name) form) (meaning now : Meaning)
+    (opens : IsOpening form meaning)
     (bytes taken rest : List ℕ) (split : bytes ≡ taken ++ rest) (old held : Option (List ℕ)) where
   -- what playing appends begins the output of the script, and with Ok it is the output
   pub played_text : (r : Result (Unit {0}) PlayError) → IsPlayed IsReplyIn bytes taken meaning now (output_alone old) (output_alone held) r
@@ -99,7 +107,8 @@ module _ (name : List ℕ) (files : Files) (form : FirstForm) (has : HasForm (fi
       record {
         text = text;
         wanted = (other, its, (notes, later, is));
-        begun = played_begins meaning now bytes text notes later (output_alone old) (output_alone held) vega {X = Unit {0}} taken rest (Err error) split played;
+        begun = played_begins meaning now bytes text notes later (output_alone old) (output_alone held) vega {X = Unit {0}} taken rest
+            (Err error) split played;
         whole = tt;
       }
 
@@ -129,17 +138,21 @@ abbrev pub Opened : Option Files → List ℕ → Meaning → Type 0
 Opened told name meaning = IfSome told (λ files. (form : FirstForm) × HasForm (file_of files name) form × IsOpening form meaning)
 
 -- it is accepted then
-pub opened_accepted : (ask : Ask) (told : Option Files) (meaning : Meaning) → Opened told (spec_name ask) meaning → IfSome told (IsAccepted ask)
+pub opened_accepted : (ask : Ask) (told : Option Files) (meaning : Meaning) → Opened told (spec_name ask) meaning
+    → IfSome told (IsAccepted ask)
 opened_accepted ask None meaning opened = tt
 opened_accepted ask (Some files) meaning (form, has, opens) = (form, has)
 
-pub opened_picture : (told : Option Files) (name : List ℕ) (meaning : Meaning) (r : Result (Unit {0}) Stop) (old now : Option (List ℕ)) → Opened told name meaning
+pub opened_picture : (told : Option Files) (name : List ℕ) (meaning : Meaning) (r : Result (Unit {0}) Stop) (old now : Option (List ℕ))
+    → Opened told name meaning
     → OnOk r (IsDrawn (chart_in meaning) (Appended old now)) → IsDrawn (chart_in meaning) (AppendedPrefix old now)
     → IfSome told (λ files. IsAccepted (Render name) files → IsTexted (Render name) files [] r old now)
 opened_picture None name meaning r old now opened whole begun = tt
-opened_picture (Some files) name meaning r old now (form, has, opens) whole begun = λ accepted. printed_text name files form has meaning opens r old now whole begun
+opened_picture (Some files) name meaning r old now (form, has, opens) whole begun =
+    λ accepted. printed_text name files form has meaning opens r old now whole begun
 
-pub opened_output : (told : Option Files) (name : List ℕ) (script left : Option (List ℕ)) (taken : List ℕ) (old held : Option (List ℕ)) (meaning now : Meaning) (r : Result (Unit {0}) PlayError)
+pub opened_output : (told : Option Files) (name : List ℕ) (script left : Option (List ℕ)) (taken : List ℕ) (old held : Option (List ℕ))
+    (meaning now : Meaning) (r : Result (Unit {0}) PlayError)
     → Opened told name meaning → HasTaken script left taken
     → IfSome script (λ bytes. IsPlayed IsReplyIn bytes taken meaning now (output_alone old) (output_alone held) r)
     → IfSome told (λ files. IfSome script (λ bytes. IsAccepted (Play name) files → IsTexted (Play name) files bytes (handed r) old held))
@@ -150,7 +163,8 @@ opened_output (Some files) name (Some bytes) (Some rest) taken old held meaning 
     played_text name files form has meaning now opens bytes taken rest split old held r played
 
 -- after Ok the script was read to its end
-pub read_whole : (script left : Option (List ℕ)) (taken : List ℕ) (old held : Option (List ℕ)) (meaning now : Meaning) (r : Result (Unit {0}) PlayError) (done : Unit {0}) → r ≡ Ok done → HasTaken script left taken
+pub read_whole : (script left : Option (List ℕ)) (taken : List ℕ) (old held : Option (List ℕ)) (meaning now : Meaning)
+    (r : Result (Unit {0}) PlayError) (done : Unit {0}) → r ≡ Ok done → HasTaken script left taken
     → IfSome script (λ bytes. IsPlayed IsReplyIn bytes taken meaning now (output_alone old) (output_alone held) r) → IsReadWhole script left
 read_whole script left taken old held meaning now (Err cause) done is split played = absurd cc
 read_whole None left taken old held meaning now (Ok x) done is split played = tt

@@ -1,5 +1,6 @@
 -- The forms of words, and what they ask for.
-use Rattle.std.specs.Prelude.{◌≡◌, refl, ℕ, ◌==◌, ◌&&◌, not, Bool, true, false, Option, Some, None, List, [], ◌∷◌, map, if◌then◌else◌, codes, String, string_bytes}
+use Rattle.std.specs.Prelude.{◌≡◌, refl, ℕ, ◌==◌, ◌&&◌, not, Bool, true, false, Option, Some, None, List, [], ◌∷◌, map, if◌then◌else◌}
+use Rattle.std.specs.Prelude.{codes, String, string_bytes}
 use Rattle.std.specs.Str.{bytes_eq}
 
 -- what words ask for, with the name of the file of a specification

@@ -1,10 +1,10 @@
 //! Whole files, read through a folder.
-ghost use Rattle.std.specs.Prelude.{◌≡◌, ◌≤◌, ◌<◌, length, IfOk, IfErr, IfSome, IsErrOf};
+ghost use Rattle.std.specs.Prelude.{◌≡◌, ◌≤◌, ◌<◌, length, IfErr, IfSome, IsErrOf};
 ghost use Rattle.chart_io.specs.Outside.{Rose, file_of};
 ghost use Rattle.chart_tool.specs.inner.Stops.{IsReadOf, IsFileStop};
 
 use crate::stop::Stop;
-use chart_io::{Failed, Folder, Got};
+use chart_io::{Failed, Folder, Got, zeros};
 use std::alloc::Global;
 
 /// How many bytes a file may have.
@@ -12,14 +12,6 @@ const MOST_BYTES: usize = 16_777_216;
 
 /// How many bytes are read at a time.
 const PIECE_BYTES: usize = 65_536;
-
-// A buffer of this many bytes.
-fn zeros(alloc: Global, len: usize) -> Result<Vec<u8>, Stop>
-    ensures len { IfOk result (λ buffer. length buffer.items ≡ len) }
-    ensures memory { IfErr result (λ stop. stop ≡ Stop.Memory) }
-{
-    Ok(vec![in alloc; 0u8; len]?)
-}
 
 // Reads a file by way of a buffer.
 fn read_pieces<F: Folder>(

@@ -1,5 +1,6 @@
 -- Why a form that can be drawn has a chart.
-use Rattle.std.proofs.Common.{◌≡◌, ℕ, suc, ◌+◌, ◌*◌, ◌<◌, ◌≤◌, ◌^◌, ℤ, pos, ◌≤ℤ◌, ◌-ℤ◌, Bool, true, false, if◌then◌else◌, List, [], ◌∷◌, length, map, Option, Some, None, unsigned_abs, arith, refl, sym, ap, ◌∙◌, subst}
+use Rattle.std.proofs.Common.{◌≡◌, ℕ, suc, ◌+◌, ◌*◌, ◌<◌, ◌≤◌, ◌^◌, ℤ, pos, ◌≤ℤ◌, ◌-ℤ◌, Bool, true, false, if◌then◌else◌, List, [], ◌∷◌}
+use Rattle.std.proofs.Common.{length, map, Option, Some, None, unsigned_abs, arith, refl, sym, ap, ◌∙◌, subst}
 use Rattle.std.specs.Int.{int_min, int_max}
 use Rattle.std.specs.Str.{bytes_eq}
 use Rattle.std.specs.List.{All, position_or_len}
@@ -22,7 +23,8 @@ use Rattle.vega_meaning.specs.Domains.{placed_in, ascending, least, greatest, ex
 use Rattle.vega_meaning.specs.Steps.{nice_of}
 use Rattle.vega_meaning.specs.Scales.{place_of_number, band_place, place_of_entry}
 use Rattle.first_form.specs.declared.form.Value.{Value}
-use Rattle.first_form.specs.Bars.{with_ids, Reading, reading_of, readings_of, amounts_of, categories_of, plot_height, x_scale, y_scale, base_of, bar_over, bar_of, scene_of}
+use Rattle.first_form.specs.Bars.{with_ids, Reading, reading_of, readings_of, amounts_of, categories_of, plot_height, x_scale, y_scale}
+use Rattle.first_form.specs.Bars.{base_of, bar_over, bar_of, scene_of}
 use Rattle.first_form.specs.Drawable.{IsDrawableAmount}
 use Rattle.first_form.specs.Laws.{ChartsAreDrawn}
 use Rattle.first_form.proofs.RangeLemmas.{in_range_at_number, size_of_above}

@@ -1,4 +1,3 @@
-pub mod Values
 pub mod FormLemmas
 pub mod RangeLemmas
 pub mod NiceLemmas

@@ -1,5 +1,6 @@
 -- Why the places of bars are in range.
-use Rattle.std.proofs.Common.{◌≡◌, ℕ, zero, suc, ◌+◌, ◌*◌, ◌^◌, ◌<◌, ◌≤◌, ℤ, pos, ◌+ℤ◌, ◌-ℤ◌, ◌*ℤ◌, ◌≤ℤ◌, int_lt, true, false, if◌then◌else◌, List, length, unsigned_abs, arith, refl, sym, ap, subst, ◌∙◌}
+use Rattle.std.proofs.Common.{◌≡◌, ℕ, zero, suc, ◌+◌, ◌*◌, ◌^◌, ◌<◌, ◌≤◌, ℤ, pos, ◌+ℤ◌, ◌-ℤ◌, ◌*ℤ◌, ◌≤ℤ◌, int_lt, true, false}
+use Rattle.std.proofs.Common.{if◌then◌else◌, List, length, unsigned_abs, arith, refl, sym, ap, subst, ◌∙◌}
 use Rattle.std.specs.Ordering.{int_eq}
 use Rattle.std.proofs.lemmas.Int.{ints}
 use Rattle.fixed_num.specs.Number.{million, IsNumber, rounded, floor_quotient}

@@ -1,5 +1,6 @@
 -- Why the Vega chart of a form in its opening state is the form's chart.
-use Rattle.std.proofs.Common.{◌≡◌, ◌≢◌, ℕ, ℤ, Bool, true, false, if◌then◌else◌, List, [], ◌∷◌, ◌++◌, map, length, Option, Some, None, refl, ap, ◌∙◌}
+use Rattle.std.proofs.Common.{◌≡◌, ◌≢◌, ℕ, ℤ, Bool, true, false, if◌then◌else◌, List, [], ◌∷◌, ◌++◌, map, length, Option, Some, None, refl}
+use Rattle.std.proofs.Common.{ap, ◌∙◌}
 use Rattle.std.specs.Prelude.{unwrap_or}
 use Rattle.std.specs.Option.{option_map}
 use Rattle.std.specs.List.{flat_map, filter_map}
@@ -23,7 +24,8 @@ use Rattle.vega_meaning.specs.Scales.{Linear, place_of_number, Band, band_place,
 use Rattle.vega_meaning.specs.Frames.{scene_around}
 use Rattle.vega_meaning.specs.Bars as vega
 use Rattle.first_form.specs.declared.form.Value.{Value}
-use Rattle.first_form.specs.Bars.{with_ids, Reading, category_of, amount_of, reading_of, amounts_of, plot_width, plot_height, x_scale, y_scale, base_of, bar_over, bar_of, scene_of}
+use Rattle.first_form.specs.Bars.{with_ids, Reading, category_of, amount_of, reading_of, amounts_of, plot_width, plot_height, x_scale}
+use Rattle.first_form.specs.Bars.{y_scale, base_of, bar_over, bar_of, scene_of}
 use Rattle.first_form.specs.Opening.{value_row}
 use Rattle.first_form.specs.Laws.{VegaChartIsTheChart}
 

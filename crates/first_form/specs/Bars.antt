@@ -1,5 +1,6 @@
 -- The picture of a chart of the first form.
-use Rattle.std.specs.Prelude.{ℕ, suc, ◌*◌, ◌^◌, ℤ, pos, ◌-ℤ◌, ◌*ℤ◌, int_lt, unsigned_abs, ◌||◌, Option, Some, None, List, [], ◌∷◌, length, map, if◌then◌else◌, codes}
+use Rattle.std.specs.Prelude.{ℕ, suc, ◌*◌, ◌^◌, ℤ, pos, ◌-ℤ◌, ◌*ℤ◌, int_lt, unsigned_abs, ◌||◌, Option, Some, None, List, [], ◌∷◌, length}
+use Rattle.std.specs.Prelude.{map, if◌then◌else◌, codes}
 use Rattle.std.specs.Int.{int_min}
 use Rattle.std.specs.List.{filter_map}
 use Rattle.std.specs.Str.{bytes_eq}

@@ -1,5 +1,6 @@
 -- The first chart form: which trees are of it, and what their parts are. None stands for what is not of the form.
-use Rattle.std.specs.Prelude.{ℕ, ◌==◌, Bool, true, false, ◌&&◌, nat_le, ℤ, pos, neg_ℤ, ◌+◌, ◌*◌, ◌%◌, ◌^◌, Option, Some, None, List, [], ◌∷◌, length, map, replicate, if◌then◌else◌, codes, ◌≡◌, refl}
+use Rattle.std.specs.Prelude.{ℕ, ◌==◌, Bool, true, false, ◌&&◌, nat_le, ℤ, pos, neg_ℤ, ◌+◌, ◌*◌, ◌%◌, ◌^◌, Option, Some, None, List, []}
+use Rattle.std.specs.Prelude.{◌∷◌, length, map, replicate, if◌then◌else◌, codes, ◌≡◌, refl}
 use Rattle.std.specs.Option.{is_some, option_map, option_and_then}
 use Rattle.std.specs.List.{list_all}
 use Rattle.std.specs.Str.{bytes_eq}

@@ -8,13 +8,13 @@ use Rattle.cell_value.specs.declared.state.Keyed.{Keyed}
 use Rattle.cell_value.specs.declared.state.ChartState.{ChartState}
 use Rattle.cell_value.specs.Row.{row_of}
 use Rattle.cell_value.specs.Datum.{id_name}
-use Rattle.vega_model.specs.declared.spec.VgSpec.{VgSpec}
+use Rattle.bar_spec.specs.declared.spec.BarSpec.{BarSpec}
 use Rattle.first_form.specs.declared.form.FirstForm.{FirstForm}
 use Rattle.first_form.specs.declared.form.Value.{Value}
 use Rattle.first_form.specs.Bars.{with_ids}
 
 -- bars of the source of the form, placed by the first field and as high as the second says
-abbrev pub bars_of : FirstForm → VgSpec
+abbrev pub bars_of : FirstForm → BarSpec
 bars_of form = record { source = form.name; x = form.x; y = form.y }
 
 -- the cells of a value: its category and its amount; a member of the name under which every row has its id is dropped

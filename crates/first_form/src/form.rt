@@ -61,7 +61,7 @@ fn value_in(x: &str, y: &str, row: &Json) -> Result<Option<Value>, OutOfMemory>
 }
 
 // The values of rows, by these two fields; None where a row has none.
-#[tactic(auto, using(crate::proofs::Values::one_more))]
+#[tactic(auto, using(fixed_num::proofs::FoundLemmas::one_more))]
 fn values_in(
     alloc: Global,
     x: &str,

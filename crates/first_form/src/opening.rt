@@ -5,20 +5,20 @@ ghost use Rattle.first_form.specs.Opening.{bars_of, value_row, opening_of};
 ghost use Rattle.first_form.specs.inner.Cells.{with_cell};
 
 use crate::form::{FirstForm, Value};
+use bar_spec::BarSpec;
 use cell_value::{Cell, ChartState, Key, Keyed, Named, Row, Rows};
 use std::alloc::Global;
 use text_kit::{OutOfMemory, Seq, Text};
-use vega_model::VgSpec;
 
 /// The name under which every row has its id. A member of this name is dropped.
 const ID_NAME: &str = "_vgsid_";
 
 /// The Vega specification of the form: bars of its source, placed by its first field and as high as its second says. The one error is
 /// that memory is refused.
-pub fn bars_of(form: &FirstForm) -> Result<VgSpec, OutOfMemory>
+pub fn bars_of(form: &FirstForm) -> Result<BarSpec, OutOfMemory>
     ensures { IfOk result (λ spec. spec ≡ bars_of form.now) }
 {
-    Ok(VgSpec {
+    Ok(BarSpec {
         source: form.name.copy()?,
         x: form.x.copy()?,
         y: form.y.copy()?,

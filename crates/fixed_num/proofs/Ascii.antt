@@ -8,7 +8,8 @@ use Rattle.std.proofs.lemmas.Bool.Decides.{nat_tests}
 use Rattle.std.proofs.lemmas.Str.{IsAscii-append, IsUtf8-from_ascii}
 use Rattle.std.proofs.lemmas.Str.Ascii.{IsAscii-nil, IsAscii-cons}
 use Rattle.fixed_num.specs.Number.{million}
-use Rattle.fixed_num.specs.Decimal.{last_digits, before_digits, without_trailing_zeros, fraction_digits, fraction_spelling, size_spelling, spelling}
+use Rattle.fixed_num.specs.Decimal.{last_digits, before_digits, without_trailing_zeros, fraction_digits, fraction_spelling, size_spelling}
+use Rattle.fixed_num.specs.Decimal.{spelling}
 
 one_digit : (n : ℕ) → digit_glyph false (n % 10) < 128
 one_digit n = grind (arith, nat_tests, mod_below n 10 (omega arith))
@@ -17,7 +18,8 @@ digits_onto_ascii : (k n : ℕ) (more : List ℕ) → IsAscii more → IsAscii (
 digits_onto_ascii zero n more h = h
 digits_onto_ascii (suc k) n more h =
     let here = IsAscii-cons (digit_glyph false (n % 10)) more (one_digit n) h in
-    elim (n / 10 == 0) as (λ b. IsAscii (if b then (digit_glyph false (n % 10) ∷ more) else digits_onto k 10 false (n / 10) (digit_glyph false (n % 10) ∷ more))) [
+    elim (n / 10 == 0) as (λ b. IsAscii (if b then (digit_glyph false (n % 10) ∷ more)
+    else digits_onto k 10 false (n / 10) (digit_glyph false (n % 10) ∷ more))) [
       | true ↦ here
       | false ↦ digits_onto_ascii k (n / 10) _ here
     ]

@@ -1,5 +1,7 @@
 -- The numbers that digits stand for.
-use Rattle.std.proofs.Common.{◌≡◌, ◌≢◌, ℕ, zero, suc, ◌+◌, ◌-◌, ◌*◌, ◌^◌, ◌<◌, ◌≤◌, List, [], ◌∷◌, ◌++◌, length, drop, get_or, ltb, eqb, ◌==◌, mul-le-mul_left, ℤ, unsigned_abs, Bool, true, false, not, ◌&&◌, ⊎_elim, lt-ltb, le-ltb, le-leb, arith, sym, refl, ap, ◌∙◌}
+use Rattle.std.proofs.Common.{◌≡◌, ◌≢◌, ℕ, zero, suc, ◌+◌, ◌-◌, ◌*◌, ◌^◌, ◌<◌, ◌≤◌, List, [], ◌∷◌, ◌++◌, length, drop, get_or, ltb, eqb}
+use Rattle.std.proofs.Common.{◌==◌, mul-le-mul_left, ℤ, unsigned_abs, Bool, true, false, not, ◌&&◌, ⊎_elim, lt-ltb, le-ltb, le-leb, arith}
+use Rattle.std.proofs.Common.{sym, refl, ap, ◌∙◌}
 use Rattle.std.specs.List.{list_all}
 use Rattle.std.specs.Char.{is_ascii_digit}
 use Rattle.std.proofs.Math.Nat.{pow-suc, mul-le-mul_right}
@@ -42,7 +44,8 @@ number_after-ge n ds = omega (arith, mul-le-mul_left n (ten_pos (length ds)))
 pub number_joined : (xs ys : List ℕ) → number_of (xs ++ ys) ≡ number_after (number_after 0 xs) ys
 number_joined [] ys = omega arith
 number_joined (x ∷ xs) ys =
-    let power : 10 ^ length (xs ++ ys) ≡ 10 ^ length xs * 10 ^ length ys = ap (λ n. 10 ^ n) (length-append xs ys) ∙ pow-add 10 (length xs) (length ys) in
+    let power : 10 ^ length (xs ++ ys) ≡ 10 ^ length xs * 10 ^ length ys =
+    ap (λ n. 10 ^ n) (length-append xs ys) ∙ pow-add 10 (length xs) (length ys) in
     omega (arith, number_joined xs ys, ap (λ n. (x - 48) * n) power)
 
 pub digits_together : (xs ys : List ℕ) → AreDigits xs → AreDigits ys → AreDigits (xs ++ ys)
@@ -58,7 +61,8 @@ pub DigitStep-at : (xs : List ℕ) (i n m : ℕ) → i < length xs → AreDigits
 DigitStep-at xs i n m l a e =
     let parts = drop_more xs i 0 l in
     let first = first_digit (get_or xs i 0) (drop (i + 1) xs) (rw parts at a) in
-    let same = ap (number_after n) parts ∙ number_after-cons n (get_or xs i 0) (drop (i + 1) xs) ∙ ap (λ x. number_after (n * 10 + x) (drop (i + 1) xs)) (sym e) in
+    let same = ap (number_after n) parts ∙ number_after-cons n (get_or xs i 0) (drop (i + 1) xs)
+    ∙ ap (λ x. number_after (n * 10 + x) (drop (i + 1) xs)) (sym e) in
     record { digits = first.2; same = same; least = omega (arith, same, number_after-ge (n * 10 + m) (drop (i + 1) xs)) }
 
 pub number_below : (ds : List ℕ) → AreDigits ds → number_of ds < 10 ^ length ds
@@ -80,7 +84,9 @@ pub others_are_something : (ds : List ℕ) → AreDigits ds → list_all (λ d. 
 others_are_something [] a e = cc
 others_are_something (d ∷ ds) a e =
     let first = first_digit d ds a in
-    ⊎_elim (λ (t : (eqb d 48 ≡ true) × (d ≡ 48)). omega (arith, others_are_something ds first.2 (rw t.0 at e))) (λ (f : (eqb d 48 ≡ false) × (d ≢ 48)). let above : 1 ≤ d - 48 = omega (arith, f.1) in omega (arith, mul-le-mul_right (10 ^ length ds) above, ten_pos (length ds))) (eqb_tells d 48)
+    ⊎_elim (λ (t : (eqb d 48 ≡ true) × (d ≡ 48)). omega (arith, others_are_something ds first.2 (rw t.0 at e)))
+    (λ (f : (eqb d 48 ≡ false) × (d ≢ 48)). let above : 1 ≤ d - 48 = omega (arith, f.1) in
+    omega (arith, mul-le-mul_right (10 ^ length ds) above, ten_pos (length ds))) (eqb_tells d 48)
 
 rounds_above : (minus : Bool) (ds : List ℕ) → 10 ^ length ds < 2 * number_of ds → rounds_away minus ds ≡ true
 unfolding rounds_away
@@ -97,10 +103,17 @@ unfolding rounds_away
 rounds_at_middle true ds h = le-ltb _ _ (omega arith)
 rounds_at_middle false ds h = le-leb _ _ (omega arith)
 
-pub rounds_by_other : (minus : Bool) (first : ℕ) (ds : List ℕ) → AreDigits (first ∷ ds) → first ≢ 53 → ltb 53 first ≡ rounds_away minus (first ∷ ds)
+pub rounds_by_other : (minus : Bool) (first : ℕ) (ds : List ℕ) → AreDigits (first ∷ ds) → first ≢ 53
+    → ltb 53 first ≡ rounds_away minus (first ∷ ds)
 rounds_by_other minus f ds a n =
     let first = first_digit f ds a in
-    ⊎_elim (λ (h : 53 < f). let more : 6 ≤ f - 48 = omega arith in lt-ltb 53 f h ∙ sym (rounds_above minus (f ∷ ds) (omega (arith, mul-le-mul_right (10 ^ length ds) more, ten_pos (length ds), pow-suc 10 (length ds))))) (λ (h : f ≤ 53). let less : f - 48 ≤ 4 = omega (arith, n) in le-ltb 53 f h ∙ sym (rounds_below minus (f ∷ ds) (omega (arith, mul-le-mul_right (10 ^ length ds) less, number_below ds first.2, pow-suc 10 (length ds))))) (cases_lt 53 f)
+    ⊎_elim (λ (h : 53 < f). let more : 6 ≤ f - 48 = omega arith in
+    lt-ltb 53 f h ∙ sym (rounds_above minus (f ∷ ds)
+    (omega (arith, mul-le-mul_right (10 ^ length ds) more, ten_pos (length ds), pow-suc 10 (length ds)))))
+    (λ (h : f ≤ 53). let less : f - 48 ≤ 4 = omega (arith, n) in
+    le-ltb 53 f h ∙ sym (rounds_below minus (f ∷ ds)
+    (omega (arith, mul-le-mul_right (10 ^ length ds) less, number_below ds first.2, pow-suc 10 (length ds)))))
+    (cases_lt 53 f)
 
 pub rounds_by_zeros : (minus : Bool) (ds : List ℕ) → list_all (λ d. d == 48) ds ≡ true → not minus ≡ rounds_away minus (53 ∷ ds)
 rounds_by_zeros minus ds z =
@@ -126,29 +139,40 @@ pub number_append : (xs ys : List ℕ) → number_of (xs ++ ys) ≡ number_of xs
 number_append xs ys =
     number_joined xs ys ∙ ap (λ n. number_after n ys) (omega arith)
 
-at_parts : (minus : Bool) (kept cut : List ℕ) (z : ℤ) → rounded (signed minus (number_of kept * 10 ^ length cut + number_of cut)) (10 ^ length cut) ≡ z → rounded_at minus kept cut ≡ z
+at_parts : (minus : Bool) (kept cut : List ℕ) (z : ℤ)
+    → rounded (signed minus (number_of kept * 10 ^ length cut + number_of cut)) (10 ^ length cut) ≡ z → rounded_at minus kept cut ≡ z
 unfolding rounded_at
 at_parts minus kept cut z e =
     ap (λ n. rounded (signed minus n) (10 ^ length cut)) (number_append kept cut) ∙ e
 
-pub rounded_at_up : (minus : Bool) (kept cut : List ℕ) → AreDigits cut → rounds_away minus cut ≡ true → signed minus (number_of kept + 1) ≡ rounded_at minus kept cut
+pub rounded_at_up : (minus : Bool) (kept cut : List ℕ) → AreDigits cut → rounds_away minus cut ≡ true
+    → signed minus (number_of kept + 1) ≡ rounded_at minus kept cut
 unfolding rounds_away
 rounded_at_up true kept cut a h =
     sym (at_parts true kept cut _ (rounded_away (number_of kept) (number_of cut) (10 ^ length cut) (number_below cut a) (ltb-true _ _ h)))
 rounded_at_up false kept cut a h =
     sym (at_parts false kept cut _ (rounded_up (number_of kept) (number_of cut) (10 ^ length cut) (number_below cut a) (leb-true _ _ h)))
 
-pub rounded_at_same : (minus : Bool) (kept cut : List ℕ) → AreDigits cut → rounds_away minus cut ≡ false → signed minus (number_of kept) ≡ rounded_at minus kept cut
+pub rounded_at_same : (minus : Bool) (kept cut : List ℕ) → AreDigits cut → rounds_away minus cut ≡ false
+    → signed minus (number_of kept) ≡ rounded_at minus kept cut
 unfolding rounds_away
 rounded_at_same true kept cut a h =
-    sym (at_parts true kept cut _ (rounded_toward (number_of kept) (number_of cut) (10 ^ length cut) (number_below cut a) (ltb-false _ _ h)))
+    sym (at_parts true kept cut _ (rounded_toward (number_of kept) (number_of cut) (10 ^ length cut) (number_below cut a)
+    (ltb-false _ _ h)))
 rounded_at_same false kept cut a h =
     sym (at_parts false kept cut _ (rounded_down (number_of kept) (number_of cut) (10 ^ length cut) (number_below cut a) (leb-false _ _ h)))
 
-pub rounded_at_far : (minus : Bool) (kept cut : List ℕ) → AreDigits cut → (number_of kept ≤ limit → ⊥) → IsNumber (rounded_at minus kept cut) → ⊥
+pub rounded_at_far : (minus : Bool) (kept cut : List ℕ) → AreDigits cut → (number_of kept ≤ limit → ⊥)
+    → IsNumber (rounded_at minus kept cut) → ⊥
 unfolding rounded_at
 rounded_at_far minus kept cut a far h =
     let size = size_of_rounded minus (number_of kept) (number_of cut) (10 ^ length cut) (number_below cut a) in
-    far (omega (arith, size, size_in_range _ h, ap (λ n. unsigned_abs (rounded (signed minus n) (10 ^ length cut))) (number_append kept cut)))
+    far (omega (
+      arith,
+      size,
+      size_in_range _ h,
+      ap (λ n. unsigned_abs (rounded (signed minus n) (10 ^ length cut)))
+          (number_append kept cut),
+    ))
 
 pub ruleset rounding_off = (rounded_at_up, rounded_at_same, rounded_at_far)

@@ -1,5 +1,6 @@
 -- The laws of rounding, of multiples and of roots.
-use Rattle.std.proofs.Common.{◌≡◌, ℕ, zero, suc, ◌+◌, ◌*◌, ◌/◌, ◌^◌, ◌<◌, ◌≤◌, ⊎_elim, le-leb, ℤ, pos, negsuc, neg_ℤ, ◌+ℤ◌, ◌*ℤ◌, ◌≤ℤ◌, arith, sym, refl, ap, ◌∙◌}
+use Rattle.std.proofs.Common.{◌≡◌, ℕ, zero, suc, ◌+◌, ◌*◌, ◌/◌, ◌^◌, ◌<◌, ◌≤◌, ⊎_elim, le-leb, ℤ, pos, negsuc, neg_ℤ, ◌+ℤ◌, ◌*ℤ◌, ◌≤ℤ◌}
+use Rattle.std.proofs.Common.{arith, sym, refl, ap, ◌∙◌}
 use Rattle.std.proofs.lemmas.Int.{ints}
 use Rattle.std.proofs.lemmas.Nat.{div-add-mod', mod_below, le-div, div_below}
 use Rattle.std.proofs.lemmas.Bool.{cases_lt, lt-leb}
@@ -7,7 +8,8 @@ use Rattle.std.proofs.Math.Nat.{pow-suc, suc-mul, zero-mul, div-zero, div-mul-le
 use lib.IntN.{neg_ℤ-neg_ℤ}
 use Rattle.fixed_num.proofs.RoundingLemmas.{rounded_up, rounded_down, rounded_toward, root_from_squares}
 use Rattle.fixed_num.specs.Number.{root_of, square_root, larger_root, floor_quotient, rounded, rounded_ratio, floored, ceiled}
-use Rattle.fixed_num.specs.Laws.{RoundedKeepsOrder, RoundedIsExact, MiddleGoesUp, FlooredIsMultiple, CeiledIsMultiple, OneRoot, RatioIsFraction, RootOfIsRoot}
+use Rattle.fixed_num.specs.Laws.{RoundedKeepsOrder, RoundedIsExact, MiddleGoesUp, FlooredIsMultiple, CeiledIsMultiple, OneRoot}
+use Rattle.fixed_num.specs.Laws.{RatioIsFraction, RootOfIsRoot}
 
 div_order : (a b q : ℕ) → a ≤ b → a / q ≤ b / q
 div_order a b zero h = omega (arith, div-zero a, div-zero b)
@@ -40,9 +42,20 @@ middle_goes_up (negsuc n) q h =
 pub floored_is_multiple : FlooredIsMultiple
 unfolding floored floor_quotient
 floored_is_multiple (pos n) (pos d) h =
-    record { times = pos (n / d); multiple = refl; not_above = omega (arith, ints, div-add-mod' n d); nearest = omega (arith, ints, div-add-mod' n d, mod_below n d (omega (arith, ints, h))) }
+    record {
+      times = pos (n / d);
+      multiple = refl;
+      not_above = omega (arith, ints, div-add-mod' n d);
+      nearest = omega (arith, ints, div-add-mod' n d, mod_below n d (omega (arith, ints, h)));
+    }
 floored_is_multiple (negsuc n) (pos d) h =
-    record { times = negsuc (n / d); multiple = refl; not_above = omega (arith, ints, div-add-mod' n d, suc-mul (n / d) d, mod_below n d (omega (arith, ints, h))); nearest = omega (arith, ints, div-add-mod' n d, suc-mul (n / d) d) }
+    record {
+      times = negsuc (n / d);
+      multiple = refl;
+      not_above = omega (arith, ints, div-add-mod' n d, suc-mul (n / d) d, mod_below n d (omega (arith, ints, h)));
+      nearest =
+          omega (arith, ints, div-add-mod' n d, suc-mul (n / d) d);
+    }
 floored_is_multiple m (negsuc d) h = absurd (omega (arith, ints, h))
 
 neg_times : (k s : ℤ) → neg_ℤ (k *ℤ s) ≡ neg_ℤ k *ℤ s
@@ -58,7 +71,12 @@ pub ceiled_is_multiple : CeiledIsMultiple
 unfolding ceiled
 ceiled_is_multiple m s h =
     let below = floored_is_multiple (neg_ℤ m) s h in
-    record { times = neg_ℤ below.times; multiple = ap neg_ℤ below.multiple ∙ neg_times below.times s; not_below = omega (arith, ints, below.not_above); nearest = omega (arith, ints, below.nearest) }
+    record {
+      times = neg_ℤ below.times;
+      multiple = ap neg_ℤ below.multiple ∙ neg_times below.times s;
+      not_below = omega (arith, ints, below.not_above);
+      nearest = omega (arith, ints, below.nearest);
+    }
 
 pub one_root : OneRoot
 one_root m t u x y =
@@ -75,13 +93,16 @@ record IsSquareRoot (n r : ℕ) : Type 0 where
 
 larger : (n r : ℕ) → r * r ≤ n → n < (r + 2) * (r + 2) → IsSquareRoot n (larger_root n r)
 larger n r h g =
-    ⊎_elim (λ (p : n < (r + 1) * (r + 1)). rw (lt-leb ((r + 1) * (r + 1)) n p) (record { within = h; above = p })) (λ (p : (r + 1) * (r + 1) ≤ n). rw (le-leb ((r + 1) * (r + 1)) n p) (record { within = p; above = omega (arith, g) })) (cases_lt n ((r + 1) * (r + 1)))
+    ⊎_elim (λ (p : n < (r + 1) * (r + 1)). rw (lt-leb ((r + 1) * (r + 1)) n p) (record { within = h; above = p }))
+    (λ (p : (r + 1) * (r + 1) ≤ n). rw (le-leb ((r + 1) * (r + 1)) n p) (record { within = p; above = omega (arith, g) }))
+    (cases_lt n ((r + 1) * (r + 1)))
 
 square_root_is : (k n : ℕ) → n < 4 ^ k → IsSquareRoot n (square_root k n)
 square_root_is zero n h = record { within = omega arith; above = omega arith }
 square_root_is (suc k) n h =
     let half = square_root_is k (n / 4) (div_below n 4 (4 ^ k) (omega arith) (omega (arith, pow-suc 4 k))) in
-    larger n (2 * square_root k (n / 4)) (omega (arith, half.within, div-add-mod' n 4)) (omega (arith, half.above, div-add-mod' n 4, mod_below n 4 (omega arith)))
+    larger n (2 * square_root k (n / 4)) (omega (arith, half.within, div-add-mod' n 4))
+    (omega (arith, half.above, div-add-mod' n 4, mod_below n 4 (omega arith)))
 
 pub root_of_is_root : RootOfIsRoot
 unfolding root_of

@@ -1,5 +1,6 @@
 pub mod RoundingLemmas
 pub mod RangeLemmas
+pub mod FoundLemmas
 pub mod ProductLemmas
 pub mod SpellingLemmas
 pub mod DigitLemmas

@@ -1,5 +1,6 @@
 -- How the rules of rounding follow from quotients and remainders of natural numbers.
-use Rattle.std.proofs.Common.{◌≡◌, ℕ, ◌+◌, ◌-◌, ◌*◌, ◌/◌, ◌<◌, ◌≤◌, zero, suc, ℤ, pos, negsuc, neg_ℤ, ◌+ℤ◌, ◌-ℤ◌, ◌<ℤ◌, ◌≤ℤ◌, ◌*ℤ◌, Bool, true, false, unsigned_abs, ⊎_elim, subst, Option, arith, refl, ap, ◌∙◌}
+use Rattle.std.proofs.Common.{◌≡◌, ℕ, ◌+◌, ◌-◌, ◌*◌, ◌/◌, ◌<◌, ◌≤◌, zero, suc, ℤ, pos, negsuc, neg_ℤ, ◌+ℤ◌, ◌-ℤ◌, ◌<ℤ◌, ◌≤ℤ◌, ◌*ℤ◌, Bool}
+use Rattle.std.proofs.Common.{true, false, unsigned_abs, ⊎_elim, subst, Option, arith, refl, ap, ◌∙◌}
 use Rattle.std.specs.Int.{int_rem_euclid}
 use Rattle.std.specs.Option.{SomeIff}
 use Rattle.std.proofs.lemmas.Int.{ints}
@@ -66,16 +67,19 @@ size_below (suc k) = refl
 -- rounding leads no nearer to zero than the quotient
 pub size_of_rounded : (below_zero : Bool) (w r d : ℕ) → r < d → w ≤ unsigned_abs (rounded (signed below_zero (w * d + r)) d)
 size_of_rounded false w r d h =
-    ⊎_elim (λ (p : 2 * r < d). omega (arith, ap unsigned_abs (rounded_down w r d h p))) (λ (p : d ≤ 2 * r). omega (arith, ap unsigned_abs (rounded_up w r d h p))) (cases_lt (2 * r) d)
+    ⊎_elim (λ (p : 2 * r < d). omega (arith, ap unsigned_abs (rounded_down w r d h p)))
+    (λ (p : d ≤ 2 * r). omega (arith, ap unsigned_abs (rounded_up w r d h p))) (cases_lt (2 * r) d)
 size_of_rounded true w r d h =
-    ⊎_elim (λ (p : d < 2 * r). omega (arith, ap unsigned_abs (rounded_away w r d h p), size_below (w + 1))) (λ (p : 2 * r ≤ d). omega (arith, ap unsigned_abs (rounded_toward w r d h p), size_below w)) (cases_lt d (2 * r))
+    ⊎_elim (λ (p : d < 2 * r). omega (arith, ap unsigned_abs (rounded_away w r d h p), size_below (w + 1)))
+    (λ (p : 2 * r ≤ d). omega (arith, ap unsigned_abs (rounded_toward w r d h p), size_below w)) (cases_lt d (2 * r))
 
 pub ruleset nearest = (rounded_up, rounded_down, rounded_away, rounded_toward)
 
 greatest_root : (n r : ℕ) (u : ℤ) → n < (r + 1) * (r + 1) → (u *ℤ u) ≤ℤ pos n → u ≤ℤ pos r
 greatest_root n r (negsuc a) high h = omega (arith, ints)
 greatest_root n r (pos a) high h =
-    ⊎_elim (λ (p : r < a). absurd (omega (arith, ints, h, mul-le (r + 1) (r + 1) a a (omega arith) (omega arith)))) (λ (p : a ≤ r). omega (arith, ints)) (cases_lt r a)
+    ⊎_elim (λ (p : r < a). absurd (omega (arith, ints, h, mul-le (r + 1) (r + 1) a a (omega arith) (omega arith))))
+    (λ (p : a ≤ r). omega (arith, ints)) (cases_lt r a)
 
 -- a square root of whole numbers is one of numbers
 pub root_from_squares : (m : ℤ) (n r : ℕ) → m *ℤ pos million ≡ pos n → r * r ≤ n → n < (r + 1) * (r + 1) → IsRoot m (pos r)

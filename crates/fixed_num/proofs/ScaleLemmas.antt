@@ -1,5 +1,6 @@
 -- Numbers whose point moves.
-use Rattle.std.proofs.Common.{◌≡◌, ◌≢◌, ℕ, zero, suc, ◌+◌, ◌+ℤ◌, ◌*ℤ◌, ◌-◌, ◌*◌, ◌^◌, ◌<◌, ◌≤◌, List, [], ◌++◌, length, ℤ, pos, negsuc, neg_ℤ, unsigned_abs, Bool, true, false, append_assoc, subst, mul-le-mul_left, arith, sym, refl, ap, ◌∙◌}
+use Rattle.std.proofs.Common.{◌≡◌, ◌≢◌, ℕ, zero, suc, ◌+◌, ◌+ℤ◌, ◌*ℤ◌, ◌-◌, ◌*◌, ◌^◌, ◌<◌, ◌≤◌, List, [], ◌++◌, length, ℤ, pos, negsuc}
+use Rattle.std.proofs.Common.{neg_ℤ, unsigned_abs, Bool, true, false, append_assoc, subst, mul-le-mul_left, arith, sym, refl, ap, ◌∙◌}
 use Rattle.std.proofs.Math.Nat.{zero-mul, pow-suc, pow-le-pow_right, mul-le-mul_right}
 use Rattle.std.proofs.lemmas.Int.{ints}
 use Rattle.std.proofs.lemmas.List.{append-nil, length-append}
@@ -41,17 +42,23 @@ rounded_to_nothing minus n len places h l =
     nothing_at minus n (10 ^ places) small
 
 -- digits that are cut before the point, and after it
-pub cut_in_whole : (minus : Bool) (w f kept cut : List ℕ) (places : ℕ) → w ≡ kept ++ cut → length cut + length f ≡ places → rounded_at minus (kept ++ []) (cut ++ f) ≡ rounded (signed minus (number_of (w ++ f))) (10 ^ places)
+pub cut_in_whole : (minus : Bool) (w f kept cut : List ℕ) (places : ℕ) → w ≡ kept ++ cut → length cut + length f ≡ places
+    → rounded_at minus (kept ++ []) (cut ++ f) ≡ rounded (signed minus (number_of (w ++ f))) (10 ^ places)
 unfolding rounded_at
 cut_in_whole minus w f kept cut places e l =
-    let list : kept ++ [] ++ (cut ++ f) ≡ w ++ f = ap (λ t. t ++ (cut ++ f)) (append-nil kept) ∙ sym (append_assoc kept cut f) ∙ ap (λ t. t ++ f) (sym e) in
-    ap (λ t. rounded (signed minus (number_of t)) (10 ^ length (cut ++ f))) list ∙ ap (λ n. rounded (signed minus (number_of (w ++ f))) (10 ^ n)) (length-append cut f ∙ l)
+    let list : kept ++ [] ++ (cut ++ f) ≡ w ++ f = ap (λ t. t ++ (cut ++ f)) (append-nil kept) ∙ sym (append_assoc kept cut f)
+    ∙ ap (λ t. t ++ f) (sym e) in
+    ap (λ t. rounded (signed minus (number_of t)) (10 ^ length (cut ++ f))) list
+    ∙ ap (λ n. rounded (signed minus (number_of (w ++ f))) (10 ^ n)) (length-append cut f ∙ l)
 
-pub cut_in_fraction : (minus : Bool) (w f kept cut : List ℕ) (places : ℕ) → f ≡ kept ++ cut → length cut ≡ places → rounded_at minus (w ++ kept) (cut ++ []) ≡ rounded (signed minus (number_of (w ++ f))) (10 ^ places)
+pub cut_in_fraction : (minus : Bool) (w f kept cut : List ℕ) (places : ℕ) → f ≡ kept ++ cut → length cut ≡ places
+    → rounded_at minus (w ++ kept) (cut ++ []) ≡ rounded (signed minus (number_of (w ++ f))) (10 ^ places)
 unfolding rounded_at
 cut_in_fraction minus w f kept cut places e l =
-    let list : w ++ kept ++ (cut ++ []) ≡ w ++ f = ap (λ t. w ++ kept ++ t) (append-nil cut) ∙ append_assoc w kept cut ∙ ap (λ t. w ++ t) (sym e) in
-    ap (λ t. rounded (signed minus (number_of t)) (10 ^ length (cut ++ []))) list ∙ ap (λ n. rounded (signed minus (number_of (w ++ f))) (10 ^ n)) (ap length (append-nil cut) ∙ l)
+    let list : w ++ kept ++ (cut ++ []) ≡ w ++ f = ap (λ t. w ++ kept ++ t) (append-nil cut) ∙ append_assoc w kept cut
+    ∙ ap (λ t. w ++ t) (sym e) in
+    ap (λ t. rounded (signed minus (number_of t)) (10 ^ length (cut ++ []))) list
+    ∙ ap (λ n. rounded (signed minus (number_of (w ++ f))) (10 ^ n)) (ap length (append-nil cut) ∙ l)
 
 -- ---- the value, by which way the point moves
 
@@ -70,7 +77,8 @@ scaled_to_left m (pos n) places h e = absurd (omega (arith, ints, e))
 scaled_to_left m (negsuc n) places h e =
     let same : places ≡ suc n = omega (arith, ints, e) in ap (λ j. rounded m (10 ^ j)) same
 
-pub scaled_to_right : (minus : Bool) (n : ℕ) (k : ℤ) (places : ℕ) → k ≡ pos places → signed minus (n * 10 ^ places) ≡ scaled (signed minus n) k
+pub scaled_to_right : (minus : Bool) (n : ℕ) (k : ℤ) (places : ℕ) → k ≡ pos places
+    → signed minus (n * 10 ^ places) ≡ scaled (signed minus n) k
 unfolding scaled
 scaled_to_right minus n (pos j) places e =
     let same : places ≡ j = omega (arith, ints, e) in
@@ -78,22 +86,28 @@ scaled_to_right minus n (pos j) places e =
 scaled_to_right minus n (negsuc j) places e = absurd (omega (arith, ints, e))
 
 -- an exponent past every number leaves nothing below zero, and above it too much of anything
-pub value_far_left : (p : Parts) (n : ℕ) → AreDigits (p.whole ++ p.fraction) → p.exponent ≡ neg_ℤ (pos n) → length p.whole + 7 ≤ n → pos 0 ≡ value_of p
+pub value_far_left : (p : Parts) (n : ℕ) → AreDigits (p.whole ++ p.fraction) → p.exponent ≡ neg_ℤ (pos n) → length p.whole + 7 ≤ n
+    → pos 0 ≡ value_of p
 unfolding value_of
 value_far_left p n a e far =
     let places = n + length p.fraction - 6 in
-    rounded_to_nothing p.minus _ (length (p.whole ++ p.fraction)) places (number_below (p.whole ++ p.fraction) a) (omega (arith, length-append p.whole p.fraction)) ∙ scaled_to_left _ _ places (omega arith) (omega (arith, ints, e))
+    rounded_to_nothing p.minus _ (length (p.whole ++ p.fraction)) places (number_below (p.whole ++ p.fraction) a)
+    (omega (arith, length-append p.whole p.fraction)) ∙ scaled_to_left _ _ places (omega arith) (omega (arith, ints, e))
 
-pub value_far_zeros : (p : Parts) (n : ℕ) → number_of (p.whole ++ p.fraction) ≡ 0 → p.exponent ≡ pos n → length p.fraction ≤ n → pos 0 ≡ value_of p
+pub value_far_zeros : (p : Parts) (n : ℕ) → number_of (p.whole ++ p.fraction) ≡ 0 → p.exponent ≡ pos n → length p.fraction ≤ n
+    → pos 0 ≡ value_of p
 unfolding value_of
 value_far_zeros p n z e far =
     let places = n + 6 - length p.fraction in
-    sym (signed_nothing p.minus (number_of (p.whole ++ p.fraction) * 10 ^ places) (ap (λ x. x * 10 ^ places) z ∙ zero-mul (10 ^ places))) ∙ scaled_to_right p.minus _ _ places (omega (arith, ints, e))
+    sym (signed_nothing p.minus (number_of (p.whole ++ p.fraction) * 10 ^ places) (ap (λ x. x * 10 ^ places) z ∙ zero-mul (10 ^ places)))
+    ∙ scaled_to_right p.minus _ _ places (omega (arith, ints, e))
 
-pub value_far_right : (p : Parts) (n : ℕ) → 0 < number_of (p.whole ++ p.fraction) → p.exponent ≡ pos n → length p.fraction + 16 ≤ n → IsNumber (value_of p) → ⊥
+pub value_far_right : (p : Parts) (n : ℕ) → 0 < number_of (p.whole ++ p.fraction) → p.exponent ≡ pos n → length p.fraction + 16 ≤ n
+    → IsNumber (value_of p) → ⊥
 unfolding value_of
 value_far_right p n some e far h =
     let places = n + 6 - length p.fraction in
-    too_many_places p.minus (number_of (p.whole ++ p.fraction)) places (λ z. omega (arith, z, some)) (omega arith) (subst IsNumber (sym (scaled_to_right p.minus _ _ places (omega (arith, ints, e)))) h)
+    too_many_places p.minus (number_of (p.whole ++ p.fraction)) places (λ z. omega (arith, z, some)) (omega arith)
+    (subst IsNumber (sym (scaled_to_right p.minus _ _ places (omega (arith, ints, e)))) h)
 
 pub ruleset scaling = (power_in_range, too_many_digits, too_many_places)

@@ -1,5 +1,7 @@
 -- How the digits of a fraction come one by one.
-use Rattle.std.proofs.Common.{◌≡◌, ◌≢◌, ℕ, zero, suc, ◌+◌, ◌-◌, ◌*◌, ◌/◌, ◌%◌, ◌^◌, ◌<◌, List, [], ◌∷◌, ◌++◌, take, length, set, eqb, cond, true, false, ℤ, pos, negsuc, ◌<ℤ◌, ◌≤ℤ◌, unsigned_abs, ⊎_elim, ne_eqb, append_assoc, arith, sym, refl, ap, ◌∙◌}
+use Rattle.std.proofs.Common.{◌≡◌, ◌≢◌, ℕ, zero, suc, ◌+◌, ◌-◌, ◌*◌, ◌/◌, ◌%◌, ◌^◌, ◌<◌, List, [], ◌∷◌, ◌++◌, take, length, set, eqb, cond}
+use Rattle.std.proofs.Common.{true, false, ℤ, pos, negsuc, ◌<ℤ◌, ◌≤ℤ◌, unsigned_abs, ⊎_elim, ne_eqb, append_assoc, arith, sym, refl, ap}
+use Rattle.std.proofs.Common.{◌∙◌}
 use Rattle.std.proofs.Math.Nat.{pow-suc, mul-add-div_right, mul-add-mod_self_right, mod-eq_of_lt, zero-div}
 use Rattle.std.proofs.lemmas.Nat.{div-add-mod', mod_below, div_below}
 use Rattle.std.proofs.lemmas.Int.{ints}
@@ -16,12 +18,16 @@ last_digits_low : (k q r : ℕ) → last_digits k (q * 10 ^ k + r) ≡ last_digi
 last_digits_low zero q r = refl
 last_digits_low (suc k) q r =
     let split : q * 10 ^ suc k + r ≡ q * 10 * 10 ^ k + r = omega (arith, ap (λ x. q * x) (pow-suc 10 k)) in
-    let digit : (q * 10 ^ suc k + r) / 10 ^ k % 10 ≡ r / 10 ^ k % 10 = ap (λ x. x / 10 ^ k % 10) split ∙ ap (λ x. x % 10) (mul-add-div_right (ten_pos k) (q * 10) r) ∙ mul-add-mod_self_right q 10 (r / 10 ^ k) in
-    ap (λ x. (48 + x) ∷ last_digits k (q * 10 ^ suc k + r)) digit ∙ ap (λ x. (48 + r / 10 ^ k % 10) ∷ x) (ap (last_digits k) split ∙ last_digits_low k (q * 10) r)
+    let digit : (q * 10 ^ suc k + r) / 10 ^ k % 10 ≡ r / 10 ^ k % 10 =
+    ap (λ x. x / 10 ^ k % 10) split ∙ ap (λ x. x % 10) (mul-add-div_right (ten_pos k) (q * 10) r)
+    ∙ mul-add-mod_self_right q 10 (r / 10 ^ k) in
+    ap (λ x. (48 + x) ∷ last_digits k (q * 10 ^ suc k + r)) digit
+    ∙ ap (λ x. (48 + r / 10 ^ k % 10) ∷ x) (ap (last_digits k) split ∙ last_digits_low k (q * 10) r)
 
 before_digits_nil : (d : ℕ) (ds : List ℕ) → before_digits d ds ≡ [] → (d ≡ 48) × (ds ≡ [])
 before_digits_nil d [] e =
-    ⊎_elim (λ (t : (eqb d 48 ≡ true) × (d ≡ 48)). (t.1, refl)) (λ (f : (eqb d 48 ≡ false) × (d ≢ 48)). let bad = rw f.0 at e in cc) (eqb_tells d 48)
+    ⊎_elim (λ (t : (eqb d 48 ≡ true) × (d ≡ 48)). (t.1, refl)) (λ (f : (eqb d 48 ≡ false) × (d ≢ 48)). let bad = rw f.0 at e in
+    cc) (eqb_tells d 48)
 before_digits_nil d (x ∷ xs) e = cc
 
 before_digits_keep : (d : ℕ) (ds : List ℕ) → (ds ≡ [] → d ≢ 48) → before_digits d ds ≡ d ∷ ds
@@ -41,8 +47,14 @@ pub first_place : (k n : ℕ) → 0 < n → n < 10 ^ suc k → fraction_digits (
 unfolding fraction_digits
 first_place k n h l =
     let digit : n / 10 ^ k % 10 ≡ n / 10 ^ k = mod-eq_of_lt (first_below_ten k n l) in
-    let low : last_digits k n ≡ last_digits k (n % 10 ^ k) = ap (last_digits k) (sym (div-add-mod' n (10 ^ k))) ∙ last_digits_low k (n / 10 ^ k) (n % 10 ^ k) in
-    before_digits_keep (48 + n / 10 ^ k % 10) (without_trailing_zeros (last_digits k n)) (λ none is_zero. let rest = nothing_left k (n % 10 ^ k) (mod_below n (10 ^ k) (ten_pos k)) (ap without_trailing_zeros (sym low) ∙ none) in let first : n / 10 ^ k ≡ 0 = omega (arith, is_zero, digit) in omega (arith, div-add-mod' n (10 ^ k), ap (λ x. x * 10 ^ k) first)) ∙ ap (λ x. (48 + x) ∷ without_trailing_zeros (last_digits k n)) digit ∙ ap (λ x. (48 + n / 10 ^ k) ∷ without_trailing_zeros x) low
+    let low : last_digits k n ≡ last_digits k (n % 10 ^ k) =
+    ap (last_digits k) (sym (div-add-mod' n (10 ^ k))) ∙ last_digits_low k (n / 10 ^ k) (n % 10 ^ k) in
+    before_digits_keep (48 + n / 10 ^ k % 10) (without_trailing_zeros (last_digits k n))
+    (λ none is_zero. let rest = nothing_left k (n % 10 ^ k) (mod_below n (10 ^ k) (ten_pos k)) (ap without_trailing_zeros (sym low)
+    ∙ none) in let first : n / 10 ^ k ≡ 0 = omega (arith, is_zero, digit) in
+    omega (arith, div-add-mod' n (10 ^ k), ap (λ x. x * 10 ^ k) first))
+    ∙ ap (λ x. (48 + x) ∷ without_trailing_zeros (last_digits k n)) digit
+    ∙ ap (λ x. (48 + n / 10 ^ k) ∷ without_trailing_zeros x) low
 
 -- the first of so many places, which are not all zeros, and those that are left
 pub record FirstPlace (places n place : ℕ) : Type 0 where
@@ -55,7 +67,13 @@ pub record FirstPlace (places n place : ℕ) : Type 0 where
 FirstPlace-from_suc : (k n : ℕ) → 0 < n → n < 10 ^ suc k → FirstPlace (suc k) n (10 ^ k)
 FirstPlace-from_suc k n h l =
     let less : suc k - 1 ≡ k = omega arith in
-    record { some = omega arith; above_zero = ten_pos k; digit = first_below_ten k n l; low = rw less (mod_below n (10 ^ k) (ten_pos k)); split = rw less (first_place k n h l) }
+    record {
+      some = omega arith;
+      above_zero = ten_pos k;
+      digit = first_below_ten k n l;
+      low = rw less (mod_below n (10 ^ k) (ten_pos k));
+      split = rw less (first_place k n h l);
+    }
 
 pub FirstPlace-at : (places n place : ℕ) → 0 < n → n < 10 ^ places → place ≡ 10 ^ (places - 1) → FirstPlace places n place
 FirstPlace-at zero n place h l e = absurd (omega arith)
@@ -63,7 +81,8 @@ FirstPlace-at (suc k) n place h l e =
     let less : suc k - 1 ≡ k = omega arith in rw (e, less) (FirstPlace-from_suc k n h l)
 
 -- one more byte of a text that is written
-pub one_more : (buf : List ℕ) (end d : ℕ) (ds rest : List ℕ) → end < length buf → take end buf ++ ds ≡ rest → (tail : List ℕ) → ds ≡ d ∷ tail → take (end + 1) (set buf end d) ++ tail ≡ rest
+pub one_more : (buf : List ℕ) (end d : ℕ) (ds rest : List ℕ) → end < length buf → take end buf ++ ds ≡ rest → (tail : List ℕ)
+    → ds ≡ d ∷ tail → take (end + 1) (set buf end d) ++ tail ≡ rest
 one_more buf end d ds rest h e tail f =
     ap (λ x. x ++ tail) (take_more_set buf end d h) ∙ append_assoc (take end buf) (d ∷ []) tail ∙ ap (λ x. take end buf ++ x) (sym f) ∙ e
 

@@ -1,9 +1,11 @@
 -- Steps that may fail, taken apart.
-use Rattle.std.proofs.Common.{◌≡◌, ℕ, ◌<◌, Bool, true, false, cond, List, [], ◌∷◌, ◌++◌, drop, Result, Ok, Err, refl, ap, subst, arith, inl, inr, ◌⊎◌}
-use Rattle.fixed_num.specs.Front.{◌>>=◌, Read, first}
+use Rattle.std.proofs.Common.{◌≡◌, ℕ, ◌<◌, Bool, true, false, cond, List, [], ◌∷◌, ◌++◌, drop, Result, Ok, Err, refl, ap, subst, arith, inl}
+use Rattle.std.proofs.Common.{inr, ◌⊎◌}
+use Rattle.fixed_num.specs.Front.{Read, first}
+use Rattle.fixed_num.specs.Steps.{◌>>=◌}
 
 -- the value of a step that did not fail
-pub bind_ok : {A B : Type 0} (r : Result A ℕ) (f : A → Result B ℕ) (y : B) → (r >>= f) ≡ Ok y → (x : A) × (r ≡ Ok x) × (f x ≡ Ok y)
+pub bind_ok : {A B E : Type 0} (r : Result A E) (f : A → Result B E) (y : B) → (r >>= f) ≡ Ok y → (x : A) × (r ≡ Ok x) × (f x ≡ Ok y)
 bind_ok (Ok x) f y e = (x, refl, e)
 bind_ok (Err d) f y e = absurd cc
 
@@ -13,7 +15,7 @@ chosen true x y z e = inl (refl, e)
 chosen false x y z e = inr (refl, e)
 
 -- a test that had to hold, and one that had not to
-pub guarded : {A : Type 0} (b : Bool) (k : ℕ) (x : Result A ℕ) (z : A) → cond b x (Err k) ≡ Ok z → (b ≡ true) × (x ≡ Ok z)
+pub guarded : {A E : Type 0} (b : Bool) (k : E) (x : Result A E) (z : A) → cond b x (Err k) ≡ Ok z → (b ≡ true) × (x ≡ Ok z)
 guarded true k x z e = (refl, e)
 guarded false k x z e = absurd cc
 

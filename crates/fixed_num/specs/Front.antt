@@ -1,18 +1,15 @@
 -- A number at the front of bytes, found from left to right: each part takes as many bytes as go on with it.
-use Rattle.std.specs.Prelude.{ℕ, ◌==◌, ◌||◌, ◌&&◌, not, List, [], ◌∷◌, length, drop, slice_index, ℤ, pos, negsuc, Bool, nat_le, nat_lt, Option, Some, None, Result, Ok, Err, if◌then◌else◌, ◌≡◌, codes, refl}
+use Rattle.std.specs.Prelude.{ℕ, ◌==◌, ◌||◌, ◌&&◌, not, List, [], ◌∷◌, length, drop, slice_index, ℤ, pos, negsuc, Bool, Option, Some, None}
+use Rattle.std.specs.Prelude.{Result, Ok, Err, if◌then◌else◌, ◌≡◌, codes, refl}
 use Rattle.std.specs.Char.{is_ascii_digit}
-use Rattle.fixed_num.specs.Number.{limit, signed, rounded, floor_quotient}
+use Rattle.fixed_num.specs.Number.{signed, rounded, floor_quotient}
+use Rattle.fixed_num.specs.Ranges.{in_range}
+use Rattle.fixed_num.specs.Steps.{◌>>=◌}
 use Rattle.fixed_num.specs.JsonNumber.{Parts, number_of, scaled, value_of}
 
 -- what is found at the front, and the bytes after it; or how many bytes are left where nothing goes on
 abbrev pub Read : Type 0 → Type 0
 Read A = Result (A × List ℕ) ℕ
-
--- one part after another
-infixl 10 ◌>>=◌
-abbrev pub ◌>>=◌ : {A B : Type 0} → Result A ℕ → (A → Result B ℕ) → Result B ℕ
-(Ok x) >>= f = f x
-(Err left) >>= f = Err left
 
 -- nothing goes on at the front of the bytes
 abbrev pub stop : {A : Type 0} → List ℕ → Result A ℕ
@@ -74,18 +71,9 @@ parts_at bytes = do
   exponent ← exponent_at fraction.1
   Ok (record { minus = first bytes == 45; whole = whole.0; fraction = fraction.0; exponent = exponent.0 }, exponent.1)
 
--- the millionths are in range
-abbrev pub in_range : ℤ → Bool
-in_range (pos n) = nat_le n limit
-in_range (negsuc n) = nat_lt n limit
-
--- so many millionths as a number: None where they are out of range
-abbrev pub as_number : ℤ → Option ℤ
-as_number m = if in_range m then Some m else None
-
--- a JSON number by its value
+-- a JSON number by its value, None where that is out of range
 unfoldable pub decimal_at : List ℕ → Read (Option ℤ)
-decimal_at bytes = parts_at bytes >>= λ x. Ok (as_number (value_of x.0), x.1)
+decimal_at bytes = parts_at bytes >>= λ x. Ok (in_range (value_of x.0), x.1)
 
 -- what may stand after a number: no digit, no point and no mark of an exponent
 abbrev pub ends_number : ℕ → Bool

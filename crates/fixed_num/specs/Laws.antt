@@ -3,7 +3,8 @@ use Rattle.std.specs.Prelude.{ℕ, ◌*◌, ◌<◌, List, ◌++◌, Option, Ok,
 use Rattle.fixed_num.specs.Number.{IsNumber, IsRoot, root_of, rounded, rounded_ratio, floored, ceiled}
 use Rattle.fixed_num.specs.Decimal.{spelling}
 use Rattle.fixed_num.specs.JsonNumber.{Reads}
-use Rattle.fixed_num.specs.Front.{first, ends_number, as_number, decimal_at}
+use Rattle.fixed_num.specs.Ranges.{in_range}
+use Rattle.fixed_num.specs.Front.{first, ends_number, decimal_at}
 
 -- a greater fraction rounds to no lesser number
 abbrev pub RoundedKeepsOrder : Type 0
@@ -63,7 +64,7 @@ pub record IsAtFront (bytes rest : List ℕ) (found : Option ℤ) : Type 0 where
   pub value : ℤ
   pub joined : bytes ≡ word ++ rest
   pub spelled : Reads word value
-  pub number : found ≡ as_number value
+  pub number : found ≡ in_range value
 
 abbrev pub FrontIsSpelled : Type 0
 FrontIsSpelled = (bytes rest : List ℕ) (found : Option ℤ) → decimal_at bytes ≡ Ok (found, rest) → IsAtFront bytes rest found
@@ -71,4 +72,4 @@ FrontIsSpelled = (bytes rest : List ℕ) (found : Option ℤ) → decimal_at byt
 -- a number before a byte that can't go on with it is found whole
 abbrev pub SpelledIsFront : Type 0
 SpelledIsFront = (word rest : List ℕ) (m : ℤ) → Reads word m → IsTrue (ends_number (first rest))
-    → decimal_at (word ++ rest) ≡ Ok (as_number m, rest)
+    → decimal_at (word ++ rest) ≡ Ok (in_range m, rest)

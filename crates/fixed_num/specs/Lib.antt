@@ -1,5 +1,6 @@
 pub mod Number
 pub mod Ranges
+pub mod Steps
 pub mod Bands
 pub mod Decimal
 pub mod JsonNumber

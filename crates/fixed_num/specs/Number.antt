@@ -1,5 +1,6 @@
 -- Numbers are whole counts of millionths; every operation is rounded once.
-use Rattle.std.specs.Prelude.{ℕ, ◌+◌, ◌*◌, ◌/◌, ◌^◌, ℤ, pos, negsuc, neg_ℤ, ◌+ℤ◌, ◌*ℤ◌, ◌≤ℤ◌, ◌≡◌, Bool, true, false, zero, suc, nat_le, if◌then◌else◌, unsigned_abs, refl}
+use Rattle.std.specs.Prelude.{ℕ, ◌+◌, ◌*◌, ◌/◌, ◌^◌, ℤ, pos, negsuc, neg_ℤ, ◌+ℤ◌, ◌*ℤ◌, ◌≤ℤ◌, ◌≡◌, Bool, true, false, zero, suc, nat_le}
+use Rattle.std.specs.Prelude.{if◌then◌else◌, unsigned_abs, refl}
 
 -- the greatest count of millionths
 abbrev pub limit : ℕ

@@ -1,5 +1,5 @@
 -- Results that may be out of range, or lacking.
-use Rattle.std.specs.Prelude.{◌≡◌, refl, ◌+◌, ℤ, pos, neg_ℤ, int_lt, Option, Some, None, List, [], ◌∷◌, if◌then◌else◌}
+use Rattle.std.specs.Prelude.{◌≡◌, refl, ◌+◌, ℤ, pos, neg_ℤ, int_lt, int_le, ◌&&◌, Bool, true, false, Option, Some, None, List, [], ◌∷◌, if◌then◌else◌}
 use Rattle.fixed_num.specs.Number.{limit}
 
 -- None stands for a result that is lacking, and goes on to all that needs it
@@ -7,6 +7,10 @@ infixl 10 ◌>>=◌
 abbrev pub ◌>>=◌ : {A B : Type 0} → Option A → (A → Option B) → Option B
 None >>= f = None
 (Some x) >>= f = f x
+
+-- a number lies between two, both included
+abbrev pub is_within : ℤ → ℤ → ℤ → Bool
+is_within low high z = int_le low z && int_le z high
 
 -- the count of millionths, if it is in range
 abbrev pub in_range : ℤ → Option ℤ
@@ -21,6 +25,12 @@ all_found (found ∷ others) = do
   Some (x ∷ xs)
 
 -- The rules at work.
+
+the_bounds_are_within : (is_within (neg_ℤ (pos 1)) (pos 2) (neg_ℤ (pos 1)) && is_within (neg_ℤ (pos 1)) (pos 2) (pos 2)) ≡ true
+the_bounds_are_within = refl
+
+past_a_bound_is_not_within : is_within (neg_ℤ (pos 1)) (pos 2) (pos 3) ≡ false
+past_a_bound_is_not_within = refl
 
 the_greatest_number : in_range (pos limit) ≡ Some (pos limit)
 the_greatest_number = refl

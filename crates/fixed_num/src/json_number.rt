@@ -4,7 +4,8 @@ ghost use Rattle.std.specs.List.{prefix_len};
 ghost use Rattle.std.specs.Char.{is_ascii_digit};
 ghost use Rattle.std.specs.Result.{result_map_both};
 ghost use Rattle.fixed_num.specs.JsonNumber.{AreDigits};
-ghost use Rattle.fixed_num.specs.Front.{first, leading_digits, after_digits, digits_at, whole_at, fraction_at, after_sign, signed_at, exponent_at, after_minus, parts_at};
+ghost use Rattle.fixed_num.specs.Front.{first, leading_digits, after_digits, digits_at, whole_at, fraction_at, after_sign, signed_at};
+ghost use Rattle.fixed_num.specs.Front.{exponent_at, after_minus, parts_at};
 ghost use Rattle.fixed_num.specs.inner.View.{exponent, parts};
 
 /// The digits of an exponent, with a minus or without; none where there is no exponent.

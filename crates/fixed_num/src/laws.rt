@@ -1,5 +1,6 @@
 // Laws that callers build on.
-ghost use Rattle.fixed_num.specs.Laws.{RoundedKeepsOrder, RoundedIsExact, MiddleGoesUp, FlooredIsMultiple, CeiledIsMultiple, OneRoot, RatioIsFraction, RootOfIsRoot, WrittenIsRead, OneValue, FrontIsSpelled, SpelledIsFront};
+ghost use Rattle.fixed_num.specs.Laws.{RoundedKeepsOrder, RoundedIsExact, MiddleGoesUp, FlooredIsMultiple, CeiledIsMultiple, OneRoot};
+ghost use Rattle.fixed_num.specs.Laws.{RatioIsFraction, RootOfIsRoot, WrittenIsRead, OneValue, FrontIsSpelled, SpelledIsFront};
 
 /// Rounding keeps the order, leaves whole numbers as they are, and takes the middle upward;
 /// multiples are less than a step away; a number has one root.

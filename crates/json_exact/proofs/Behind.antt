@@ -1,5 +1,6 @@
 -- Numbers, lists, objects and all values look no further than the first byte that is left.
-use Rattle.std.proofs.Common.{◌≡◌, ℕ, zero, suc, ◌<◌, ◌≤◌, Bool, true, false, cond, eqb, List, [], ◌∷◌, ◌++◌, length, drop, Option, Some, None, Result, Ok, Err, ℤ, pos, refl, sym, ap, subst, ◌∙◌, append_assoc, arith, inl, inr, ◌||◌}
+use Rattle.std.proofs.Common.{◌≡◌, ℕ, zero, suc, ◌<◌, ◌≤◌, Bool, true, false, cond, eqb, List, [], ◌∷◌, ◌++◌, length, drop, Option, Some}
+use Rattle.std.proofs.Common.{None, Result, Ok, Err, ℤ, pos, refl, sym, ap, subst, ◌∙◌, append_assoc, arith, inl, inr, ◌||◌}
 use Rattle.std.specs.Prelude.{codes}
 use Rattle.std.specs.Char.{is_ascii_digit}
 use Rattle.std.specs.List.{AllByRecursion}
@@ -12,8 +13,11 @@ use Rattle.json_exact.specs.declared.json.Json.{Json}
 use Rattle.json_exact.specs.declared.json.Json.TheVariants as json
 use Rattle.json_exact.specs.declared.json.Member.{Member}
 use Rattle.json_exact.specs.Reading.{is_white}
-use Rattle.fixed_num.specs.Front.{◌>>=◌, Read, first, stop, leading_digits, after_digits, digits_at, whole_at, fraction_at, is_sign, is_mark, signed_at, exponent_at, after_minus, parts_at}
-use Rattle.json_exact.specs.inner.Reader.{skip_white, padded_at, word_at, quoted_at, number_tree, number_at, run_at, sequence_at, names_of, member_at, list_at, object_at, nested_at, flat_at, value_from, value_at, text_at}
+use Rattle.fixed_num.specs.Steps.{◌>>=◌}
+use Rattle.fixed_num.specs.Front.{Read, first, stop, leading_digits, after_digits, digits_at, whole_at, fraction_at, is_sign, is_mark}
+use Rattle.fixed_num.specs.Front.{signed_at, exponent_at, after_minus, parts_at}
+use Rattle.json_exact.specs.inner.Reader.{skip_white, padded_at, word_at, quoted_at, number_tree, number_at, run_at, sequence_at, names_of}
+use Rattle.json_exact.specs.inner.Reader.{member_at, list_at, object_at, nested_at, flat_at, value_from, value_at, text_at}
 use Rattle.fixed_num.proofs.Steps.{done, begins, chosen}
 use Rattle.json_exact.proofs.Parts.{skip_white-append, skip_white-stop}
 use Rattle.fixed_num.proofs.Numerals.{digits_list, digits_sound}
@@ -53,9 +57,17 @@ digits bytes = elim (cases_Bool (is_ascii_digit (first bytes))) [
     again = λ other same.
         let ds = leading_digits bytes in
         let k = digits_list ds other (digits_sound bytes).1 (ap is_ascii_digit same ∙ digits_stop bytes) in
-        cond-true (is_ascii_digit (first (ds ++ other))) (Ok (leading_digits (ds ++ other), after_digits (ds ++ other))) (stop (ds ++ other)) (digits_first bytes other e) ∙ two_same _ _ _ _ k.0 k.1;
+        cond-true (is_ascii_digit (first (ds ++ other))) (Ok (leading_digits (ds ++ other), after_digits (ds ++ other)))
+        (stop (ds ++ other)) (digits_first bytes other e) ∙ two_same _ _ _ _ k.0 k.1;
   }
-  | inr e ↦ record { front = []; rest = bytes; found = None; parts = refl; again = λ other same. cond-false (is_ascii_digit (first other)) (Ok (leading_digits other, after_digits other)) (stop other) (ap is_ascii_digit same ∙ e) }
+  | inr e ↦ record {
+    front = [];
+    rest = bytes;
+    found = None;
+    parts = refl;
+    again = λ other same. cond-false (is_ascii_digit (first other)) (Ok (leading_digits other, after_digits other)) (stop other)
+        (ap is_ascii_digit same ∙ e);
+  }
 ]
 
 whole : Causal whole_at
@@ -75,7 +87,8 @@ signed_is minus = binds digits_at (λ ds rest. Ok (signed minus (number_of ds), 
 no_sign : (b : ℕ) → is_sign b ≡ false → eqb b 45 ≡ false
 no_sign b e = grind (arith, nat_tests)
 
-by_sign : (bytes : List ℕ) → cond (is_sign (first bytes)) (signed_then (eqb (first bytes) 45) (drop 1 bytes)) (signed_then false bytes) ≡ signed_at bytes
+by_sign : (bytes : List ℕ) → cond (is_sign (first bytes)) (signed_then (eqb (first bytes) 45) (drop 1 bytes)) (signed_then false bytes)
+    ≡ signed_at bytes
 unfolding signed_at
 by_sign bytes = elim (cases_Bool (is_sign (first bytes))) [
   | inl e ↦ rw e refl
@@ -83,7 +96,8 @@ by_sign bytes = elim (cases_Bool (is_sign (first bytes))) [
 ]
 
 signed_digits : Causal signed_at
-signed_digits = same_reader (λ bytes. cond (is_sign (first bytes)) (signed_then (eqb (first bytes) 45) (drop 1 bytes)) (signed_then false bytes)) signed_at by_sign
+signed_digits = same_reader (λ bytes. cond (is_sign (first bytes)) (signed_then (eqb (first bytes) 45) (drop 1 bytes))
+    (signed_then false bytes)) signed_at by_sign
     (takes is_sign (λ b rest. signed_then (eqb b 45) rest) (signed_then false) refl (λ b. signed_is (eqb b 45)) (signed_is false))
 
 exponent : Causal exponent_at
@@ -91,12 +105,38 @@ unfolding exponent_at
 exponent = takes is_mark (λ b rest. signed_at rest) (λ bytes. Ok (pos 0, bytes)) refl (λ b. signed_digits) (finds (pos 0))
 
 abbrev body : Bool → List ℕ → Read Parts
-body minus bytes = whole_at bytes >>= λ w. fraction_at w.1 >>= λ f. exponent_at f.1 >>= λ e. Ok (record { minus = minus; whole = w.0; fraction = f.0; exponent = e.0 }, e.1)
+body minus bytes = whole_at bytes >>= λ w. fraction_at w.1 >>= λ f. exponent_at f.1 >>= λ e. Ok (
+  record {
+    minus = minus;
+    whole = w.0;
+    fraction = f.0;
+    exponent = e.0;
+  },
+  e.1,
+)
 
 body_is : (minus : Bool) → Causal (body minus)
-body_is minus = binds whole_at (λ w rest. fraction_at rest >>= λ f. exponent_at f.1 >>= λ e. Ok (record { minus = minus; whole = w; fraction = f.0; exponent = e.0 }, e.1)) whole
-    (λ w. binds fraction_at (λ f rest. exponent_at rest >>= λ e. Ok (record { minus = minus; whole = w; fraction = f; exponent = e.0 }, e.1)) fraction
-    (λ f. binds exponent_at (λ e rest. Ok (record { minus = minus; whole = w; fraction = f; exponent = e }, rest)) exponent (λ e. finds (record { minus = minus; whole = w; fraction = f; exponent = e }))))
+body_is minus =
+    binds whole_at (λ w rest. fraction_at rest >>= λ f. exponent_at f.1 >>= λ e. Ok (
+      record {
+        minus = minus;
+        whole = w;
+        fraction = f.0;
+        exponent = e.0;
+      },
+      e.1,
+    )) whole
+    (λ w. binds fraction_at (λ f rest. exponent_at rest >>= λ e. Ok (
+      record {
+        minus = minus;
+        whole = w;
+        fraction = f;
+        exponent = e.0;
+      },
+      e.1,
+    )) fraction
+    (λ f. binds exponent_at (λ e rest. Ok (record { minus = minus; whole = w; fraction = f; exponent = e }, rest)) exponent
+    (λ e. finds (record { minus = minus; whole = w; fraction = f; exponent = e }))))
 
 by_minus : (bytes : List ℕ) → cond (eqb (first bytes) 45) (body true (drop 1 bytes)) (body false bytes) ≡ parts_at bytes
 unfolding parts_at
@@ -107,7 +147,10 @@ by_minus bytes = elim (cases_Bool (eqb (first bytes) 45)) [
 
 number : Causal number_at
 unfolding number_at
-number = binds parts_at (λ p rest. Ok (number_tree (value_of p), rest)) (same_reader (λ bytes. cond (eqb (first bytes) 45) (body true (drop 1 bytes)) (body false bytes)) parts_at by_minus (takes (λ b. eqb b 45) (λ b rest. body true rest) (body false) refl (λ b. body_is true) (body_is false))) (λ p. finds (number_tree (value_of p)))
+number = binds parts_at (λ p rest. Ok (number_tree (value_of p), rest))
+    (same_reader (λ bytes. cond (eqb (first bytes) 45) (body true (drop 1 bytes)) (body false bytes)) parts_at by_minus
+    (takes (λ b. eqb b 45) (λ b rest. body true rest) (body false) refl (λ b. body_is true) (body_is false)))
+    (λ p. finds (number_tree (value_of p)))
 
 -- ---- white space
 
@@ -122,31 +165,43 @@ white_stop (b ∷ rest) = elim (cases_Bool (is_white b)) [
 skips : {A : Type 0} (x : A) → Causal (λ bytes. Ok (x, skip_white bytes))
 skips {A} x bytes =
     let w = white_sound bytes in
-    record { front = w.0; rest = skip_white bytes; found = Some x; parts = w.1; again = λ other e. ap (λ (t : List ℕ). done {A = A × List ℕ} (x, t)) (skip_white-append w.0 other w.2 ∙ skip_white-stop other (ap is_white e ∙ white_stop bytes)) }
+    record {
+      front = w.0;
+      rest = skip_white bytes;
+      found = Some x;
+      parts = w.1;
+      again = λ other e. ap (λ (t : List ℕ). done {A = A × List ℕ} (x, t)) (skip_white-append w.0 other w.2
+          ∙ skip_white-stop other (ap is_white e ∙ white_stop bytes));
+    }
 
 pub skip_then : {A : Type 0} (element : List ℕ → Read A) → Causal element → Causal (λ bytes. element (skip_white bytes))
 skip_then element causal = binds (λ bytes. Ok (tt {0}, skip_white bytes)) (λ x rest. element rest) (skips tt) (λ x. causal)
 
 pub padded : {A : Type 0} (element : List ℕ → Read A) → Causal element → Causal (padded_at element)
-padded element causal = binds (λ bytes. element (skip_white bytes)) (λ x rest. Ok (x, skip_white rest)) (skip_then element causal) (λ x. skips x)
+padded element causal = binds (λ bytes. element (skip_white bytes)) (λ x rest. Ok (x, skip_white rest))
+    (skip_then element causal) (λ x. skips x)
 
 -- ---- lists and objects
 
-module _ {A : Type 0} (close : ℕ) (element : List A → List ℕ → Read A) (high : 0 < close) (causal : (out : List A) → Causal (element out)) (refuses : (out : List A) (bytes : List ℕ) → first bytes ≡ 0 → element out bytes ≡ Err (length bytes)) where
+module _ {A : Type 0} (close : ℕ) (element : List A → List ℕ → Read A) (high : 0 < close) (causal : (out : List A) → Causal (element out))
+    (refuses : (out : List A) (bytes : List ℕ) → first bytes ≡ 0 → element out bytes ≡ Err (length bytes)) where
   abbrev RunLook : List A → List ℕ → Type 0
   RunLook out bytes = LooksFueled (λ fuel. run_at close element fuel out) bytes
 
   abbrev behind : ℕ → List A → A × List ℕ → Read (List A)
-  behind fuel out x = cond (eqb (first x.1) 44) (run_at close element fuel (out ++ x.0 ∷ []) (drop 1 x.1)) (cond (eqb (first x.1) close) (Ok (out ++ x.0 ∷ [], drop 1 x.1)) (stop x.1))
+  behind fuel out x = cond (eqb (first x.1) 44) (run_at close element fuel (out ++ x.0 ∷ []) (drop 1 x.1))
+      (cond (eqb (first x.1) close) (Ok (out ++ x.0 ∷ [], drop 1 x.1)) (stop x.1))
 
-  run_zero : (fuel : ℕ) (out : List A) (bytes other : List ℕ) → length other ≤ length bytes → element out bytes ≡ Err (length other) → length bytes ≤ fuel → run_at close element fuel out bytes ≡ Err (length other)
+  run_zero : (fuel : ℕ) (out : List A) (bytes other : List ℕ) → length other ≤ length bytes → element out bytes ≡ Err (length other)
+      → length bytes ≤ fuel → run_at close element fuel out bytes ≡ Err (length other)
   unfolding run_at
   run_zero zero out bytes other shorter e le =
       let same : length bytes ≡ length other = omega arith in
       ap (λ (n : ℕ). failed_run n) same
   run_zero (suc fuel) out bytes other shorter e le = ap (λ r. r >>= behind fuel out) e
 
-  run_go : (fuel : ℕ) (out : List A) (bytes rest : List ℕ) (x : A) → 0 < fuel → element out bytes ≡ Ok (x, rest) → (less : ℕ) × (fuel ≡ suc less) × (run_at close element fuel out bytes ≡ behind less out (x, rest))
+  run_go : (fuel : ℕ) (out : List A) (bytes rest : List ℕ) (x : A) → 0 < fuel → element out bytes ≡ Ok (x, rest)
+      → (less : ℕ) × (fuel ≡ suc less) × (run_at close element fuel out bytes ≡ behind less out (x, rest))
   unfolding run_at
   run_go zero out bytes rest x lt e = absurd (omega arith)
   run_go (suc fuel) out bytes rest x lt e = (fuel, refl, ap (λ r. r >>= behind fuel out) e)
@@ -159,7 +214,9 @@ module _ {A : Type 0} (close : ℕ) (element : List A → List ℕ → Read A) (
   taken out (b ∷ bytes) rest x e = omega arith
 
   -- behind an element
-  after_element : (out : List A) (bytes front rest : List ℕ) (x : A) → bytes ≡ front ++ rest → ((other : List ℕ) → first other ≡ first rest → element out (front ++ other) ≡ Ok (x, other)) → ((y : A) (later : List ℕ) → length later < length bytes → RunLook (out ++ y ∷ []) later) → RunLook out bytes
+  after_element : (out : List A) (bytes front rest : List ℕ) (x : A) → bytes ≡ front ++ rest
+      → ((other : List ℕ) → first other ≡ first rest → element out (front ++ other) ≡ Ok (x, other))
+      → ((y : A) (later : List ℕ) → length later < length bytes → RunLook (out ++ y ∷ []) later) → RunLook out bytes
   after_element out bytes front rest x parts again more = elim (cases_Bool (eqb (first rest) 44)) [
     | inl comma ↦
         let here = eqb-true (first rest) 44 comma in
@@ -171,13 +228,16 @@ module _ {A : Type 0} (close : ℕ) (element : List A → List ℕ → Read A) (
           front = front ++ (44 ∷ l.front);
           rest = l.rest;
           found = l.found;
-          parts = parts ∙ ap (λ (t : List ℕ). front ++ t) (rest_is ∙ ap (λ (t : List ℕ). 44 ∷ t) l.parts) ∙ sym (append_assoc front (44 ∷ l.front) l.rest);
+          parts = parts ∙ ap (λ (t : List ℕ). front ++ t) (rest_is ∙ ap (λ (t : List ℕ). 44 ∷ t) l.parts)
+              ∙ sym (append_assoc front (44 ∷ l.front) l.rest);
           again = λ fuel other e le.
               let tail : List ℕ = l.front ++ other in
-              let fits : length (front ++ (44 ∷ tail)) ≤ fuel = subst (λ (t : List ℕ). length t ≤ fuel) (append_assoc front (44 ∷ l.front) other) le in
+              let fits : length (front ++ (44 ∷ tail)) ≤ fuel =
+              subst (λ (t : List ℕ). length t ≤ fuel) (append_assoc front (44 ∷ l.front) other) le in
               let read = again (44 ∷ tail) (sym here) in
               let many = length-append front (44 ∷ tail) in
-              let g = run_go fuel out (front ++ (44 ∷ tail)) (44 ∷ tail) x (omega (arith, taken out (front ++ (44 ∷ tail)) (44 ∷ tail) x read)) read in
+              let g = run_go fuel out (front ++ (44 ∷ tail)) (44 ∷ tail) x
+              (omega (arith, taken out (front ++ (44 ∷ tail)) (44 ∷ tail) x read)) read in
               ap (run_at close element fuel out) (append_assoc front (44 ∷ l.front) other) ∙ g.2 ∙ l.again g.0 other e (omega (arith, g.1));
         }
     | inr no_comma ↦ elim (cases_Bool (eqb (first rest) close)) [
@@ -191,11 +251,16 @@ module _ {A : Type 0} (close : ℕ) (element : List A → List ℕ → Read A) (
             parts = parts ∙ ap (λ (t : List ℕ). front ++ t) rest_is ∙ sym (append_assoc front (close ∷ []) (drop 1 rest));
             again = λ fuel other e le.
                 let read = again (close ∷ other) (sym here) in
-                let fits : length (front ++ (close ∷ other)) ≤ fuel = subst (λ (t : List ℕ). length t ≤ fuel) (append_assoc front (close ∷ []) other) le in
-                let g = run_go fuel out (front ++ (close ∷ other)) (close ∷ other) x (omega (arith, taken out (front ++ (close ∷ other)) (close ∷ other) x read)) read in
+                let fits : length (front ++ (close ∷ other)) ≤ fuel =
+                subst (λ (t : List ℕ). length t ≤ fuel) (append_assoc front (close ∷ []) other) le in
+                let g = run_go fuel out (front ++ (close ∷ other)) (close ∷ other) x
+                (omega (arith, taken out (front ++ (close ∷ other)) (close ∷ other) x read)) read in
                 let not_comma : eqb close 44 ≡ false = ap (λ (b : ℕ). eqb b 44) (sym here) ∙ no_comma in
                 let is_close : eqb close close ≡ true = eq-eqb close close refl in
-                ap (run_at close element fuel out) (append_assoc front (close ∷ []) other) ∙ g.2 ∙ cond-false (eqb close 44) (run_at close element g.0 (out ++ x ∷ []) other) (cond (eqb close close) (Ok (out ++ x ∷ [], other)) (stop (close ∷ other))) not_comma ∙ cond-true (eqb close close) (Ok (out ++ x ∷ [], other)) (stop (close ∷ other)) is_close;
+                ap (run_at close element fuel out) (append_assoc front (close ∷ []) other) ∙ g.2
+                ∙ cond-false (eqb close 44) (run_at close element g.0 (out ++ x ∷ []) other)
+                (cond (eqb close close) (Ok (out ++ x ∷ [], other)) (stop (close ∷ other))) not_comma
+                ∙ cond-true (eqb close close) (Ok (out ++ x ∷ [], other)) (stop (close ∷ other)) is_close;
           }
       | inr no_close ↦ record {
         front = front;
@@ -207,12 +272,16 @@ module _ {A : Type 0} (close : ℕ) (element : List A → List ℕ → Read A) (
             let g = run_go fuel out (front ++ other) other x (omega (arith, taken out (front ++ other) other x read)) read in
             let not_comma : eqb (first other) 44 ≡ false = ap (λ (b : ℕ). eqb b 44) e ∙ no_comma in
             let not_close : eqb (first other) close ≡ false = ap (λ (b : ℕ). eqb b close) e ∙ no_close in
-            g.2 ∙ cond-false (eqb (first other) 44) (run_at close element g.0 (out ++ x ∷ []) (drop 1 other)) (cond (eqb (first other) close) (Ok (out ++ x ∷ [], drop 1 other)) (stop other)) not_comma ∙ cond-false (eqb (first other) close) (Ok (out ++ x ∷ [], drop 1 other)) (stop other) not_close;
+            g.2 ∙ cond-false (eqb (first other) 44) (run_at close element g.0 (out ++ x ∷ []) (drop 1 other))
+            (cond (eqb (first other) close) (Ok (out ++ x ∷ [], drop 1 other)) (stop other)) not_comma
+            ∙ cond-false (eqb (first other) close) (Ok (out ++ x ∷ [], drop 1 other)) (stop other) not_close;
       }
     ]
   ]
 
-  run_next : (out : List A) (bytes front rest : List ℕ) (found : Option A) → bytes ≡ front ++ rest → ((other : List ℕ) → first other ≡ first rest → element out (front ++ other) ≡ outcome found other) → ((y : A) (later : List ℕ) → length later < length bytes → RunLook (out ++ y ∷ []) later) → RunLook out bytes
+  run_next : (out : List A) (bytes front rest : List ℕ) (found : Option A) → bytes ≡ front ++ rest
+      → ((other : List ℕ) → first other ≡ first rest → element out (front ++ other) ≡ outcome found other)
+      → ((y : A) (later : List ℕ) → length later < length bytes → RunLook (out ++ y ∷ []) later) → RunLook out bytes
   run_next out bytes front rest None parts again more = record {
     front = front;
     rest = rest;
@@ -222,7 +291,8 @@ module _ {A : Type 0} (close : ℕ) (element : List A → List ℕ → Read A) (
   }
   run_next out bytes front rest (Some x) parts again more = after_element out bytes front rest x parts again more
 
-  run_from : (out : List A) (bytes : List ℕ) → ((y : A) (later : List ℕ) → length later < length bytes → RunLook (out ++ y ∷ []) later) → RunLook out bytes
+  run_from : (out : List A) (bytes : List ℕ) → ((y : A) (later : List ℕ) → length later < length bytes → RunLook (out ++ y ∷ []) later)
+      → RunLook out bytes
   run_from out bytes more =
       let l = causal out bytes in
       run_next out bytes l.front l.rest l.found l.parts l.again more
@@ -231,17 +301,21 @@ module _ {A : Type 0} (close : ℕ) (element : List A → List ℕ → Read A) (
   run zero out bytes le = run_from out bytes (λ y later lt. absurd (omega arith))
   run (suc bound) out bytes le = run_from out bytes (λ y later lt. run bound (out ++ y ∷ []) later (omega arith))
 
-  enough : (fuel : ℕ) (bytes : List ℕ) → length bytes ≤ fuel → run_at close element (length bytes) [] bytes ≡ run_at close element fuel [] bytes
+  enough : (fuel : ℕ) (bytes : List ℕ) → length bytes ≤ fuel
+      → run_at close element (length bytes) [] bytes ≡ run_at close element fuel [] bytes
   enough fuel bytes le =
       let l = run (length bytes) [] bytes (omega arith) in
       let len : length (l.front ++ l.rest) ≡ length bytes = ap length (sym l.parts) in
-      ap (run_at close element (length bytes) []) l.parts ∙ l.again (length bytes) l.rest refl (omega arith) ∙ sym (l.again fuel l.rest refl (omega arith)) ∙ ap (run_at close element fuel []) (sym l.parts)
+      ap (run_at close element (length bytes) []) l.parts ∙ l.again (length bytes) l.rest refl (omega arith)
+      ∙ sym (l.again fuel l.rest refl (omega arith)) ∙ ap (run_at close element fuel []) (sym l.parts)
 
   abbrev opened : List ℕ → Read (List A)
   opened rest = cond (eqb (first rest) close) (Ok ([], drop 1 rest)) (run_at close element (length rest) [] rest)
 
   opened_is : Causal opened
-  opened_is = takes (λ b. eqb b close) (λ b rest. Ok ([], rest)) (λ rest. run_at close element (length rest) [] rest) (ne_eqb 0 close (λ e. omega arith)) (λ b. finds []) (unfueled (λ fuel. run_at close element fuel []) (λ bytes. run (length bytes) [] bytes (omega arith)))
+  opened_is = takes (λ b. eqb b close) (λ b rest. Ok ([], rest)) (λ rest. run_at close element (length rest) [] rest)
+      (ne_eqb 0 close (λ e. omega arith)) (λ b. finds [])
+      (unfueled (λ fuel. run_at close element fuel []) (λ bytes. run (length bytes) [] bytes (omega arith)))
 
   pub sequence : Causal (sequence_at close element)
   unfolding sequence_at
@@ -249,51 +323,63 @@ module _ {A : Type 0} (close : ℕ) (element : List A → List ℕ → Read A) (
       (λ bytes.
       let w = white_sound bytes in
       let shorter : length (skip_white bytes) ≤ length bytes = omega (arith, ap length w.1, length-append w.0 (skip_white bytes)) in
-      ap (λ r. cond (eqb (first (skip_white bytes)) close) (Ok ([], drop 1 (skip_white bytes))) r) (enough (length bytes) (skip_white bytes) shorter))
+      ap (λ r. cond (eqb (first (skip_white bytes)) close) (Ok ([], drop 1 (skip_white bytes))) r)
+      (enough (length bytes) (skip_white bytes) shorter))
       (skip_then opened opened_is)
 
 -- ---- values
 
-member_refuses : (value : List ℕ → Read Json) (out : List Member) (bytes : List ℕ) → first bytes ≡ 0 → member_at value out bytes ≡ Err (length bytes)
+member_refuses : (value : List ℕ → Read Json) (out : List Member) (bytes : List ℕ) → first bytes ≡ 0
+    → member_at value out bytes ≡ Err (length bytes)
 unfolding member_at quoted_at
 member_refuses value out bytes e =
     let same : skip_white bytes ≡ bytes = skip_white-stop bytes (rw e refl) in
     rw (same, e) refl
 
 abbrev named : (List ℕ → Read Json) → List ℕ → List ℕ → Read Member
-named value name rest = cond (eqb (first rest) 58) (padded_at value (drop 1 rest) >>= λ x. Ok (record { name = name; value = x.0 }, x.1)) (stop rest)
+named value name rest = cond (eqb (first rest) 58) (padded_at value (drop 1 rest) >>= λ x. Ok (record { name = name; value = x.0 }, x.1))
+    (stop rest)
 
 member : (value : List ℕ → Read Json) → Causal value → (out : List Member) → Causal (member_at value out)
 unfolding member_at
-member value causal out = binds (padded_at (quoted_at (names_of out))) (named value) (padded (quoted_at (names_of out)) (quoted (names_of out)))
-    (λ name. takes (λ b. eqb b 58) (λ b rest. padded_at value rest >>= λ x. Ok (record { name = name; value = x.0 }, x.1)) (λ rest. stop rest) refl (λ b. binds (padded_at value) (λ v rest. Ok (record { name = name; value = v }, rest)) (padded value causal) (λ v. finds (record { name = name; value = v }))) stops)
+member value causal out = binds (padded_at (quoted_at (names_of out))) (named value)
+    (padded (quoted_at (names_of out)) (quoted (names_of out)))
+    (λ name. takes (λ b. eqb b 58) (λ b rest. padded_at value rest >>= λ x. Ok (record { name = name; value = x.0 }, x.1))
+    (λ rest. stop rest) refl (λ b. binds (padded_at value) (λ v rest. Ok (record { name = name; value = v }, rest))
+    (padded value causal) (λ v. finds (record { name = name; value = v }))) stops)
 
 -- a reader of values refuses where there is no byte
 abbrev Refuses : (List ℕ → Read Json) → Type 0
 Refuses value = (bytes : List ℕ) → first bytes ≡ 0 → value bytes ≡ Err (length bytes)
 
-padded_refuses : (value : List ℕ → Read Json) → Refuses value → (out : List Json) (bytes : List ℕ) → first bytes ≡ 0 → padded_at value bytes ≡ Err (length bytes)
+padded_refuses : (value : List ℕ → Read Json) → Refuses value → (out : List Json) (bytes : List ℕ) → first bytes ≡ 0
+    → padded_at value bytes ≡ Err (length bytes)
 padded_refuses value h out bytes e =
     let same : skip_white bytes ≡ bytes = skip_white-stop bytes (rw e refl) in
     ap (λ (t : List ℕ). value t >>= λ x. Ok (x.0, skip_white x.1)) same ∙ ap (λ r. r >>= λ x. Ok (x.0, skip_white x.1)) (h bytes e)
 
 list : (value : List ℕ → Read Json) → Causal value → Refuses value → Causal (list_at value)
 unfolding list_at
-list value causal h = binds (sequence_at 93 (λ out. padded_at value)) (λ items rest. Ok (json.List items, rest)) (sequence 93 (λ out. padded_at value) (omega arith) (λ out. padded value causal) (padded_refuses value h)) (λ items. finds (json.List items))
+list value causal h = binds (sequence_at 93 (λ out. padded_at value)) (λ items rest. Ok (json.List items, rest))
+    (sequence 93 (λ out. padded_at value) (omega arith) (λ out. padded value causal) (padded_refuses value h))
+    (λ items. finds (json.List items))
 
 object : (value : List ℕ → Read Json) → Causal value → Causal (object_at value)
 unfolding object_at
-object value causal = binds (sequence_at 125 (member_at value)) (λ members rest. Ok (json.Object members, rest)) (sequence 125 (member_at value) (omega arith) (member value causal) (member_refuses value)) (λ members. finds (json.Object members))
+object value causal = binds (sequence_at 125 (member_at value)) (λ members rest. Ok (json.Object members, rest))
+    (sequence 125 (member_at value) (omega arith) (member value causal) (member_refuses value)) (λ members. finds (json.Object members))
 
 word_tree : (w : List ℕ) (tree : Json) → AllByRecursion (λ b. 0 < b) w → Causal (word_at w tree)
 word_tree w tree some = word w (λ rest. Ok (tree, rest)) some (finds tree)
 
 flat : Causal flat_at
 unfolding flat_at
-flat = chooses (λ b. eqb b 34) (λ bytes. quoted_at [] bytes >>= λ x. Ok (json.Text x.0, x.1)) _ (binds (quoted_at []) (λ t rest. Ok (json.Text t, rest)) (quoted []) (λ t. finds (json.Text t)))
+flat = chooses (λ b. eqb b 34) (λ bytes. quoted_at [] bytes >>= λ x. Ok (json.Text x.0, x.1)) _
+    (binds (quoted_at []) (λ t rest. Ok (json.Text t, rest)) (quoted []) (λ t. finds (json.Text t)))
     (chooses (λ b. eqb b 110) (word_at (codes "null") json.Null) _ (word_tree (codes "null") json.Null some_null)
     (chooses (λ b. eqb b 116) (word_at (codes "true") (json.Flag true)) _ (word_tree (codes "true") (json.Flag true) some_true)
-    (chooses (λ b. eqb b 102) (word_at (codes "false") (json.Flag false)) number_at (word_tree (codes "false") (json.Flag false) some_false) number)))
+    (chooses (λ b. eqb b 102) (word_at (codes "false") (json.Flag false)) number_at
+    (word_tree (codes "false") (json.Flag false) some_false) number)))
 
 from : (nested : List ℕ → Read Json) → Causal nested → Causal (value_from nested)
 unfolding value_from
@@ -325,8 +411,13 @@ two_tests false b x y z = refl
 
 nested : (value : List ℕ → Read Json) → Causal value → Refuses value → Causal (value_from (nested_at value))
 unfolding value_from nested_at
-nested value causal h = same_reader (λ bytes. cond (eqb (first bytes) 91) (list_at value (drop 1 bytes)) (cond (eqb (first bytes) 123) (object_at value (drop 1 bytes)) (flat_at bytes))) (value_from (nested_at value)) (λ bytes. two_tests (eqb (first bytes) 91) (eqb (first bytes) 123) _ _ _)
-    (takes (λ b. eqb b 91) (λ b rest. list_at value rest) (λ bytes. cond (eqb (first bytes) 123) (object_at value (drop 1 bytes)) (flat_at bytes)) refl (λ b. list value causal h) (takes (λ b. eqb b 123) (λ b rest. object_at value rest) flat_at refl (λ b. object value causal) flat))
+nested value causal h =
+    same_reader (λ bytes. cond (eqb (first bytes) 91) (list_at value (drop 1 bytes))
+    (cond (eqb (first bytes) 123) (object_at value (drop 1 bytes)) (flat_at bytes))) (value_from (nested_at value))
+    (λ bytes. two_tests (eqb (first bytes) 91) (eqb (first bytes) 123) _ _ _)
+    (takes (λ b. eqb b 91) (λ b rest. list_at value rest)
+    (λ bytes. cond (eqb (first bytes) 123) (object_at value (drop 1 bytes)) (flat_at bytes)) refl (λ b. list value causal h)
+    (takes (λ b. eqb b 123) (λ b rest. object_at value rest) flat_at refl (λ b. object value causal) flat))
 
 pub value : (level : ℕ) → Causal (value_at level)
 unfolding value_at
@@ -364,11 +455,19 @@ not_all x k e = elim (chosen (eqb (length x.1) 0) (Ok x.0) (stop x.1) (failed_at
   | inr c ↦ bound_err (length x.1) k c.1
 ]
 
-fault_from : (bytes front rest : List ℕ) (found : Option Json) (k : ℕ) → bytes ≡ front ++ rest → ((other : List ℕ) → first other ≡ first rest → whole_value (front ++ other) ≡ outcome found other) → (whole_value bytes >>= all_read) ≡ Err k → SameFault bytes k
+fault_from : (bytes front rest : List ℕ) (found : Option Json) (k : ℕ) → bytes ≡ front ++ rest
+    → ((other : List ℕ) → first other ≡ first rest → whole_value (front ++ other) ≡ outcome found other)
+    → (whole_value bytes >>= all_read) ≡ Err k → SameFault bytes k
 unfolding text_at
 fault_from bytes front rest None k parts again e =
     let here : whole_value bytes ≡ Err (length rest) = ap whole_value parts ∙ again rest refl in
-    record { front = front; rest = rest; parts = parts; left = bound_err (length rest) k (sym (ap (λ r. r >>= all_read) here) ∙ e); again = λ more same some. ap (λ r. r >>= all_read) (again more same) }
+    record {
+      front = front;
+      rest = rest;
+      parts = parts;
+      left = bound_err (length rest) k (sym (ap (λ r. r >>= all_read) here) ∙ e);
+      again = λ more same some. ap (λ r. r >>= all_read) (again more same);
+    }
 fault_from bytes front rest (Some x) k parts again e =
     let here : whole_value bytes ≡ Ok (x, rest) = ap whole_value parts ∙ again rest refl in
     record {

@@ -1,6 +1,8 @@
 -- How deep a list or an object is, by its items.
 use Rattle.std.proofs.Common.{◌≡◌, ℕ, suc, max, List, [], ◌∷◌, refl, ap, ◌∙◌}
-use Rattle.json_exact.specs.declared.json.Json.{Json, Row_of-Json, end_of-Json, more_of-Json, items-the_row-Json, items_hidden-the_row-Json-0, Row_of-Member, end_of-Member, more_of-Member, items-the_row-Member, items_hidden-the_row-Member-1}
+use Rattle.json_exact.specs.declared.json.Json.{Json, Row_of-Json, end_of-Json, more_of-Json, items-the_row-Json}
+use Rattle.json_exact.specs.declared.json.Json.{items_hidden-the_row-Json-0, Row_of-Member, end_of-Member, more_of-Member}
+use Rattle.json_exact.specs.declared.json.Json.{items-the_row-Member, items_hidden-the_row-Member-1}
 use Rattle.json_exact.specs.declared.json.Json.TheBlock.{hidden-the_row-Json-0, hidden-the_row-Member-1}
 use Rattle.json_exact.specs.declared.json.Json.TheVariants as json
 use Rattle.json_exact.specs.declared.json.Member.{Member}

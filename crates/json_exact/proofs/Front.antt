@@ -1,5 +1,6 @@
 -- What a loop has read so far, and what it still reads.
-use Rattle.std.proofs.Common.{◌≡◌, ℕ, zero, suc, ◌+◌, ◌-◌, ◌<◌, ◌≤◌, true, false, eqb, List, [], ◌∷◌, length, get_or, take, drop, Ok, refl, sym, arith}
+use Rattle.std.proofs.Common.{◌≡◌, ℕ, zero, suc, ◌+◌, ◌-◌, ◌<◌, ◌≤◌, true, false, eqb, List, [], ◌∷◌, length, get_or, take, drop, Ok, refl}
+use Rattle.std.proofs.Common.{sym, arith}
 use Rattle.std.proofs.lemmas.Bool.{cond-true, cond-false, eq-eqb, ne_eqb}
 use Rattle.std.proofs.lemmas.List.{take_all, drop_all, length-drop}
 use Rattle.std.proofs.Math.Seq.{drop-cons}
@@ -16,16 +17,19 @@ take-rest xs i = take_all (length xs - i) (drop i xs) (omega (arith, length-drop
 
 -- ---- white space
 
-white-more : (bytes : List ℕ) (i : ℕ) → i < length bytes → is_white (get_or bytes i 0) ≡ true → skip_white (drop (suc i) bytes) ≡ skip_white (drop i bytes)
+white-more : (bytes : List ℕ) (i : ℕ) → i < length bytes → is_white (get_or bytes i 0) ≡ true
+    → skip_white (drop (suc i) bytes) ≡ skip_white (drop i bytes)
 unfolding skip_white
 white-more [] i lt e = absurd (omega arith)
 white-more (b ∷ bytes) zero lt e = sym (cond-true _ (skip_white bytes) (b ∷ bytes) e)
 white-more (b ∷ bytes) (suc i) lt e = white-more bytes i (omega arith) e
 
-pub skip_white-more : (bytes : List ℕ) (i : ℕ) → i < length bytes → is_white (get_or bytes i 0) ≡ true → skip_white (drop (i + 1) bytes) ≡ skip_white (drop i bytes)
+pub skip_white-more : (bytes : List ℕ) (i : ℕ) → i < length bytes → is_white (get_or bytes i 0) ≡ true
+    → skip_white (drop (i + 1) bytes) ≡ skip_white (drop i bytes)
 skip_white-more bytes i lt e = rw (next i) (white-more bytes i lt e)
 
-pub skip_white-here : (bytes : List ℕ) (i : ℕ) → i < length bytes → is_white (get_or bytes i 0) ≡ false → skip_white (drop i bytes) ≡ drop i bytes
+pub skip_white-here : (bytes : List ℕ) (i : ℕ) → i < length bytes → is_white (get_or bytes i 0) ≡ false
+    → skip_white (drop i bytes) ≡ drop i bytes
 unfolding skip_white
 skip_white-here [] i lt e = absurd (omega arith)
 skip_white-here (b ∷ bytes) zero lt e = cond-false _ (skip_white bytes) (b ∷ bytes) e
@@ -37,13 +41,15 @@ skip_white-end bytes i le = rw (drop_all i bytes le) refl
 
 -- ---- words
 
-pub word-more : (word bytes : List ℕ) (i : ℕ) → i < length word → first bytes ≡ get_or word i 0 → after_word (drop i word) bytes ≡ after_word (drop (i + 1) word) (drop 1 bytes)
+pub word-more : (word bytes : List ℕ) (i : ℕ) → i < length word → first bytes ≡ get_or word i 0
+    → after_word (drop i word) bytes ≡ after_word (drop (i + 1) word) (drop 1 bytes)
 unfolding after_word
 word-more word bytes i lt e =
     let same : eqb (first bytes) (get_or word i 0) ≡ true = eq-eqb _ _ e in
     rw (next i, drop-cons word i 0 lt) (cond-true _ (after_word (drop (suc i) word) (drop 1 bytes)) (stop bytes) same)
 
-pub word-other : (word bytes : List ℕ) (i : ℕ) → i < length word → (first bytes ≡ get_or word i 0 → ⊥) → after_word (drop i word) bytes ≡ stop bytes
+pub word-other : (word bytes : List ℕ) (i : ℕ) → i < length word → (first bytes ≡ get_or word i 0 → ⊥)
+    → after_word (drop i word) bytes ≡ stop bytes
 unfolding after_word
 word-other word bytes i lt e =
     let other : eqb (first bytes) (get_or word i 0) ≡ false = ne_eqb _ _ e in

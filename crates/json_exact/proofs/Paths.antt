@@ -1,5 +1,6 @@
 -- Going along a path word by word, and along a word byte by byte.
-use Rattle.std.proofs.Common.{◌≡◌, ℕ, zero, suc, ◌+◌, ◌-◌, ◌*◌, ◌^◌, ◌<◌, ◌≤◌, min, Bool, true, false, not, cond, eqb, ◌&&◌, List, [], ◌∷◌, length, get_or, take, drop, Option, Some, None, refl, sym, ap, ◌∙◌, arith}
+use Rattle.std.proofs.Common.{◌≡◌, ℕ, zero, suc, ◌+◌, ◌-◌, ◌*◌, ◌^◌, ◌<◌, ◌≤◌, min, Bool, true, false, not, cond, eqb, ◌&&◌, List, [], ◌∷◌}
+use Rattle.std.proofs.Common.{length, get_or, take, drop, Option, Some, None, refl, sym, ap, ◌∙◌, arith}
 use Rattle.std.specs.Option.{option_and_then}
 use Rattle.std.specs.List.{list_all, onto_first, slice_get}
 use Rattle.std.proofs.lemmas.Option.{slice_get_read, slice_get_past}
@@ -25,7 +26,8 @@ use Rattle.json_exact.specs.inner.Along.{words_after, is_name, front_of, front_r
 abbrev is_slash : ℕ → Bool
 is_slash b = eqb b 47
 
-pub word_ends : (bytes : List ℕ) (i : ℕ) → i < length bytes → ((k : ℕ) → k < i → get_or bytes k 0 ≡ 47 → ⊥) → get_or bytes i 0 ≡ 47 → words_of bytes ≡ take i bytes ∷ words_after (drop i bytes)
+pub word_ends : (bytes : List ℕ) (i : ℕ) → i < length bytes → ((k : ℕ) → k < i → get_or bytes k 0 ≡ 47 → ⊥) → get_or bytes i 0 ≡ 47
+    → words_of bytes ≡ take i bytes ∷ words_after (drop i bytes)
 word_ends [] i lt before at = absurd (omega arith)
 word_ends (b ∷ bytes) zero lt before at = slice_split-cons_yes is_slash b bytes (eq-eqb b 47 at)
 word_ends (b ∷ bytes) (suc i) lt before at =
@@ -54,7 +56,8 @@ one_byte : (b : ℕ) (t : Bool) → cond t None (Some (b ∷ [])) ≡ joined (co
 one_byte b true = refl
 one_byte b false = refl
 
-two_bytes : (e : Option ℕ) (b : ℕ) (long short : List ℕ) (t : Bool) → cond t (joined e (name_of long)) (joined (Some b) (name_of short)) ≡ joined (cond t e (Some b)) (name_of (cond t long short))
+two_bytes : (e : Option ℕ) (b : ℕ) (long short : List ℕ) (t : Bool)
+    → cond t (joined e (name_of long)) (joined (Some b) (name_of short)) ≡ joined (cond t e (Some b)) (name_of (cond t long short))
 two_bytes e b long short true = refl
 two_bytes e b long short false = refl
 
@@ -77,10 +80,12 @@ joined_none None o = refl
 joined_none (Some a) None = refl
 joined_none (Some a) (Some t) = refl
 
-pub name_goes_on : (word name : List ℕ) (b : ℕ) → front_of word ≡ Some b → is_name (name_of word) (b ∷ name) ≡ is_name (name_of (front_rest word)) name
+pub name_goes_on : (word name : List ℕ) (b : ℕ) → front_of word ≡ Some b
+    → is_name (name_of word) (b ∷ name) ≡ is_name (name_of (front_rest word)) name
 name_goes_on [] name b front = cc
 name_goes_on (a ∷ rest) name b front =
-    ap (λ o. is_name o (b ∷ name)) (name_front a rest ∙ ap (λ f. joined f (name_of (front_rest (a ∷ rest)))) front) ∙ joined_same (name_of (front_rest (a ∷ rest))) b name
+    ap (λ o. is_name o (b ∷ name)) (name_front a rest ∙ ap (λ f. joined f (name_of (front_rest (a ∷ rest)))) front)
+    ∙ joined_same (name_of (front_rest (a ∷ rest))) b name
 
 pub name_breaks : (word name : List ℕ) (b : ℕ) → (front_of word ≡ Some b → ⊥) → is_name (name_of word) (b ∷ name) ≡ false
 unfolding name_of
@@ -91,17 +96,20 @@ name_breaks (a ∷ rest) name b other =
 pub name_ends : (a : ℕ) (rest : List ℕ) → is_name (name_of (a ∷ rest)) [] ≡ false
 name_ends a rest = ap (λ o. is_name o []) (name_front a rest) ∙ joined_none (front_of (a ∷ rest)) (name_of (front_rest (a ∷ rest)))
 
-pub name_more : (rest name : List ℕ) (i : ℕ) → i < length name → front_of rest ≡ Some (get_or name i 0) → is_name (name_of rest) (drop i name) ≡ is_name (name_of (front_rest rest)) (drop (i + 1) name)
+pub name_more : (rest name : List ℕ) (i : ℕ) → i < length name → front_of rest ≡ Some (get_or name i 0)
+    → is_name (name_of rest) (drop i name) ≡ is_name (name_of (front_rest rest)) (drop (i + 1) name)
 name_more rest name i lt front = rw (next i, drop-cons name i 0 lt) (name_goes_on rest (drop (suc i) name) (get_or name i 0) front)
 
-pub name_other : (rest name : List ℕ) (i : ℕ) → i < length name → (front_of rest ≡ Some (get_or name i 0) → ⊥) → is_name (name_of rest) (drop i name) ≡ false
+pub name_other : (rest name : List ℕ) (i : ℕ) → i < length name → (front_of rest ≡ Some (get_or name i 0) → ⊥)
+    → is_name (name_of rest) (drop i name) ≡ false
 name_other rest name i lt other = rw (drop-cons name i 0 lt) (name_breaks rest (drop (suc i) name) (get_or name i 0) other)
 
 pub empty_by_length : (xs : List ℕ) → length xs ≡ 0 → xs ≡ []
 empty_by_length [] e = refl
 empty_by_length (x ∷ xs) e = absurd (omega arith)
 
-pub name_end : (rest name : List ℕ) (i : ℕ) (t : Bool) → length name ≤ i → (t ≡ true → rest ≡ []) → (rest ≡ [] → t ≡ true) → t ≡ is_name (name_of rest) (drop i name)
+pub name_end : (rest name : List ℕ) (i : ℕ) (t : Bool) → length name ≤ i → (t ≡ true → rest ≡ []) → (rest ≡ [] → t ≡ true)
+    → t ≡ is_name (name_of rest) (drop i name)
 unfolding name_of
 name_end [] name i t le none all = rw (drop_all i name le) (all refl)
 name_end (a ∷ rest) name i true le none all = absurd (let e : a ∷ rest ≡ [] = none refl in cc)
@@ -144,10 +152,12 @@ name_plain b rest e =
     let p = plain_front b rest e in
     name_front b rest ∙ ap (λ f. joined f (name_of (front_rest (b ∷ rest)))) p.0 ∙ ap (λ r. joined (Some b) (name_of r)) p.1
 
-digits_at : (b : ℕ) (rest : List ℕ) → are_digits (name_of rest) ≡ list_all is_ascii_digit rest → (t : Bool) → eqb b 126 ≡ t → are_digits (name_of (b ∷ rest)) ≡ list_all is_ascii_digit (b ∷ rest)
+digits_at : (b : ℕ) (rest : List ℕ) → are_digits (name_of rest) ≡ list_all is_ascii_digit rest → (t : Bool) → eqb b 126 ≡ t
+    → are_digits (name_of (b ∷ rest)) ≡ list_all is_ascii_digit (b ∷ rest)
 digits_at b rest same true e =
     let is : b ≡ 126 = eqb-true b 126 e in
-    let left : are_digits (name_of (126 ∷ rest)) ≡ false = ap are_digits (name_front 126 rest) ∙ no_digit (front_of (126 ∷ rest)) (name_of (front_rest (126 ∷ rest))) (tilde_no_digit rest) in
+    let left : are_digits (name_of (126 ∷ rest)) ≡ false =
+    ap are_digits (name_front 126 rest) ∙ no_digit (front_of (126 ∷ rest)) (name_of (front_rest (126 ∷ rest))) (tilde_no_digit rest) in
     ap (λ x. are_digits (name_of (x ∷ rest))) is ∙ left ∙ ap (λ x. is_ascii_digit x && list_all is_ascii_digit rest) (sym is)
 digits_at b rest same false e =
     ap are_digits (name_plain b rest e) ∙ digit_joined b (name_of rest) ∙ ap (λ x. is_ascii_digit b && x) same
@@ -188,10 +198,12 @@ no_item : (items : List Json) (o : Option (List ℕ)) → are_digits o ≡ false
 no_item items None e = refl
 no_item items (Some name) e = cond-false (is_index name) (slice_get items (number_of name)) None (others_no_index name e)
 
-item_at : (items : List Json) (word : List ℕ) (t : Bool) → list_all is_ascii_digit word ≡ t → option_and_then (item_of items) (name_of word) ≡ item_of items word
+item_at : (items : List Json) (word : List ℕ) (t : Bool) → list_all is_ascii_digit word ≡ t
+    → option_and_then (item_of items) (name_of word) ≡ item_of items word
 item_at items word true e = ap (option_and_then (item_of items)) (digits_name word e)
 item_at items word false e =
-    no_item items (name_of word) (same_digits word ∙ e) ∙ sym (cond-false (is_index word) (slice_get items (number_of word)) None (others_no_index word e))
+    no_item items (name_of word) (same_digits word ∙ e)
+    ∙ sym (cond-false (is_index word) (slice_get items (number_of word)) None (others_no_index word e))
 
 -- the item to which a word leads is the one whose index it writes
 pub item_by_word : (items : List Json) (word : List ℕ) → option_and_then (item_of items) (name_of word) ≡ item_of items word
@@ -200,16 +212,20 @@ item_by_word items word = item_at items word (list_all is_ascii_digit word) refl
 pub item_none : (items : List Json) (word : List ℕ) → is_index word ≡ false → None ≡ option_and_then (item_of items) (name_of word)
 item_none items word not_one = sym (item_by_word items word ∙ cond-false (is_index word) (slice_get items (number_of word)) None not_one)
 
-pub item_some : (items : List Json) (word : List ℕ) (n : ℕ) (x : Json) → is_index word ≡ true → n ≡ min (number_of word) (2 ^ 64 - 1) → n < length items → length items < 2 ^ 64 → x ≡ get_or items n x → Some x ≡ option_and_then (item_of items) (name_of word)
+pub item_some : (items : List Json) (word : List ℕ) (n : ℕ) (x : Json) → is_index word ≡ true → n ≡ min (number_of word) (2 ^ 64 - 1)
+    → n < length items → length items < 2 ^ 64 → x ≡ get_or items n x → Some x ≡ option_and_then (item_of items) (name_of word)
 item_some items word n x one is lt few at =
     let same : n ≡ number_of word = grind arith in
     let found : slice_get items n ≡ Some x = slice_get_read items (length items) n x refl lt at in
-    sym (item_by_word items word ∙ cond-true (is_index word) (slice_get items (number_of word)) None one ∙ ap (slice_get items) (sym same) ∙ found)
+    sym (item_by_word items word ∙ cond-true (is_index word) (slice_get items (number_of word)) None one
+    ∙ ap (slice_get items) (sym same) ∙ found)
 
-pub item_past : (items : List Json) (word : List ℕ) (n : ℕ) → is_index word ≡ true → n ≡ min (number_of word) (2 ^ 64 - 1) → length items ≤ n → None ≡ option_and_then (item_of items) (name_of word)
+pub item_past : (items : List Json) (word : List ℕ) (n : ℕ) → is_index word ≡ true → n ≡ min (number_of word) (2 ^ 64 - 1)
+    → length items ≤ n → None ≡ option_and_then (item_of items) (name_of word)
 item_past items word n one is past =
     let far : length items ≤ number_of word = grind arith in
-    sym (item_by_word items word ∙ cond-true (is_index word) (slice_get items (number_of word)) None one ∙ slice_get_past items (number_of word) far)
+    sym (item_by_word items word ∙ cond-true (is_index word) (slice_get items (number_of word)) None one
+    ∙ slice_get_past items (number_of word) far)
 
 -- ---- trees
 
@@ -223,7 +239,9 @@ unfolding led_by
 led_ends [] here short = refl
 led_ends (b ∷ rest) here short = absurd (omega arith)
 
-pub led_step : (rest word others : List ℕ) (here : Json) → 1 ≤ length rest → words_of (take (length rest - 1) (drop 1 rest)) ≡ word ∷ words_after others → led_by (words_after rest) here ≡ option_and_then (led_by (words_after others)) (child_of here word)
+pub led_step : (rest word others : List ℕ) (here : Json) → 1 ≤ length rest
+    → words_of (take (length rest - 1) (drop 1 rest)) ≡ word ∷ words_after others
+    → led_by (words_after rest) here ≡ option_and_then (led_by (words_after others)) (child_of here word)
 unfolding led_by
 led_step [] word others here some words = absurd (omega arith)
 led_step (b ∷ rest) word others here some words = ap (λ ws. led_by ws here) (ap words_of (sym (take-rest (b ∷ rest) 1)) ∙ words)

@@ -1,25 +1,18 @@
 -- The trees of numbers at the front.
-use Rattle.std.proofs.Common.{◌≡◌, ℕ, List, Ok, Err, ℤ, Option, Some, None, true, false, if◌then◌else◌, refl, ap, ◌∙◌, sym}
+use Rattle.std.proofs.Common.{◌≡◌, ℕ, List, Ok, Err, ℤ, Option, Some, None, refl, ap, sym}
 use Rattle.fixed_num.specs.JsonNumber.{Parts, value_of}
-use Rattle.fixed_num.specs.Front.{◌>>=◌, Read, parts_at, in_range, as_number, decimal_at}
+use Rattle.fixed_num.specs.Ranges.{in_range}
+use Rattle.fixed_num.specs.Steps.{◌>>=◌}
+use Rattle.fixed_num.specs.Front.{Read, parts_at, decimal_at}
 use Rattle.fixed_num.proofs.Numerals.{decimal_parts}
-use Rattle.json_exact.specs.declared.json.Json.{Json}
 use Rattle.json_exact.specs.declared.json.Json.TheVariants as json
-use Rattle.json_exact.specs.inner.Reader.{number_tree, number_at}
-
--- the tree of a number, None out of range
-abbrev tree_of : Option ℤ → Json
-tree_of (Some m) = json.Number m
-tree_of None = json.Huge
-
-tree_is : (m : ℤ) → number_tree m ≡ tree_of (as_number m)
-tree_is m = elim (in_range m) as (λ b. (if b then json.Number m else json.Huge) ≡ tree_of (if b then Some m else None)) [ true ↦ refl | false ↦ refl ]
+use Rattle.json_exact.specs.inner.Reader.{tree_of, number_tree, number_at}
 
 read_tree : (bytes rest : List ℕ) (v : Option ℤ) → Ok (v, rest) ≡ decimal_at bytes → number_at bytes ≡ Ok (tree_of v, rest)
 unfolding number_at
 read_tree bytes rest v e =
     let d = decimal_parts bytes rest v (sym e) in
-    let tree : number_tree (value_of d.0) ≡ tree_of v = tree_is (value_of d.0) ∙ ap tree_of d.2 in
+    let tree : number_tree (value_of d.0) ≡ tree_of v = ap tree_of d.2 in
     rw (d.1, tree) refl
 
 pub number_read : (bytes rest : List ℕ) (m : ℤ) → Ok (Some m, rest) ≡ decimal_at bytes → number_at bytes ≡ Ok (json.Number m, rest)
@@ -29,7 +22,7 @@ pub huge_read : (bytes rest : List ℕ) → Ok (None, rest) ≡ decimal_at bytes
 huge_read bytes rest e = read_tree bytes rest None e
 
 abbrev valued : Parts × List ℕ → Read (Option ℤ)
-valued x = Ok (as_number (value_of x.0), x.1)
+valued x = Ok (in_range (value_of x.0), x.1)
 
 stopped : (r : Read Parts) (left : ℕ) → (r >>= valued) ≡ Err left → r ≡ Err left
 stopped (Ok x) left e = absurd cc

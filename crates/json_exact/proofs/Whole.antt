@@ -1,5 +1,6 @@
 -- The function on lists gives a tree exactly where the bytes spell one.
-use Rattle.std.proofs.Common.{◌≡◌, ℕ, List, Ok, Err, refl, sym, ap, subst, ◌∙◌, zero, suc, ◌+◌, ◌-◌, ◌<◌, ◌≤◌, [], ◌∷◌, ◌++◌, length, take, append_assoc, arith}
+use Rattle.std.proofs.Common.{◌≡◌, ℕ, List, Ok, Err, refl, sym, ap, subst, ◌∙◌, zero, suc, ◌+◌, ◌-◌, ◌<◌, ◌≤◌, [], ◌∷◌, ◌++◌, length, take}
+use Rattle.std.proofs.Common.{append_assoc, arith}
 use Rattle.text_kit.specs.Answer.{IsFault}
 use Rattle.json_exact.specs.declared.error.Stop.{Stop}
 use Rattle.json_exact.specs.declared.error.Stop.TheVariants as stops
@@ -22,7 +23,8 @@ is_fault bytes k given tree reads =
     absurd cc
 
 -- how many bytes were left at the fault that was answered
-pub fault_of : (bytes : List ℕ) (error : Stop) (left : ℕ) → error ≡ stops.Fault left → IsFault (cause error) (text_at bytes) → text_at bytes ≡ Err left
+pub fault_of : (bytes : List ℕ) (error : Stop) (left : ℕ) → error ≡ stops.Fault left → IsFault (cause error) (text_at bytes)
+    → text_at bytes ≡ Err left
 fault_of bytes error left e given = subst (λ (s : Stop). IsFault (cause s) (text_at bytes)) e given
 
 -- ---- the place of a fault
@@ -34,7 +36,8 @@ take_past [] rest d n e =
 take_past (x ∷ front) rest d zero e = absurd (omega arith)
 take_past (x ∷ front) rest d (suc n) e = ap (λ (t : List ℕ). x ∷ t) (take_past front rest d n (omega arith))
 
-first_taken : (rest more : List ℕ) (d : ℕ) → 0 < d → 0 < length rest → (first (take d rest ++ more) ≡ first rest) × (0 < length (take d rest ++ more))
+first_taken : (rest more : List ℕ) (d : ℕ) → 0 < d → 0 < length rest
+    → (first (take d rest ++ more) ≡ first rest) × (0 < length (take d rest ++ more))
 first_taken [] more d some there = absurd (omega arith)
 first_taken (b ∷ rest) more zero some there = absurd (omega arith)
 first_taken (b ∷ rest) more (suc d) some there = (refl, omega arith)
@@ -51,7 +54,8 @@ begins_there bytes k place e sum =
 both : (bytes : List ℕ) (tree : Json) (j : ℕ) → text_at bytes ≡ Ok tree → text_at bytes ≡ Err j → ⊥
 both bytes tree j e f = absurd cc
 
-ends_there : (bytes : List ℕ) (k place n : ℕ) → text_at bytes ≡ Err k → place + k ≡ length bytes → place < n → n ≤ length bytes → Begins (take n bytes) → ⊥
+ends_there : (bytes : List ℕ) (k place n : ℕ) → text_at bytes ≡ Err k → place + k ≡ length bytes → place < n → n ≤ length bytes
+    → Begins (take n bytes) → ⊥
 ends_there bytes k place n e sum lt le b =
     let s = same_fault bytes k e in
     let len : length bytes ≡ length s.front + length s.rest = ap length s.parts ∙ length-append s.front s.rest in
@@ -59,8 +63,11 @@ ends_there bytes k place n e sum lt le b =
     let d : ℕ = n - place in
     let size : n ≡ length s.front + d = omega arith in
     let f = first_taken s.rest b.0 d (omega arith) (omega arith) in
-    let whole : take n bytes ++ b.0 ≡ s.front ++ (take d s.rest ++ b.0) = ap (λ (t : List ℕ). take n t ++ b.0) s.parts ∙ ap (λ (t : List ℕ). t ++ b.0) (take_past s.front s.rest d n size) ∙ append_assoc s.front (take d s.rest) b.0 in
-    let read : text_at (s.front ++ (take d s.rest ++ b.0)) ≡ Ok b.1 = ap text_at (sym whole) ∙ text_again-whole (take n bytes ++ b.0) b.1 b.2 in
+    let whole : take n bytes ++ b.0 ≡ s.front ++ (take d s.rest ++ b.0) =
+    ap (λ (t : List ℕ). take n t ++ b.0) s.parts ∙ ap (λ (t : List ℕ). t ++ b.0) (take_past s.front s.rest d n size)
+    ∙ append_assoc s.front (take d s.rest) b.0 in
+    let read : text_at (s.front ++ (take d s.rest ++ b.0)) ≡ Ok b.1 =
+    ap text_at (sym whole) ∙ text_again-whole (take n bytes ++ b.0) b.1 b.2 in
     both (s.front ++ (take d s.rest ++ b.0)) b.1 (length (take d s.rest ++ b.0)) read (s.again (take d s.rest ++ b.0) f.0 f.1)
 
 -- where the bytes that were left at a fault are k, the place of the fault is before them
@@ -70,4 +77,8 @@ faults_at bytes k place e at_place =
     let len : length bytes ≡ length o.front + length o.rest = ap length o.parts ∙ length-append o.front o.rest in
     let left = o.left in
     let sum : place + k ≡ length bytes = omega arith in
-    record { within = omega arith; begins = begins_there bytes k place e sum; no_longer = λ n lt le b. ends_there bytes k place n e sum lt le b }
+    record {
+      within = omega arith;
+      begins = begins_there bytes k place e sum;
+      no_longer = λ n lt le b. ends_there bytes k place n e sum lt le b;
+    }

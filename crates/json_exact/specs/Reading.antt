@@ -1,12 +1,15 @@
 -- Which bytes spell which tree: JSON (RFC 8259) in UTF-8, with repeated names refused and nesting of at most 128.
 -- A number is rounded to millionths, and is `Huge` where that is out of range.
-use Rattle.std.specs.Prelude.{◌≡◌, ◌≢◌, ℕ, suc, ◌+◌, ◌-◌, ◌*◌, ◌<◌, ◌≤◌, max, List, [], ◌∷◌, ◌++◌, length, take, codes, ℤ, Bool, true, false, IsTrue, ◌||◌, ◌==◌, nat_le, if◌then◌else◌, Option, Some, None, refl, AllPairs, encode_utf8, encode_utf8_all}
+use Rattle.std.specs.Prelude.{◌≡◌, ◌≢◌, ℕ, suc, ◌+◌, ◌-◌, ◌*◌, ◌<◌, ◌≤◌, max, List, [], ◌∷◌, ◌++◌, length, take, codes, ℤ, Bool, true}
+use Rattle.std.specs.Prelude.{false, IsTrue, ◌||◌, ◌==◌, nat_le, if◌then◌else◌, Option, Some, None, refl, AllPairs, encode_utf8}
+use Rattle.std.specs.Prelude.{encode_utf8_all}
 use Rattle.std.specs.List.{AllByRecursion}
 use Rattle.std.specs.Char.{is_ascii_hexdigit, IsScalar}
 use Rattle.std.proofs.Common.{lit≤, arith}
 use Rattle.fixed_num.specs.Number.{IsNumber}
 use Rattle.fixed_num.specs.JsonNumber as numbers
-use Rattle.json_exact.specs.declared.json.Json.{Json, List', Object', Row_of-Json, end_of-Json, more_of-Json, Row_of-Member, end_of-Member, more_of-Member}
+use Rattle.json_exact.specs.declared.json.Json.{Json, List', Object', Row_of-Json, end_of-Json, more_of-Json, Row_of-Member, end_of-Member}
+use Rattle.json_exact.specs.declared.json.Json.{more_of-Member}
 use Rattle.json_exact.specs.declared.json.Json.TheVariants as json
 use Rattle.json_exact.specs.declared.json.Member.{Member}
 

@@ -4,7 +4,8 @@ ghost use Rattle.std.specs.Prelude.{◌≡◌, ◌+◌, ◌*◌, ◌<◌, ◌≤
 ghost use Rattle.std.specs.Char.{is_ascii_hexdigit};
 ghost use Rattle.text_kit.specs.Answer.{GivesAs};
 ghost use Rattle.json_exact.specs.Reading.{hex_value, short_escape, IsHigh};
-ghost use Rattle.json_exact.specs.inner.Reader.{cause, hex_at, hex_pair_at, low_at, after_high_at, long_at, escape_at, tail_at, three_at, four_at, plain_at, char_at};
+ghost use Rattle.json_exact.specs.inner.Reader.{cause, hex_at, hex_pair_at, low_at, after_high_at, long_at, escape_at, tail_at, three_at};
+ghost use Rattle.json_exact.specs.inner.Reader.{four_at, plain_at, char_at};
 
 use crate::error::{Stop, fault_at};
 use crate::words::{after_first, after_word, first_of};

@@ -1,5 +1,6 @@
 -- What a change does to the rows of a source. Its expressions read rows and values of parameters as they were before it.
-use Rattle.std.specs.Prelude.{◌≡◌, refl, ℕ, pos, unwrap_or, not, Bool, true, false, Option, Some, None, List, [], ◌∷◌, ◌++◌, length, map, fold, if◌then◌else◌, codes}
+use Rattle.std.specs.Prelude.{◌≡◌, refl, ℕ, pos, unwrap_or, not, Bool, true, false, Option, Some, None, List, [], ◌∷◌, ◌++◌, length, map}
+use Rattle.std.specs.Prelude.{fold, if◌then◌else◌, codes}
 use Rattle.std.specs.List.{filter, filter_map, flat_map}
 use Rattle.std.specs.Option.{option_map, option_to_list}
 use Rattle.std.specs.Str.{bytes_eq}

@@ -172,7 +172,8 @@ unfolding out-Json denote.Hole.Carrier.out
 an_unknown_member = refl
 
 members_in_any_order :
-    option_map length (members_among names_of_entries (level.Object (at (codes "set") json.Null ∷ at (codes "where") json.Null ∷ []))) ≡ Some 2
+    option_map length (members_among names_of_entries (level.Object (at (codes "set") json.Null ∷ at (codes "where") json.Null ∷ [])))
+    ≡ Some 2
 unfolding out-Json denote.Hole.Carrier.out
 members_in_any_order = refl
 

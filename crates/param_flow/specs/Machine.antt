@@ -1,6 +1,7 @@
 -- The direct machine: what is replied to a command, and the state after it. It knows only the present state, and of the specification
 -- what its meaning gives.
-use Rattle.std.specs.Prelude.{◌≡◌, refl, ℕ, pos, suc, ◌+◌, ◌^◌, not, ◌&&◌, ◌||◌, codes, nat_lt, Bool, true, Option, Some, None, List, [], ◌∷◌, ◌++◌, length, map, sum_by, if◌then◌else◌}
+use Rattle.std.specs.Prelude.{◌≡◌, refl, ℕ, pos, suc, ◌+◌, ◌^◌, not, ◌&&◌, ◌||◌, codes, nat_lt, Bool, true, Option, Some, None, List, []}
+use Rattle.std.specs.Prelude.{◌∷◌, ◌++◌, length, map, sum_by, if◌then◌else◌}
 use Rattle.std.specs.List.{list_all, flat_map}
 use Rattle.std.specs.Option.{option_map}
 use Rattle.std.specs.Str.{bytes_eq}

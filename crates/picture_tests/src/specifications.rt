@@ -1,9 +1,9 @@
+use bar_spec::BarSpec;
 use std::alloc::Global;
 use text_kit::{OutOfMemory, Text};
-use vega_model::VgSpec;
 
-fn specification(alloc: Global) -> Result<VgSpec, OutOfMemory> {
-    Ok(VgSpec {
+fn specification(alloc: Global) -> Result<BarSpec, OutOfMemory> {
+    Ok(BarSpec {
         source: Text::of(alloc, "t")?,
         x: Text::of(alloc, "a")?,
         y: Text::of(alloc, "b")?,

@@ -19,7 +19,7 @@ use Rattle.param_flow.specs.declared.reply.Reply.{Reply}
 use Rattle.param_flow.specs.declared.reply.Reply.TheVariants.{Done, Refused}
 use Rattle.param_flow.specs.declared.reply.Cause.TheVariants as cause
 use Rattle.param_flow.specs.Machine.{new_rows}
-use Rattle.vega_model.specs.declared.spec.VgSpec.{VgSpec}
+use Rattle.bar_spec.specs.declared.spec.BarSpec.{BarSpec}
 use Rattle.vega_meaning.specs.Bars.{scene_of_rows, vega_scene_of}
 use Rattle.vega_meaning.specs.Semantics.{vega_semantics}
 use Rattle.vega_meaning.specs.States.{IsStateOf}
@@ -36,7 +36,7 @@ use Rattle.std.proofs.lemmas.List.{map-append}
 use Rattle.plain_engine.proofs.OneSource.{AreRows, new_data, inserted, counted, within, rows_in, state_from, same_text, scene_of_single}
 use Rattle.plain_engine.proofs.LeftRows.{what_is_left, how_many_left, all_left, to_ids, from_ids, rise_left}
 
-module _ (g : VgSpec) (next_id : ℕ) (rows : List Datum) (change : ChangeOf) where
+module _ (g : BarSpec) (next_id : ℕ) (rows : List Datum) (change : ChangeOf) where
   after_found : (found : Option (List Datum))
       → (all_found (option_map (λ rows. record { name = g.source; rows = rows ++ new_data next_id change.insert }) found ∷ [])
       >>= λ (sources : List Dataset).
@@ -137,7 +137,7 @@ free_of next_id change rows staying more past count long is free =
     (λ i. nat_lt most_rows (sym count i + sym long i) || nat_lt (greatest_id + 1) (next_id + sym long i)) ∙ sym is ∙ free
 
 -- the reply to a change that isn't past the limit
-pub reply_by : (g : VgSpec) (next_id : ℕ) (change : ChangeOf) (rows : List Datum) (new : List Datum)
+pub reply_by : (g : BarSpec) (next_id : ℕ) (change : ChangeOf) (rows : List Datum) (new : List Datum)
     → is_past next_id change rows ≡ false → rows_changed next_id change rows ≡ Some new
     → reply_over g next_id change rows ≡ reply_to_chart (scene_of_rows g.x g.y new)
 reply_by g next_id change rows new free changed = λ i. if free i then Refused cause.Limit else reply_to_data g (changed i)
@@ -168,7 +168,7 @@ abbrev pub has_name : List ℕ → Named → Bool
 has_name name source = bytes_eq source.name name
 
 -- the only source, at its index
-pub record IsOnly (g : VgSpec) (st : ChartState) (index : ℕ) (source : Named) : Type 0 where
+pub record IsOnly (g : BarSpec) (st : ChartState) (index : ℕ) (source : Named) : Type 0 where
   pub only : st.sources ≡ source ∷ []
   pub first : index ≡ 0
   pub named : source.name ≡ g.source
@@ -182,7 +182,7 @@ there text (one ∷ []) h =
 there text (one ∷ other ∷ more) h = absurd (cc)
 
 -- the source is found
-pub found : (g : VgSpec) (st : ChartState) (name : List ℕ) (index : ℕ) (source : Named) → IsStateOf g (state_of st) → name ≡ g.source
+pub found : (g : BarSpec) (st : ChartState) (name : List ℕ) (index : ℕ) (source : Named) → IsStateOf g (state_of st) → name ≡ g.source
     → Some index ≡ position (has_name name) st.sources → source ≡ get_or st.sources index source → IsOnly g st index source
 found g st name index source h e at is =
     let one = there g.source st.sources h.sources in
@@ -196,14 +196,14 @@ found g st name index source h e at is =
           ∙ one.2;
     }
 
-pub not_lost : (g : VgSpec) (st : ChartState) (name : List ℕ) → IsStateOf g (state_of st) → name ≡ g.source
+pub not_lost : (g : BarSpec) (st : ChartState) (name : List ℕ) → IsStateOf g (state_of st) → name ≡ g.source
     → None ≡ position (has_name name) st.sources → ⊥
 not_lost g st name h e at =
     let one = there g.source st.sources h.sources in
     let place = at ∙ ap (λ name. position (has_name name) st.sources) e ∙ one.3 in
     cc
 
-module _ (g : VgSpec) (st : ChartState) (index : ℕ) (source : Named) (here : IsOnly g st index source) (h : IsStateOf g (state_of st)) where
+module _ (g : BarSpec) (st : ChartState) (index : ℕ) (source : Named) (here : IsOnly g st index source) (h : IsStateOf g (state_of st)) where
   -- a state of this source with other rows
   pub with_rows : (next_id : ℕ) (sources : List Named) (rows : List Keyed)
       → sources ≡ set st.sources index (record { name = source.name; rows = rows })

@@ -1,5 +1,6 @@
 -- Why a set holds the distinct elements, and why the running extremes give the extent.
-use Rattle.std.proofs.Common.{◌≡◌, ℕ, ℤ, take, pos, Bool, true, false, ◌||◌, ◌++◌, if◌then◌else◌, List, [], ◌∷◌, length, ◌≤◌, ◌+◌, map, reverse, Bor, fold, arith, refl, sym, ap, ◌∙◌}
+use Rattle.std.proofs.Common.{◌≡◌, ℕ, ℤ, take, pos, Bool, true, false, ◌||◌, ◌++◌, if◌then◌else◌, List, [], ◌∷◌, length, ◌≤◌, ◌+◌, map}
+use Rattle.std.proofs.Common.{reverse, Bor, fold, arith, refl, sym, ap, ◌∙◌}
 use mathlib.Core.List.{reverse_aux}
 use Rattle.std.specs.Int.{int_min, int_max}
 use Rattle.std.specs.declared.cmp.Ordering.{Ordering}
@@ -22,7 +23,9 @@ ordering_cases Equal less same more = same refl
 ordering_cases Greater less same more = more refl
 
 -- what an element points to goes to its place in a set
-pub insert_key-now : {X : Type 0} (order : X → X → Ordering) (ks : List (Bor X)) (k : Bor X) → map (λ (x : Bor X). x.now) (insert_key (λ (x y : Bor X). order x.now y.now) ks k) ≡ placed_in order k.now (map (λ (x : Bor X). x.now) ks)
+pub insert_key-now : {X : Type 0} (order : X → X → Ordering) (ks : List (Bor X)) (k : Bor X)
+    → map (λ (x : Bor X). x.now) (insert_key (λ (x y : Bor X). order x.now y.now) ks k)
+    ≡ placed_in order k.now (map (λ (x : Bor X). x.now) ks)
 insert_key-now order [] k = refl
 insert_key-now order (x ∷ xs) k =
     ordering_cases (order k.now x.now) (λ h. rw h refl) (λ h. rw h refl) (λ h. rw h (ap (λ r. x.now ∷ r) (insert_key-now order xs k)))
@@ -39,7 +42,8 @@ map-map g f [] = refl
 map-map g f (x ∷ xs) = ap (λ r. g (f x) ∷ r) (map-map g f xs)
 
 -- what was read from the end of a list, turned round
-pub map_of_turned : {A B C : Type 0} (g : B → C) (f : A → B) (xs : List A) (ys : List B) → map f xs ≡ reverse ys → map (λ x. g (f x)) (reverse xs) ≡ map g ys
+pub map_of_turned : {A B C : Type 0} (g : B → C) (f : A → B) (xs : List A) (ys : List B) → map f xs ≡ reverse ys
+    → map (λ x. g (f x)) (reverse xs) ≡ map g ys
 map_of_turned g f xs ys e = sym (map-map g f (reverse xs)) ∙ ap (map g) (map-reverse f xs ∙ ap reverse e ∙ reverse-reverse ys)
 
 -- the least of a number and others
@@ -71,13 +75,16 @@ is_some_of-append (m ∷ ms) ns = refl
 
 list_any-is_number : (cells : List (Bor Cell)) → list_any is_number cells ≡ is_some_of (flat_map numbers_in (cells_of cells))
 list_any-is_number [] = refl
-list_any-is_number (cell ∷ cells) = ap (λ b. is_number cell || b) (list_any-is_number cells) ∙ sym (is_some_of-append (numbers_in cell.now) _)
+list_any-is_number (cell ∷ cells) =
+    ap (λ b. is_number cell || b) (list_any-is_number cells) ∙ sym (is_some_of-append (numbers_in cell.now) _)
 
-fold_numbers : (f : ℤ → ℤ → ℤ) (m : ℤ) (cells : List (Bor Cell)) → fold (λ m (cell : Bor Cell). fold f m (numbers_in cell.now)) m cells ≡ fold f m (flat_map numbers_in (cells_of cells))
+fold_numbers : (f : ℤ → ℤ → ℤ) (m : ℤ) (cells : List (Bor Cell))
+    → fold (λ m (cell : Bor Cell). fold f m (numbers_in cell.now)) m cells ≡ fold f m (flat_map numbers_in (cells_of cells))
 fold_numbers f m [] = refl
 fold_numbers f m (cell ∷ cells) = fold_numbers f (fold f m (numbers_in cell.now)) cells ∙ sym (fold-append f m (numbers_in cell.now) _)
 
-extremes_of : (ns : List ℤ) → with_zero (extent_of ns) ≡ (if is_some_of ns then (fold int_min (pos 0) ns, fold int_max (pos 0) ns) else (pos 0, pos million))
+extremes_of : (ns : List ℤ) → with_zero (extent_of ns) ≡ (if is_some_of ns then (fold int_min (pos 0) ns, fold int_max (pos 0) ns)
+    else (pos 0, pos million))
 extremes_of [] = refl
 extremes_of (m ∷ ms) = λ i. (sym (fold-int_min (pos 0) m ms) i, sym (fold-int_max (pos 0) m ms) i)
 

@@ -16,7 +16,7 @@ use Rattle.cell_value.specs.Datum.{Datum, datum_of}
 use Rattle.cell_value.specs.State.{Dataset, State, all_rows, ids_of, most_rows, greatest_id, ReadsItsId}
 use Rattle.param_flow.specs.Rows.{row_of_json}
 use Rattle.param_flow.specs.Machine.{new_rows}
-use Rattle.vega_model.specs.declared.spec.VgSpec.{VgSpec}
+use Rattle.bar_spec.specs.declared.spec.BarSpec.{BarSpec}
 use Rattle.vega_meaning.specs.Bars.{rows_of, scene_of_rows, vega_scene_of}
 use Rattle.vega_meaning.specs.States.{IsStateOf}
 use Rattle.row_edits.specs.Rows.{Fits}
@@ -75,7 +75,7 @@ apart : (ids : List ℕ) → AllPairs (λ a b. a < b) ids → AllPairs (λ a b. 
 apart ids h = λ i j d before in_it same. let lt = h i j d before in_it in omega arith
 
 -- the rows of a state of one source
-pub rows_in : (g : VgSpec) (next_id : ℕ) (rows : List Datum) → IsStateOf g (single g.source next_id rows) → AreRows next_id rows
+pub rows_in : (g : BarSpec) (next_id : ℕ) (rows : List Datum) → IsStateOf g (single g.source next_id rows) → AreRows next_id rows
 rows_in g next_id rows h =
     let all : all_rows (single g.source next_id rows) ≡ rows = append-nil rows in
     record {
@@ -86,7 +86,7 @@ rows_in g next_id rows h =
     }
 
 -- a state of one source
-pub state_from : (g : VgSpec) (next_id : ℕ) (rows : List Datum) → AreRows next_id rows → 1 ≤ next_id → next_id ≤ greatest_id + 1 → length rows ≤ most_rows → IsStateOf g (single g.source next_id rows)
+pub state_from : (g : BarSpec) (next_id : ℕ) (rows : List Datum) → AreRows next_id rows → 1 ≤ next_id → next_id ≤ greatest_id + 1 → length rows ≤ most_rows → IsStateOf g (single g.source next_id rows)
 state_from g next_id rows h from to few =
     let all : rows ≡ all_rows (single g.source next_id rows) = sym (append-nil rows) in
     record {
@@ -109,11 +109,11 @@ pub same_text : (text : List ℕ) → bytes_eq text text ≡ true
 same_text text = (bytes_eq-Decides text text).1 refl
 
 -- the scene of a state of one source
-pub scene_of_single : (g : VgSpec) (next_id : ℕ) (rows : List Datum) → vega_scene_of g (single g.source next_id rows) ≡ scene_of_rows g.x g.y rows
+pub scene_of_single : (g : BarSpec) (next_id : ℕ) (rows : List Datum) → vega_scene_of g (single g.source next_id rows) ≡ scene_of_rows g.x g.y rows
 scene_of_single g next_id rows = rw (same_text g.source)
 
 -- the state has one source
-pub one_of : (g : VgSpec) (next_id : ℕ) (sources : List Dataset) (params : List (List ℕ × Cell)) (stores : List StoreOf)
+pub one_of : (g : BarSpec) (next_id : ℕ) (sources : List Dataset) (params : List (List ℕ × Cell)) (stores : List StoreOf)
     → (let st : State = record { next_id = next_id; sources = sources; params = params; stores = stores } in IsStateOf g st → (rows : List Datum) × (st ≡ single g.source next_id rows))
 one_of g next_id [] params stores h = absurd (let e = h.sources in cc)
 one_of g next_id (source ∷ []) params stores h =
@@ -123,7 +123,7 @@ one_of g next_id (source ∷ []) params stores h =
 one_of g next_id (source ∷ other ∷ sources) params stores h = absurd (let e = h.sources in cc)
 
 -- the rows of a state of one source fit a chart, and their ids are in range
-pub rows_fit : (g : VgSpec) (next_id : ℕ) (rows : List Keyed) → IsStateOf g (single g.source next_id (map datum_of rows)) → Fits rows
+pub rows_fit : (g : BarSpec) (next_id : ℕ) (rows : List Keyed) → IsStateOf g (single g.source next_id (map datum_of rows)) → Fits rows
 rows_fit g next_id rows h =
     let all = ap length (append-nil (map datum_of rows)) in
     let below = (rows_in g next_id (map datum_of rows) h).below in
@@ -140,7 +140,7 @@ rows_of_single : (source : List ℕ) (next_id : ℕ) (rows : List Datum) → row
 rows_of_single source next_id rows = rw (same_text source)
 
 -- so do those of the source of any state of the specification
-pub source_fits : (g : VgSpec) (st : State) (rows : List Keyed) → IsStateOf g st → map datum_of rows ≡ rows_of st g.source → Fits rows
+pub source_fits : (g : BarSpec) (st : State) (rows : List Keyed) → IsStateOf g st → map datum_of rows ≡ rows_of st g.source → Fits rows
 source_fits g st rows h e =
     let one = one_of g st.next_id st.sources st.params st.stores h in
     let same : map datum_of rows ≡ one.0 = e ∙ ap (λ st. rows_of st g.source) one.1 ∙ rows_of_single g.source st.next_id one.0 in

@@ -1,5 +1,6 @@
 -- What is in range, and bounds on rounded quotients and multiples.
-use Rattle.std.proofs.Common.{◌≡◌, ℕ, ◌+◌, ◌*◌, ◌<◌, ◌≤◌, ◌/◌, ℤ, pos, negsuc, neg_ℤ, ◌≤ℤ◌, ◌<ℤ◌, ◌+ℤ◌, ◌*ℤ◌, Option, arith, refl, ap, ◌∙◌, unsigned_abs}
+use Rattle.std.proofs.Common.{◌≡◌, ℕ, ◌+◌, ◌*◌, ◌<◌, ◌≤◌, ◌/◌, ℤ, pos, negsuc, neg_ℤ, ◌≤ℤ◌, ◌<ℤ◌, ◌+ℤ◌, ◌*ℤ◌, Option, arith, refl, ap, ◌∙◌}
+use Rattle.std.proofs.Common.{unsigned_abs}
 use Rattle.std.specs.Option.{SomeIff}
 use Rattle.std.proofs.lemmas.Int.{ints}
 use Rattle.std.proofs.Math.IntN.{*ℤ-one}
@@ -28,7 +29,8 @@ rounded_ratio_above p (pos q) h = refl
 rounded_ratio_above p (negsuc q) h = absurd (omega (arith, ints))
 
 -- a number moved by a quotient
-pub in_range_from_along : (o : Option ℤ) (start p q : ℤ) → pos 0 <ℤ q → SomeIff o (IsNumber (start +ℤ rounded_ratio p q)) (start +ℤ rounded_ratio p q) → o ≡ in_range (start +ℤ rounded p (unsigned_abs q))
+pub in_range_from_along : (o : Option ℤ) (start p q : ℤ) → pos 0 <ℤ q
+    → SomeIff o (IsNumber (start +ℤ rounded_ratio p q)) (start +ℤ rounded_ratio p q) → o ≡ in_range (start +ℤ rounded p (unsigned_abs q))
 in_range_from_along o start p q h exact =
     in_range_from_exact o _ exact ∙ ap (λ x. in_range (start +ℤ x)) (rounded_ratio_above p q (omega (arith, ints)))
 

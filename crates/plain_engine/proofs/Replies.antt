@@ -15,7 +15,7 @@ use Rattle.param_flow.specs.Rows.{first_bad}
 use Rattle.param_flow.specs.Semantics.{Semantics}
 use Rattle.param_flow.specs.Machine.{is_past_limit, has_names, reply_to_state, reply_to_change, state_changed, state_if, reply_of}
 use Rattle.param_flow.specs.Machine.{state_after}
-use Rattle.vega_model.specs.declared.spec.VgSpec.{VgSpec}
+use Rattle.bar_spec.specs.declared.spec.BarSpec.{BarSpec}
 use Rattle.vega_meaning.specs.Semantics.{vega_semantics}
 use Rattle.plain_engine.specs.inner.Sources.{reply_within}
 
@@ -40,7 +40,7 @@ first_holds : (a b : Bool) → ((a || false) && b) ≡ true → a ≡ true
 first_holds true b h = refl
 first_holds false b h = absurd (cc)
 
-module _ (g : VgSpec) (name : List ℕ) (change : ChangeOf) (has : has_names (vega_semantics g) name change ≡ true) where
+module _ (g : BarSpec) (name : List ℕ) (change : ChangeOf) (has : has_names (vega_semantics g) name change ≡ true) where
   -- the source has the name
   pub is_named : g.source ≡ name
   is_named = (bytes_eq-Decides g.source name).0 (first_holds (bytes_eq g.source name) _ has)

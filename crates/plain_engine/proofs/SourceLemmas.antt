@@ -15,7 +15,9 @@ use Rattle.cell_value.specs.State.{Dataset, dataset_of}
 
 -- the rows of the first source of a name, as they are read
 abbrev pub rows_under : List ℕ → List Named → List Datum
-rows_under name sources = unwrap_or (option_map (λ (source : Dataset). source.rows) (find (λ (source : Dataset). bytes_eq source.name name) (map dataset_of sources))) []
+rows_under name sources =
+    unwrap_or (option_map (λ (source : Dataset). source.rows)
+    (find (λ (source : Dataset). bytes_eq source.name name) (map dataset_of sources))) []
 
 -- how many rows sources have
 abbrev pub count_of : List Named → ℕ
@@ -24,4 +26,5 @@ count_of sources = length (flat_map (λ (source : Dataset). source.rows) (map da
 -- the same scene is drawn of what is the same
 pub drawn_of : (x y name_x name_y : List ℕ) (rows all : List Keyed) (answer : Result Scene OpenError) → x ≡ name_x → y ≡ name_y → rows ≡ all
     → Draws (scene_of_rows x y (map datum_of rows)) answer → Draws (scene_of_rows name_x name_y (map datum_of all)) answer
-drawn_of x y name_x name_y rows all answer p q r = subst (λ outcome. Draws outcome answer) (λ i. scene_of_rows (p i) (q i) (map datum_of (r i)))
+drawn_of x y name_x name_y rows all answer p q r =
+    subst (λ outcome. Draws outcome answer) (λ i. scene_of_rows (p i) (q i) (map datum_of (r i)))

@@ -1,5 +1,6 @@
 -- Why the powers of ten in turn give the step, and why a domain that stays may be left.
-use Rattle.std.proofs.Common.{◌≡◌, ℕ, ◌+◌, ◌*◌, ◌^◌, ◌<◌, ◌≤◌, ℤ, Bool, Option, Some, None, zero, suc, nat_lt, nat_le, if◌then◌else◌, ⊎_elim, arith, refl, sym, ap, ◌∙◌, add-one}
+use Rattle.std.proofs.Common.{◌≡◌, ℕ, ◌+◌, ◌*◌, ◌^◌, ◌<◌, ◌≤◌, ℤ, Bool, Option, Some, None, zero, suc, nat_lt, nat_le, if◌then◌else◌}
+use Rattle.std.proofs.Common.{⊎_elim, arith, refl, sym, ap, ◌∙◌, add-one}
 use Rattle.std.specs.List.{find}
 use Rattle.std.specs.Option.{option_map, option_or}
 use Rattle.std.proofs.lemmas.List.Folds.{find-append}
@@ -14,13 +15,15 @@ found_later : (p : ℕ × ℕ → Bool) (n m : ℕ) (s : ℕ × ℕ) → find p 
 found_later p n zero s found h = let e : n ≡ 0 = omega arith in ap (λ k. find p (steps_below k)) (sym e) ∙ found
 found_later p n (suc m) s found h =
     ⊎_elim
-    (λ (l : n < suc m). let below : n ≤ m = omega arith in find-append p (steps_below m) (steps_at (10 ^ m)) ∙ ap (λ o. option_or o (find p (steps_at (10 ^ m)))) (found_later p n m s found below))
+    (λ (l : n < suc m). let below : n ≤ m = omega arith in find-append p (steps_below m) (steps_at (10 ^ m))
+    ∙ ap (λ o. option_or o (find p (steps_at (10 ^ m)))) (found_later p n m s found below))
     (λ (l : suc m ≤ n). let e : suc m ≡ n = omega arith in ap (λ k. find p (steps_below k)) e ∙ found)
     (cases_lt n (suc m))
 
 -- the steps of the n-th power are looked at after those below it
 found_at : (p : ℕ × ℕ → Bool) (n : ℕ) → find p (steps_below n) ≡ None → find p (steps_below (n + 1)) ≡ find p (steps_at (10 ^ n))
-found_at p n none = ap (λ k. find p (steps_below k)) (add-one n) ∙ find-append p (steps_below n) (steps_at (10 ^ n)) ∙ ap (λ o. option_or o (find p (steps_at (10 ^ n)))) none
+found_at p n none = ap (λ k. find p (steps_below k)) (add-one n) ∙ find-append p (steps_below n) (steps_at (10 ^ n))
+    ∙ ap (λ o. option_or o (find p (steps_at (10 ^ n)))) none
 
 -- the test of a step for so many ticks over a span
 abbrev pub is_taken : ℕ → ℕ → ℕ × ℕ → Bool
@@ -34,20 +37,26 @@ none_found : (o : Option (ℕ × ℕ)) → None ≡ option_map (λ (s : ℕ × �
 none_found None h = refl
 none_found (Some s) h = cc
 
-step_of_found : (span count n : ℕ) (s : ℕ × ℕ) → n < 23 → find (is_taken span count) (steps_below n) ≡ None → find (is_taken span count) (steps_at (10 ^ n)) ≡ Some s → step_of span count ≡ (if nat_le s.0 limit then Some s.0 else None)
+step_of_found : (span count n : ℕ) (s : ℕ × ℕ) → n < 23 → find (is_taken span count) (steps_below n) ≡ None
+    → find (is_taken span count) (steps_at (10 ^ n)) ≡ Some s → step_of span count ≡ (if nat_le s.0 limit then Some s.0 else None)
 unfolding step_of
 step_of_found span count n s h none found =
-    ap (λ o. o >>= (λ (step : ℕ × ℕ). if nat_le step.0 limit then Some step.0 else None)) (found_later (is_taken span count) (n + 1) 23 s (found_at _ n none ∙ found) (omega arith))
+    ap (λ o. o >>= (λ (step : ℕ × ℕ). if nat_le step.0 limit then Some step.0 else None))
+    (found_later (is_taken span count) (n + 1) 23 s (found_at _ n none ∙ found) (omega arith))
 
 -- the first step that is taken decides
-pub step_of_taken : (span count n power step : ℕ) → n < 23 → power ≡ 10 ^ n → find (is_taken span count) (steps_below n) ≡ None → Some step ≡ option_map (λ (s : ℕ × ℕ). s.0) (find (is_taken span count) (steps_at power)) → step_of span count ≡ (if nat_le step limit then Some step else None)
+pub step_of_taken : (span count n power step : ℕ) → n < 23 → power ≡ 10 ^ n → find (is_taken span count) (steps_below n) ≡ None
+    → Some step ≡ option_map (λ (s : ℕ × ℕ). s.0) (find (is_taken span count) (steps_at power))
+    → step_of span count ≡ (if nat_le step limit then Some step else None)
 step_of_taken span count n power step h e none found =
-    let at : Some step ≡ option_map (λ (s : ℕ × ℕ). s.0) (find (is_taken span count) (steps_at (10 ^ n))) = found ∙ ap (λ x. option_map (λ (s : ℕ × ℕ). s.0) (find (is_taken span count) (steps_at x))) e in
+    let at : Some step ≡ option_map (λ (s : ℕ × ℕ). s.0) (find (is_taken span count) (steps_at (10 ^ n))) =
+    found ∙ ap (λ x. option_map (λ (s : ℕ × ℕ). s.0) (find (is_taken span count) (steps_at x))) e in
     let part = found_part _ step at in
     rw (part.2) (step_of_found span count n part.0 h none part.1)
 
 -- where none is taken up to a power, the next power is tried
-pub steps_passed : (p : ℕ × ℕ → Bool) (n power : ℕ) → power ≡ 10 ^ n → find p (steps_below n) ≡ None → None ≡ option_map (λ (s : ℕ × ℕ). s.0) (find p (steps_at power)) → find p (steps_below (n + 1)) ≡ None
+pub steps_passed : (p : ℕ × ℕ → Bool) (n power : ℕ) → power ≡ 10 ^ n → find p (steps_below n) ≡ None
+    → None ≡ option_map (λ (s : ℕ × ℕ). s.0) (find p (steps_at power)) → find p (steps_below (n + 1)) ≡ None
 steps_passed p n power e none next =
     found_at p n none ∙ none_found _ (next ∙ ap (λ x. option_map (λ (s : ℕ × ℕ). s.0) (find p (steps_at x))) e)
 
@@ -65,5 +74,7 @@ pub power_in_reach : (n : ℕ) → n < 23 → 10 ^ n ≤ 10 * limit
 power_in_reach n h = let low : 0 < 10 = omega arith in let at : n ≤ 22 = omega arith in pow-le-pow_right low at
 
 -- one turn, and the turns after it
-pub widened_times_more : (n k count : ℕ) (domain : ℤ × ℤ) (wider : Option (ℤ × ℤ)) → n ≡ k + 1 → wider ≡ widened count domain → widened_times n count domain ≡ (wider >>= widened_times k count)
-widened_times_more n k count domain wider e h = ap (λ j. widened_times j count domain) (e ∙ add-one k) ∙ ap (λ o. o >>= widened_times k count) (sym h)
+pub widened_times_more : (n k count : ℕ) (domain : ℤ × ℤ) (wider : Option (ℤ × ℤ)) → n ≡ k + 1 → wider ≡ widened count domain
+    → widened_times n count domain ≡ (wider >>= widened_times k count)
+widened_times_more n k count domain wider e h =
+    ap (λ j. widened_times j count domain) (e ∙ add-one k) ∙ ap (λ o. o >>= widened_times k count) (sym h)

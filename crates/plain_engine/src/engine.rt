@@ -10,6 +10,7 @@ ghost use Rattle.plain_engine.specs.inner.Kept.{IsKept, IsKept-prop};
 use crate::json_rows::first_bad;
 use crate::mentions::has_names;
 use crate::sources::{change_source, scene_of_state};
+use bar_spec::BarSpec;
 use cell_value::{ChartState, Steps};
 use chart_io::{Sink, WriteFault};
 use param_flow::{Cause, ChangeOf, Command, Reply};
@@ -20,12 +21,11 @@ use std::sync::ledger::Ledger;
 use svg_text::print;
 use text_kit::{OutOfMemory, Text};
 use vega_meaning::OpenError;
-use vega_model::VgSpec;
 
 /// An engine that evaluates the whole chart after each command. It keeps its state, and the scene of that.
 #[derive(Debug, Drop)]
 pub struct PlainEngine {
-    spec: VgSpec,
+    spec: BarSpec,
     state: ChartState,
     scene: Scene,
     ghost kept: { IsKept spec state scene } by { IsKept-prop spec state scene },
@@ -35,7 +35,7 @@ impl PlainEngine {
     ghost use Rattle.plain_engine.specs.Engine.{meaning_of, Opens};
 
     /// Opens a specification in a state of it. `Overflow` and `Panels` come exactly where its chart is that.
-    pub fn open(alloc: Global, g: VgSpec, st: ChartState) -> Result<PlainEngine, OpenError>
+    pub fn open(alloc: Global, g: BarSpec, st: ChartState) -> Result<PlainEngine, OpenError>
         requires { IsStateOf g (state_of st) }
         ensures { Opens (record { spec = g; state = state_of st }) result }
     {

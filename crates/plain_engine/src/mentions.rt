@@ -8,11 +8,11 @@ ghost use Rattle.param_flow.specs.Machine.{has_names};
 ghost use Rattle.vega_meaning.specs.Semantics.{vega_semantics};
 ghost use Rattle.plain_engine.specs.inner.Mentions.{are_none};
 
+use bar_spec::BarSpec;
 use expr_syntax::{Expr, names_of};
 use param_flow::{ChangeOf, Modify};
 use std::alloc::Global;
 use text_kit::OutOfMemory;
-use vega_model::VgSpec;
 
 // Whether an expression mentions no parameter.
 fn is_free(alloc: Global, e: &Expr) -> Result<bool, OutOfMemory>
@@ -58,7 +58,7 @@ fn are_entries_free(alloc: Global, entries: &[Modify]) -> Result<bool, OutOfMemo
 /// yet.
 pub fn has_names(
     alloc: Global,
-    g: &VgSpec,
+    g: &BarSpec,
     name: &str,
     change: &ChangeOf,
 ) -> Result<bool, OutOfMemory>

@@ -15,6 +15,7 @@ ghost use Rattle.plain_engine.specs.inner.Sources.{single, rows_changed, reply_o
 
 use crate::json_rows::new_rows;
 use crate::scene::scene_of;
+use bar_spec::BarSpec;
 use cell_value::{ChartState, Keyed, Named, Rows};
 use expr_eval::NoParams;
 use param_flow::{Cause, ChangeOf, Reply};
@@ -24,7 +25,6 @@ use std::alloc::Global;
 use std::mem::replace;
 use text_kit::{OutOfMemory, Seq};
 use vega_meaning::OpenError;
-use vega_model::VgSpec;
 
 /// How many rows a chart may have.
 pub const MOST_ROWS: usize = 200_000;
@@ -61,7 +61,7 @@ fn all_of<'a>(alloc: Global, rows: &'a [Keyed]) -> Result<Vec<&'a Keyed>, OutOfM
 }
 
 /// The scene of a specification over a state of it.
-pub fn scene_of_state(alloc: Global, g: &VgSpec, st: &ChartState) -> Result<Scene, OpenError>
+pub fn scene_of_state(alloc: Global, g: &BarSpec, st: &ChartState) -> Result<Scene, OpenError>
     requires { IsStateOf g.now (state_of st.now) }
     ensures { Draws (vega_scene_of g.now (state_of st.now)) result }
 {
@@ -72,7 +72,7 @@ pub fn scene_of_state(alloc: Global, g: &VgSpec, st: &ChartState) -> Result<Scen
 // The scene of rows after their edits, with rows that are added at the end.
 fn scene_after(
     alloc: Global,
-    g: &VgSpec,
+    g: &BarSpec,
     rows: &[Keyed],
     edits: &[Edit],
     more: &[Keyed],
@@ -88,7 +88,7 @@ fn scene_after(
 // memory is refused, all stays.
 fn put_rows(
     alloc: Global,
-    g: &VgSpec,
+    g: &BarSpec,
     rows: &mut Rows,
     scene: &mut Scene,
     edits: Seq<Edit>,
@@ -117,7 +117,7 @@ fn put_rows(
 // Does a change of rows. Where it is refused, or memory is, all stays.
 fn change_rows(
     alloc: Global,
-    g: &VgSpec,
+    g: &BarSpec,
     rows: &mut Rows,
     scene: &mut Scene,
     next_id: u64,
@@ -156,7 +156,7 @@ fn place_of(sources: &[Named], name: &str) -> Option<usize>
 /// Does a change of the source of a specification, over a state of it and the scene of that. Where it is refused, or memory is, all stays.
 pub fn change_source(
     alloc: Global,
-    g: &VgSpec,
+    g: &BarSpec,
     st: &mut ChartState,
     scene: &mut Scene,
     change: &ChangeOf,

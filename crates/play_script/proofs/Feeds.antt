@@ -25,7 +25,8 @@ returns_at_feed : (rest : List ℕ) → without_returns (10 ∷ rest) ≡ 10 ∷
 returns_at_feed [] = refl
 returns_at_feed (c ∷ rest) = refl
 
-returns_before_feed : (line rest : List ℕ) → HasNoFeed line → without_returns (line ++ 10 ∷ rest) ≡ without_last_return line ++ 10 ∷ without_returns rest
+returns_before_feed : (line rest : List ℕ) → HasNoFeed line
+    → without_returns (line ++ 10 ∷ rest) ≡ without_last_return line ++ 10 ∷ without_returns rest
 returns_before_feed [] rest h = returns_at_feed rest
 returns_before_feed (b ∷ []) rest h = at_the_last b (without_returns (10 ∷ rest)) (without_returns rest) (eqb b 13) (returns_at_feed rest)
 returns_before_feed (b ∷ c ∷ line) rest h =
@@ -47,7 +48,8 @@ no_feed_before : (line : List ℕ) → HasNoFeed line → HasNoFeed (without_las
 no_feed_before [] h = h
 no_feed_before (b ∷ []) h = last_of_one b (eqb b 13) h
 no_feed_before (b ∷ c ∷ line) h =
-    All-cons NotFeed b (without_last_return (c ∷ line)) (All-head NotFeed b (c ∷ line) h) (no_feed_before (c ∷ line) (All-tail NotFeed b (c ∷ line) h))
+    All-cons NotFeed b (without_last_return (c ∷ line)) (All-head NotFeed b (c ∷ line) h)
+    (no_feed_before (c ∷ line) (All-tail NotFeed b (c ∷ line) h))
 
 -- a line before a line feed, and the lines after it
 pub line_at_feed : (line rest : List ℕ) → HasNoFeed line → lines_of (line ++ 10 ∷ rest) ≡ without_last_return line ∷ lines_of rest

@@ -1,6 +1,5 @@
 mod CommandForms
 mod CommandLines
-mod FoundEntries
 pub mod Feeds
 pub mod Split
 pub mod Sinks

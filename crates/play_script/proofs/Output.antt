@@ -1,5 +1,6 @@
 -- From a state whose chart is drawn each line has a reply, and so lines have an output; the chart of the state after them is drawn.
-use Rattle.std.proofs.Common.{◌≡◌, ◌≢◌, ℕ, suc, nat_lt, not, Bool, true, false, List, [], ◌∷◌, ◌++◌, length, Option, Some, None, Result, Ok, Err, if◌then◌else◌, refl, sym, ◌∙◌, ltb-true, ltb-false}
+use Rattle.std.proofs.Common.{◌≡◌, ◌≢◌, ℕ, suc, nat_lt, not, Bool, true, false, List, [], ◌∷◌, ◌++◌, length, Option, Some, None, Result, Ok}
+use Rattle.std.proofs.Common.{Err, if◌then◌else◌, refl, sym, ◌∙◌, ltb-true, ltb-false}
 use Rattle.cell_value.specs.State.{State}
 use Rattle.scene_tree.specs.Outcome.{Outcome, Drawn, Overflow, Panels}
 use Rattle.json_exact.proofs.Sound.{text_sound}
@@ -14,10 +15,12 @@ use Rattle.param_flow.specs.declared.reply.Reply.TheVariants.{Done, Refused}
 use Rattle.param_flow.specs.declared.reply.Cause.TheVariants as cause
 use Rattle.param_flow.specs.Commands.{IsCommand, command_of}
 use Rattle.param_flow.specs.Semantics.{Semantics, has_settable}
-use Rattle.param_flow.specs.Machine.{reply_to_chart, reply_to_rows, reply_to_state, reply_to_change, reply_to_set, reply_of, has_names, state_if, state_after, state_changed, state_set, is_past_limit}
+use Rattle.param_flow.specs.Machine.{reply_to_chart, reply_to_rows, reply_to_state, reply_to_change, reply_to_set, reply_of, has_names}
+use Rattle.param_flow.specs.Machine.{state_if, state_after, state_changed, state_set, is_past_limit}
 use Rattle.param_flow.specs.Rows.{first_bad}
 use Rattle.param_flow.specs.Playing.{IsReply, reply_text, refused, printed, told}
-use Rattle.param_flow.specs.Script.{IsLine, IsOutput, is_silent, most_line_bytes, refused_line, silent, too_long, replied, no_line, one_line}
+use Rattle.param_flow.specs.Script.{IsLine, IsOutput, is_silent, most_line_bytes, refused_line, silent, too_long, replied, no_line}
+use Rattle.param_flow.specs.Script.{one_line}
 use Rattle.play_script.specs.inner.Once.{read_command, is_command}
 use Rattle.play_script.specs.inner.Reading.{script_expression}
 
@@ -82,7 +85,13 @@ module _ (meaning : Semantics) where
 
   module _ (st : State) (n : ℕ) (line : List ℕ) (drawn : HasPicture st) where
     told_line : (c : Command) → IsCommand line c → c ≢ Print → HasReply (IsReply meaning st n line)
-    told_line c is other = record { reply = reply_text (reply_of meaning st c); note = []; now = state_after meaning st c; is = told st n line c is other; drawn = after_drawn st c drawn }
+    told_line c is other = record {
+      reply = reply_text (reply_of meaning st c);
+      note = [];
+      now = state_after meaning st c;
+      is = told st n line c is other;
+      drawn = after_drawn st c drawn;
+    }
 
     command_line : (c : Command) → IsCommand line c → HasReply (IsReply meaning st n line)
     command_line (Change name change) is = told_line (Change name change) is (λ e. absurd cc)
@@ -94,7 +103,8 @@ module _ (meaning : Semantics) where
     refused_one none = record { reply = refused_line; note = []; now = st; is = refused st n line none; drawn = drawn }
 
     -- a line that reads as a tree is a command or none
-    by_command : (tree : Json) → Reads line tree → (o : Option Command) → command_of script_expression tree ≡ o → HasReply (IsReply meaning st n line)
+    by_command : (tree : Json) → Reads line tree → (o : Option Command) → command_of script_expression tree ≡ o
+        → HasReply (IsReply meaning st n line)
     by_command tree reads (Some c) e = command_line c (is_command line tree reads c e)
     by_command tree reads None e = refused_one (λ c is.
         let both : Some c ≡ None = sym (read_command line tree reads c is) ∙ e in
@@ -104,12 +114,25 @@ module _ (meaning : Semantics) where
     by_tree (Ok tree) e = by_command tree (text_sound line tree e) (command_of script_expression tree) refl
     by_tree (Err k) e = refused_one (λ c is. is_fault line k e is.tree is.reads)
 
-    by_length : is_silent line ≡ false → (b : Bool) → nat_lt most_line_bytes (length line) ≡ b → HasReply (IsLine (IsReply meaning) st n line)
+    by_length : is_silent line ≡ false → (b : Bool) → nat_lt most_line_bytes (length line) ≡ b
+        → HasReply (IsLine (IsReply meaning) st n line)
     by_length loud true e =
-        record { reply = refused_line; note = []; now = st; is = too_long st n line loud (ltb-true most_line_bytes (length line) e); drawn = drawn }
+        record {
+          reply = refused_line;
+          note = [];
+          now = st;
+          is = too_long st n line loud (ltb-true most_line_bytes (length line) e);
+          drawn = drawn;
+        }
     by_length loud false e =
         let r = by_tree (text_at line) refl in
-        record { reply = r.reply; note = r.note; now = r.now; is = replied st r.now n line r.reply r.note loud (ltb-false most_line_bytes (length line) e) r.is; drawn = r.drawn }
+        record {
+          reply = r.reply;
+          note = r.note;
+          now = r.now;
+          is = replied st r.now n line r.reply r.note loud (ltb-false most_line_bytes (length line) e) r.is;
+          drawn = r.drawn;
+        }
 
     a_line : (b : Bool) → is_silent line ≡ b → HasReply (IsLine (IsReply meaning) st n line)
     a_line true e = record { reply = []; note = []; now = st; is = silent st n line e; drawn = drawn }
@@ -121,4 +144,10 @@ module _ (meaning : Semantics) where
   has_output st n (line ∷ lines) drawn =
       let r = a_line st n line drawn (is_silent line) refl in
       let o = has_output r.now (suc n) lines r.drawn in
-      record { reply = r.reply ++ o.reply; note = r.note ++ o.note; now = o.now; is = one_line st r.now o.now n line r.reply r.note o.reply o.note lines r.is o.is; drawn = o.drawn }
+      record {
+        reply = r.reply ++ o.reply;
+        note = r.note ++ o.note;
+        now = o.now;
+        is = one_line st r.now o.now n line r.reply r.note o.reply o.note lines r.is o.is;
+        drawn = o.drawn;
+      }

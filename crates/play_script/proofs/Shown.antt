@@ -1,5 +1,6 @@
 -- What is kept of a line, and what is shown of it.
-use Rattle.std.proofs.Common.{◌⊎◌, inl, inr, ◌≡◌, ◌≢◌, ℕ, zero, suc, ◌+◌, ◌-◌, ◌≤◌, ◌<◌, Bool, true, false, cond, List, [], ◌∷◌, ◌++◌, length, take, get_or, refl, sym, ap, ◌∙◌, arith, length-take, ne_eqb}
+use Rattle.std.proofs.Common.{◌⊎◌, inl, inr, ◌≡◌, ◌≢◌, ℕ, zero, suc, ◌+◌, ◌-◌, ◌≤◌, ◌<◌, Bool, true, false, cond, List, [], ◌∷◌, ◌++◌}
+use Rattle.std.proofs.Common.{length, take, get_or, refl, sym, ap, ◌∙◌, arith, length-take, ne_eqb}
 use Rattle.std.proofs.lemmas.Grind.{common_steps}
 use Rattle.std.proofs.lemmas.Bool.{cases_lt}
 use Rattle.param_flow.specs.Script.{is_silent, most_line_bytes}
@@ -29,7 +30,8 @@ other_kept [] last h = ap (λ x. cond x [] (last ∷ [])) (ne_eqb last 13 h)
 other_kept (b ∷ []) last h = ap (λ xs. b ∷ xs) (other_kept [] last h)
 other_kept (b ∷ c ∷ front) last h = ap (λ xs. b ∷ xs) (other_kept (c ∷ front) last h)
 
-pub last_dropped : (line : List ℕ) (d : ℕ) → 1 ≤ length line → get_or line (length line - 1) d ≡ 13 → take (length line - 1) line ≡ without_last_return line
+pub last_dropped : (line : List ℕ) (d : ℕ) → 1 ≤ length line → get_or line (length line - 1) d ≡ 13
+    → take (length line - 1) line ≡ without_last_return line
 last_dropped line d some e =
     let parts : line ≡ take (length line - 1) line ++ get_or line (length line - 1) d ∷ [] = grind (arith, common_steps) in
     sym (ap without_last_return (parts ∙ ap (λ b. take (length line - 1) line ++ b ∷ []) e) ∙ return_dropped (take (length line - 1) line))
@@ -58,7 +60,8 @@ front_silence (suc n) (b ∷ line) h = refl
 front_silence zero (b ∷ line) h = absurd (omega arith)
 
 -- a line that is kept whole, and one that is too long
-shown_of : (n : ℕ) (feed : Bool) (line : List ℕ) → n ≡ most_line_bytes → (n + 2 < length line) ⊎ (length line ≤ n + 2) → IsShownOf (ended_by feed line) (ended_by feed (take (n + 2) line))
+shown_of : (n : ℕ) (feed : Bool) (line : List ℕ) → n ≡ most_line_bytes → (n + 2 < length line) ⊎ (length line ≤ n + 2)
+    → IsShownOf (ended_by feed line) (ended_by feed (take (n + 2) line))
 shown_of n feed line same (inr whole) =
     let all : take (n + 2) line ≡ line = grind (arith, common_steps) in
     let e : ended_by feed (take (n + 2) line) ≡ ended_by feed line = ap (ended_by feed) all in
@@ -68,10 +71,12 @@ shown_of n feed line same (inl more) =
     let kept = one_shorter feed (take (n + 2) line) in
     let all = one_shorter feed line in
     record {
-      silence = same_silence feed (take (n + 2) line) (omega arith) ∙ front_silence (n + 2) line (omega arith) ∙ sym (same_silence feed line (omega arith));
+      silence = same_silence feed (take (n + 2) line) (omega arith) ∙ front_silence (n + 2) line (omega arith)
+          ∙ sym (same_silence feed line (omega arith));
       short = λ short. absurd (omega arith);
       long = λ long. omega arith;
     }
 
-pub is_shown : (feed : Bool) (first line shown : List ℕ) → first ≡ take (most_line_bytes + 2) line → shown ≡ ended_by feed first → IsShownOf (ended_by feed line) shown
+pub is_shown : (feed : Bool) (first line shown : List ℕ) → first ≡ take (most_line_bytes + 2) line → shown ≡ ended_by feed first
+    → IsShownOf (ended_by feed line) shown
 is_shown feed first line shown e is = rw is (rw e (shown_of most_line_bytes feed line refl (cases_lt (most_line_bytes + 2) (length line))))

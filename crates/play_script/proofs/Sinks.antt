@@ -1,5 +1,6 @@
 -- What sinks tell, step by step.
-use Rattle.std.proofs.Common.{arith, refl, ◌≡◌, ℕ, ◌≤◌, List, [], ◌++◌, length, take, Option, Some, None, sym, ap, ◌∙◌, subst, append_assoc, append-nil}
+use Rattle.std.proofs.Common.{arith, refl, ◌≡◌, ℕ, ◌≤◌, List, [], ◌++◌, length, take, Option, Some, None, sym, ap, ◌∙◌, subst, append_assoc}
+use Rattle.std.proofs.Common.{append-nil}
 use Rattle.std.proofs.lemmas.Grind.{common_steps}
 use Rattle.std.proofs.lemmas.List.{take_at}
 use Rattle.chart_io.proofs.Written.{prefix_within}
@@ -7,8 +8,11 @@ use Rattle.chart_io.specs.Outside.{Rose, Kept, Appended, AppendedPrefix}
 use Rattle.play_script.specs.Played.{Sinks, AreWritten}
 
 front_of : (held a b : List ℕ) → (length held ≤ length (held ++ a)) × (held ++ a ≡ take (length (held ++ a)) (held ++ (a ++ b)))
-front_of held a b =
-    (grind (arith, common_steps), sym (ap (λ xs. take (length (held ++ a)) xs) (sym (append_assoc held a b)) ∙ take_at (held ++ a) b (length (held ++ a)) refl))
+front_of held a b = (
+  grind (arith, common_steps),
+  sym (ap (λ xs. take (length (held ++ a)) xs) (sym (append_assoc held a b))
+      ∙ take_at (held ++ a) b (length (held ++ a)) refl),
+)
 
 -- what was appended begins what goes on after it
 pub appended_front : (old now : Option (List ℕ)) (a b : List ℕ) → Appended old now a → AppendedPrefix old now (a ++ b)
@@ -28,7 +32,8 @@ begins_longer None now a b h = tt
 begins_longer (Some held) None a b h = absurd h
 begins_longer (Some held) (Some all) a b h = longer held a b all h.0 h.1
   where
-    longer : (held a b all : List ℕ) → length held ≤ length all → all ≡ take (length all) (held ++ a) → (length held ≤ length all) × (all ≡ take (length all) (held ++ (a ++ b)))
+    longer : (held a b all : List ℕ) → length held ≤ length all → all ≡ take (length all) (held ++ a)
+        → (length held ≤ length all) × (all ≡ take (length all) (held ++ (a ++ b)))
     longer held a b all more begun = grind (arith, common_steps)
 
 pub kept_begins : (old now : Option (List ℕ)) → Kept old now → AppendedPrefix old now []
@@ -40,7 +45,8 @@ pub appended_both : (old mid now : Option (List ℕ)) (a b : List ℕ) → Appen
 appended_both None mid now a b before after = tt
 appended_both (Some held) mid now a b before after = (rw before at after) ∙ ap Some (append_assoc held a b)
 
-pub begun_both : (old mid now : Option (List ℕ)) (a b : List ℕ) → Appended old mid a → AppendedPrefix mid now b → AppendedPrefix old now (a ++ b)
+pub begun_both : (old mid now : Option (List ℕ)) (a b : List ℕ) → Appended old mid a → AppendedPrefix mid now b
+    → AppendedPrefix old now (a ++ b)
 begun_both old mid now a b before after =
     prefix_within old mid now a b [] (a ++ b) (sym (append-nil (a ++ b))) before after
 
@@ -54,7 +60,8 @@ rose_then a b c more rose = grind arith
 -- what holds of the texts of a writing, and of the two after each other
 pub map_written : (How : Option (List ℕ) → Option (List ℕ) → List ℕ → Type 0) (Holds Others : List ℕ → List ℕ → Type 0) (before now : Sinks)
     → ((a b : List ℕ) → Holds a b → Others a b) → AreWritten How Holds before now → AreWritten How Others before now
-map_written How Holds Others before now more w = record { out = w.out; notes = w.notes; is = more w.out w.notes w.is; appended = w.appended; noted = w.noted }
+map_written How Holds Others before now more w =
+    record { out = w.out; notes = w.notes; is = more w.out w.notes w.is; appended = w.appended; noted = w.noted }
 
 pub join_written : (How : Option (List ℕ) → Option (List ℕ) → List ℕ → Type 0)
     → ((old mid now : Option (List ℕ)) (a b : List ℕ) → Appended old mid a → How mid now b → How old now (a ++ b))

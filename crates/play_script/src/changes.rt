@@ -95,7 +95,7 @@ fn modify_in(alloc: Global, tree: &Json) -> Result<Modify, LineError>
 }
 
 // The entries of a change.
-#[tactic(auto, using(crate::proofs::FoundEntries::one_more))]
+#[tactic(auto, using(fixed_num::proofs::FoundLemmas::one_more))]
 fn entries_in(alloc: Global, entries: &[Json]) -> Result<Seq<Modify>, LineError>
     ensures { ReadsAs result (all_found (map (modify_in script_expression) entries.now)) }
 {

@@ -11,23 +11,16 @@ use crate::lines::{answer_line, take_piece};
 use crate::pending::Pending;
 use crate::{Lines, PlayError};
 use cell_value::Steps;
-use chart_io::{Failed, Sink, Source};
+use chart_io::{Failed, Sink, Source, zeros};
 use std::alloc::Global;
 use std::sync::ledger::Ledger;
+use text_kit::OutOfMemory;
 
 /// How many bytes a script may have.
 const MOST_SCRIPT_BYTES: usize = 268_435_456;
 
 /// How many bytes are read at a time.
 const PIECE_BYTES: usize = 65_536;
-
-// A buffer of this many bytes.
-fn zeros(alloc: Global, len: usize) -> Result<Vec<u8>, PlayError>
-    ensures len { IfOk result (λ buffer. length buffer.items ≡ len) }
-    ensures memory { IfErr result (λ cause. cause ≡ Memory) }
-{
-    Ok(vec![in alloc; 0u8; len]?)
-}
 
 // Reads at most so many of the next bytes of a script into the buffer.
 fn read_some<S: Source>(script: &mut S, buffer: &mut [u8], most: usize) -> Result<usize, PlayError>
@@ -158,7 +151,7 @@ pub fn play_lines<T, R: Lines<T>, S: Source, K: Sink, N: Sink, L: Ledger>(
 {
     let mut buffer = match zeros(alloc, PIECE_BYTES) {
         Ok(buffer) => buffer,
-        Err(cause) => return Err(cause),
+        Err(OutOfMemory) => return Err(PlayError::Memory),
     };
     let mut line = Pending::new(alloc);
     play_pieces(

@@ -4,7 +4,8 @@ ghost use Rattle.std.specs.List.{flat_map};
 ghost use Rattle.chart_io.specs.Outside.{Rose, Appended, AppendedPrefix};
 ghost use Rattle.svg_text.specs.inner.Pieces.{piece_text};
 ghost use Rattle.svg_text.specs.inner.Printing.{Prints};
-ghost use Rattle.svg_text.specs.SceneText.{xml_text, attribute, shape_text, fill_text, outline_text, stroke_text, opacity_text, paint_text, end_text, item_text, origin_text, panel_text, head_text, svg_of};
+ghost use Rattle.svg_text.specs.SceneText.{xml_text, attribute, shape_text, fill_text, outline_text, stroke_text, opacity_text, paint_text};
+ghost use Rattle.svg_text.specs.SceneText.{end_text, item_text, origin_text, panel_text, head_text, svg_of};
 
 use crate::page::{Page, hand_on};
 use crate::pieces::{Attribute, Piece, numeric, put_attributes, put_pieces, put_text};

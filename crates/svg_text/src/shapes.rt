@@ -4,7 +4,8 @@ ghost use Rattle.std.specs.List.{flat_map};
 ghost use Rattle.fixed_num.specs.Number.{million};
 ghost use Rattle.svg_text.specs.inner.Pieces.{attribute_text};
 ghost use Rattle.svg_text.specs.inner.Printing.{Prints};
-ghost use Rattle.svg_text.specs.SceneText.{point_text, path_text, path_element, turned_text, place_text, anchor_text, font_text, weight_text, letters_text, words_text, circle_text, shape_text};
+ghost use Rattle.svg_text.specs.SceneText.{point_text, path_text, path_element, turned_text, place_text, anchor_text, font_text};
+ghost use Rattle.svg_text.specs.SceneText.{weight_text, letters_text, words_text, circle_text, shape_text};
 
 use crate::page::Page;
 use crate::pieces::{Attribute, Piece, numeric, put_attributes, put_pieces, put_text};

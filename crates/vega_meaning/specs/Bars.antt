@@ -16,7 +16,7 @@ use Rattle.scene_tree.specs.declared.scene.Item.{Item}
 use Rattle.scene_tree.specs.declared.shape.Shape.TheVariants.{Rect}
 use Rattle.scene_tree.specs.Outcome.{Outcome, Drawn, ◌>>=◌, outcome_map, in_reach, all_drawn}
 use Rattle.svg_text.specs.SceneText.{svg_of}
-use Rattle.vega_model.specs.declared.spec.VgSpec.{VgSpec}
+use Rattle.bar_spec.specs.declared.spec.BarSpec.{BarSpec}
 use Rattle.fixed_num.specs.Ranges.{in_range}
 use Rattle.fixed_num.specs.Bands.{space_of}
 use Rattle.vega_meaning.specs.Pixels.{pixels}
@@ -121,9 +121,9 @@ abbrev pub scene_of_rows : List ℕ → List ℕ → List Datum → Outcome Scen
 scene_of_rows x y rows = scene_over (x_domain (column_of x rows)) x y rows
 
 -- the scene of a Vega specification over a state
-abbrev pub vega_scene_of : VgSpec → State → Outcome Scene
+abbrev pub vega_scene_of : BarSpec → State → Outcome Scene
 vega_scene_of g st = scene_of_rows g.x g.y (rows_of st g.source)
 
 -- the chart of a Vega specification over a state, as its SVG text
-abbrev pub vega_chart_of : VgSpec → State → Outcome (List ℕ)
+abbrev pub vega_chart_of : BarSpec → State → Outcome (List ℕ)
 vega_chart_of g st = outcome_map svg_of (vega_scene_of g st)

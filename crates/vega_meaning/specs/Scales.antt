@@ -1,5 +1,6 @@
 -- Places on scales, in millionths of a pixel. A cell may have no place, and a place may be out of range.
-use Rattle.std.specs.Prelude.{ℕ, ◌+◌, ◌*◌, ℤ, pos, ◌+ℤ◌, ◌-ℤ◌, ◌*ℤ◌, int_lt, unsigned_abs, Option, Some, None, List, [], ◌∷◌, length, position, codes, if◌then◌else◌, ◌≡◌, refl}
+use Rattle.std.specs.Prelude.{ℕ, ◌+◌, ◌*◌, ℤ, pos, ◌+ℤ◌, ◌-ℤ◌, ◌*ℤ◌, int_lt, unsigned_abs, Option, Some, None, List, [], ◌∷◌, length}
+use Rattle.std.specs.Prelude.{position, codes, if◌then◌else◌, ◌≡◌, refl}
 use Rattle.fixed_num.specs.Number.{million, rounded, floor_quotient}
 use Rattle.cell_value.specs.declared.cell.Cell.{Cell}
 use Rattle.cell_value.specs.declared.cell.Cell.TheVariants.{Null, Number, Text}

@@ -1,5 +1,6 @@
 -- Steps of ticks, and nice domains.
-use Rattle.std.specs.Prelude.{ℕ, zero, suc, ◌*◌, ◌^◌, ℤ, pos, ◌-ℤ◌, int_lt, unsigned_abs, Option, Some, None, List, [], ◌∷◌, ◌++◌, find, nat_lt, nat_le, if◌then◌else◌, ◌≡◌, refl}
+use Rattle.std.specs.Prelude.{ℕ, zero, suc, ◌*◌, ◌^◌, ℤ, pos, ◌-ℤ◌, int_lt, unsigned_abs, Option, Some, None, List, [], ◌∷◌, ◌++◌, find}
+use Rattle.std.specs.Prelude.{nat_lt, nat_le, if◌then◌else◌, ◌≡◌, refl}
 use Rattle.fixed_num.specs.Number.{limit, million, floored, ceiled, floor_quotient}
 use Rattle.fixed_num.specs.Ranges.{◌>>=◌, in_range}
 use Rattle.vega_meaning.specs.Pixels.{pixels}

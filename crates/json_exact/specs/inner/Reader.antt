@@ -1,10 +1,13 @@
 -- Reading from left to right, as a function of the bytes.
-use Rattle.std.specs.Prelude.{ℕ, zero, suc, ◌+◌, ◌-◌, ◌*◌, List, [], ◌∷◌, ◌++◌, length, drop, codes, ℤ, true, false, ◌&&◌, ◌||◌, ◌==◌, nat_lt, nat_le, if◌then◌else◌, Result, Ok, Option, Some, None, map, encode_utf8}
+use Rattle.std.specs.Prelude.{ℕ, zero, suc, ◌+◌, ◌-◌, ◌*◌, List, [], ◌∷◌, ◌++◌, length, drop, codes, ℤ, true, false, ◌&&◌, ◌||◌, ◌==◌}
+use Rattle.std.specs.Prelude.{nat_lt, nat_le, if◌then◌else◌, Result, Ok, Option, Some, None, map, encode_utf8}
 use Rattle.std.specs.List.{list_any}
 use Rattle.std.specs.Char.{is_ascii_hexdigit}
 use Rattle.std.specs.Str.{bytes_eq}
 use Rattle.fixed_num.specs.JsonNumber.{value_of}
-use Rattle.fixed_num.specs.Front.{◌>>=◌, Read, first, stop, parts_at, in_range}
+use Rattle.fixed_num.specs.Ranges.{in_range}
+use Rattle.fixed_num.specs.Steps.{◌>>=◌}
+use Rattle.fixed_num.specs.Front.{Read, first, stop, parts_at}
 use Rattle.json_exact.specs.declared.error.Stop.{Stop}
 use Rattle.json_exact.specs.declared.error.Stop.TheVariants as errors
 use Rattle.json_exact.specs.declared.json.Json.{Json}
@@ -132,9 +135,14 @@ quoted_at names bytes =
 
 -- ---- numbers
 
--- the tree of a number of so many millionths
+-- the tree of a number, None where that is out of range
+abbrev pub tree_of : Option ℤ → Json
+tree_of (Some m) = json.Number m
+tree_of None = json.Huge
+
+-- the tree of so many millionths
 abbrev pub number_tree : ℤ → Json
-number_tree m = if in_range m then json.Number m else json.Huge
+number_tree m = tree_of (in_range m)
 
 unfoldable pub number_at : List ℕ → Read Json
 number_at bytes = parts_at bytes >>= λ x. Ok (number_tree (value_of x.0), x.1)

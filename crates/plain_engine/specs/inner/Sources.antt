@@ -13,7 +13,7 @@ use Rattle.param_flow.specs.declared.reply.Reply.TheVariants.{Done, Refused}
 use Rattle.param_flow.specs.declared.reply.Cause.TheVariants as cause
 use Rattle.param_flow.specs.Change.{rows_after, count_staying}
 use Rattle.param_flow.specs.Machine.{new_rows, state_changed, is_past_limit, reply_to_chart, reply_to_state}
-use Rattle.vega_model.specs.declared.spec.VgSpec.{VgSpec}
+use Rattle.bar_spec.specs.declared.spec.BarSpec.{BarSpec}
 use Rattle.vega_meaning.specs.Bars.{scene_of_rows}
 use Rattle.vega_meaning.specs.Semantics.{vega_semantics}
 
@@ -33,17 +33,17 @@ is_past next_id change rows =
     || nat_lt (greatest_id + 1) (next_id + length change.insert)
 
 -- what is replied where these rows are left
-abbrev pub reply_to_data : VgSpec → Option (List Datum) → Reply
+abbrev pub reply_to_data : BarSpec → Option (List Datum) → Reply
 reply_to_data g None = Refused cause.Overflow
 reply_to_data g (Some rows) = reply_to_chart (scene_of_rows g.x g.y rows)
 
 -- what is replied to a change of these rows that names what is there and whose rows can be read
-abbrev pub reply_over : VgSpec → ℕ → ChangeOf → List Datum → Reply
+abbrev pub reply_over : BarSpec → ℕ → ChangeOf → List Datum → Reply
 reply_over g next_id change rows =
     if is_past next_id change rows then Refused cause.Limit else reply_to_data g (rows_changed next_id change rows)
 
 -- the same of a state
-abbrev pub reply_within : VgSpec → State → ChangeOf → Reply
+abbrev pub reply_within : BarSpec → State → ChangeOf → Reply
 reply_within g st change =
     if is_past_limit no_values st g.source change then Refused cause.Limit
     else reply_to_state (vega_semantics g) (state_changed no_values st g.source change)
@@ -59,6 +59,6 @@ IsLeft Done changed old new = changed ≡ Some (map datum_of new)
 IsLeft (Refused cause) changed old new = new ≡ old
 
 -- after Done a scene is that of these rows, else it is as it was
-abbrev pub IsShown : Reply → VgSpec → List Keyed → Scene → Scene → Type 0
+abbrev pub IsShown : Reply → BarSpec → List Keyed → Scene → Scene → Type 0
 IsShown Done g rows old new = scene_of_rows g.x g.y (map datum_of rows) ≡ Drawn new
 IsShown (Refused cause) g rows old new = new ≡ old

@@ -1,7 +1,7 @@
 use Rattle.std.proofs.Common.{◌≡◌, Ok, Err, sym, subst, ◌∙◌}
 use Rattle.cell_value.specs.declared.state.ChartState.{ChartState}
 use Rattle.cell_value.specs.State.{state_of}
-use Rattle.vega_model.specs.declared.spec.VgSpec.{VgSpec}
+use Rattle.bar_spec.specs.declared.spec.BarSpec.{BarSpec}
 use Rattle.vega_meaning.specs.declared.open.OpenError.{OpenError}
 use Rattle.vega_meaning.specs.States.{IsStateOf}
 use Rattle.play_script.specs.Meaning.{Meaning}
@@ -14,7 +14,7 @@ use Rattle.chart_tool.proofs.opened.opened.Goals as goal
 pub open-requires : goal.open-requires
 open-requires c =
     let form = c.args.form.now in
-    let of_spec : VgSpec → Type 0 = λ spec. IsStateOf spec (state_of (opening_of form)) in
+    let of_spec : BarSpec → Type 0 = λ spec. IsStateOf spec (state_of (opening_of form)) in
     let of_state : ChartState → Type 0 = λ state. IsStateOf c.in_ok-spec.spec (state_of state) in
     subst of_state (sym c.in_ok-state.ensures) (subst of_spec (sym c.in_ok-spec.ensures) (is_state_of form c.requires))
 

@@ -15,5 +15,7 @@ returns-clause-refused g c =
 
 pub returns-clause-answered : goal.returns-clause-answered
 returns-clause-answered g c =
-    told_answered (asked_in c.args.words.now.items) (g.F.Folder.files c.args.folder.now) _ _ _ _ _ _ _ c.ended.result (spec_name_in (asked_in c.args.words.now.items)) _ _ _
-    (c.ended.ensures.status ∙ ap (λ n. end_status (end_of n (result_err c.run-done.result))) c.spec_name.ensures) c.run-done.ensures.ends c.run-done.ensures.text
+    told_answered (asked_in c.args.words.now.items) (g.F.Folder.files c.args.folder.now) _ _ _ _ _ _ _ c.ended.result
+    (spec_name_in (asked_in c.args.words.now.items)) _ _ _
+    (c.ended.ensures.status ∙ ap (λ n. end_status (end_of n (result_err c.run-done.result))) c.spec_name.ensures) c.run-done.ensures.ends
+    c.run-done.ensures.text

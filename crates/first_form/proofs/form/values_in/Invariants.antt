@@ -1,7 +1,7 @@
 use Rattle.std.proofs.Common.{◌≡◌, drop, map}
 use Rattle.fixed_num.specs.Ranges.{all_found}
 use Rattle.first_form.specs.FirstForm.{value_in}
-use Rattle.first_form.proofs.Values.{after}
+use Rattle.fixed_num.proofs.FoundLemmas.{after}
 use Rattle.first_form.proofs.form.values_in.Given as goal
 
 abbrev pub invariant-loop-row : goal.invariant-loop-row

@@ -27,11 +27,18 @@ nonzero_rem-rest c =
 pub loop-rest-preserved : goal.loop-rest-preserved
 loop-rest-preserved c =
     let first = FirstPlace-at _ _ _ (omega arith) c.loop-rest.invariant.below c.pow-place.ensures in
-    record { room = omega (arith, first.some); below = first.low; written = one_more c.loop-rest.buf c.loop-rest.end _ _ _ (omega arith) c.loop-rest.invariant.written _ first.split; six = omega arith }
+    record {
+      room = omega (arith, first.some);
+      below = first.low;
+      written = one_more c.loop-rest.buf c.loop-rest.end _ _ _ (omega arith) c.loop-rest.invariant.written _ first.split;
+      six = omega arith;
+    }
 
 pub returns-clause-written : goal.returns-clause-written
 unfolding fraction_spelling
 returns-clause-written c =
-    let none : fraction_digits c.loop-rest.places c.loop-rest.rest ≡ [] = ap (fraction_digits c.loop-rest.places) (omega arith) ∙ fraction_digits_none c.loop-rest.places in
-    let text = sym (append-nil (take c.loop-rest.end c.loop-rest.buf)) ∙ ap (λ x. take c.loop-rest.end c.loop-rest.buf ++ x) (sym none) ∙ c.loop-rest.invariant.written in
+    let none : fraction_digits c.loop-rest.places c.loop-rest.rest ≡ [] =
+    ap (fraction_digits c.loop-rest.places) (omega arith) ∙ fraction_digits_none c.loop-rest.places in
+    let text = sym (append-nil (take c.loop-rest.end c.loop-rest.buf)) ∙ ap (λ x. take c.loop-rest.end c.loop-rest.buf ++ x) (sym none)
+    ∙ c.loop-rest.invariant.written in
     rw (ne_eqb c.args.fraction 0 (λ e. absurd (omega arith))) text

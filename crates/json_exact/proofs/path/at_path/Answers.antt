@@ -6,7 +6,8 @@ use Rattle.json_exact.proofs.Paths.{path_empty, path_led, path_none, empty_by_le
 use Rattle.json_exact.proofs.path.at_path.Goals as goal
 
 pub returns-then-is_empty : goal.returns-then-is_empty
-returns-then-is_empty c = path_empty c.args.tree.now c.args.path.now (sym c.as_bytes-path.ensures.value ∙ empty_by_length c.as_bytes-path.result.now (grind arith))
+returns-then-is_empty c = path_empty c.args.tree.now c.args.path.now (sym c.as_bytes-path.ensures.value
+    ∙ empty_by_length c.as_bytes-path.result.now (grind arith))
 
 pub returns-then-first_of-ne47 : goal.returns-then-first_of-ne47
 returns-then-first_of-ne47 c =

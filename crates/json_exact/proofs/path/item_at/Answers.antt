@@ -7,7 +7,8 @@ returns-then-not-is_index c = item_none c.args.items.now c.args.word.now (grind 
 
 pub returns-then-index-items : goal.returns-then-index-items
 returns-then-index-items c =
-    item_some c.args.items.now c.args.word.now c.number_of-index.result _ (grind arith) c.number_of-index.ensures c.if-index-items.true (omega arith) c.index-items-index.is
+    item_some c.args.items.now c.args.word.now c.number_of-index.result _ (grind arith) c.number_of-index.ensures c.if-index-items.true
+    (omega arith) c.index-items-index.is
 
 pub returns-else-index-items : goal.returns-else-index-items
 returns-else-index-items c =

@@ -7,4 +7,11 @@ pub loop-digit-preserved : goal.loop-digit-preserved
 loop-digit-preserved c =
     let ds = c.args.digits.now in
     let i = c.loop-digit.digit-index in
-    rw (c.saturating_add-number.ensures, c.saturating_mul.ensures, c.from.ensures, c.saturating_sub.ensures, c.loop-digit.invariant, number_more ds i (omega arith)) (saturated (number_of (take i ds)) (get_or ds i 0 - 48) (2 ^ 64 - 1))
+    rw (
+      c.saturating_add-number.ensures,
+      c.saturating_mul.ensures,
+      c.from.ensures,
+      c.saturating_sub.ensures,
+      c.loop-digit.invariant,
+      number_more ds i (omega arith),
+    ) (saturated (number_of (take i ds)) (get_or ds i 0 - 48) (2 ^ 64 - 1))

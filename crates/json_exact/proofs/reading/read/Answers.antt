@@ -12,11 +12,13 @@ returns-in-Ok-clause-complete c = λ tree reads. inl (ap Ok (is_complete c.args.
 
 pub returns-in-Err-Fault-clause-complete : goal.returns-in-Err-Fault-clause-complete
 returns-in-Err-Fault-clause-complete c = λ tree reads.
-    absurd (is_fault c.args.bytes.now c.in-Err-Fault.left (fault_of c.args.bytes.now c.in-Err-Fault.field-0 c.in-Err-Fault.left c.in-Err-Fault.field-0-is c.in-Err-Fault.ensures) tree reads)
+    absurd (is_fault c.args.bytes.now c.in-Err-Fault.left
+    (fault_of c.args.bytes.now c.in-Err-Fault.field-0 c.in-Err-Fault.left c.in-Err-Fault.field-0-is c.in-Err-Fault.ensures) tree reads)
 
 pub returns-in-Err-Fault-clause-fault : goal.returns-in-Err-Fault-clause-fault
 returns-in-Err-Fault-clause-fault c = λ place e tree reads.
-    is_fault c.args.bytes.now c.in-Err-Fault.left (fault_of c.args.bytes.now c.in-Err-Fault.field-0 c.in-Err-Fault.left c.in-Err-Fault.field-0-is c.in-Err-Fault.ensures) tree reads
+    is_fault c.args.bytes.now c.in-Err-Fault.left
+    (fault_of c.args.bytes.now c.in-Err-Fault.field-0 c.in-Err-Fault.left c.in-Err-Fault.field-0-is c.in-Err-Fault.ensures) tree reads
 
 pub returns-in-Err-Fault-clause-place : goal.returns-in-Err-Fault-clause-place
 returns-in-Err-Fault-clause-place c = λ place e.

@@ -25,7 +25,9 @@ abbrev pub decreases-object_of : goal.decreases-object_of
 decreases-object_of l = 8 * l.level + 4
 
 abbrev pub invariant-items_of-loop : goal.invariant-items_of-loop
-invariant-items_of-loop l = run_at 93 (item_at l.level) (length l.bytes - l.counter) l.items l.rest ≡ sequence_at 93 (item_at l.level) l.bytes
+invariant-items_of-loop l = run_at 93 (item_at l.level) (length l.bytes - l.counter) l.items l.rest
+    ≡ sequence_at 93 (item_at l.level) l.bytes
 
 abbrev pub invariant-members_of-loop : goal.invariant-members_of-loop
-invariant-members_of-loop l = run_at 125 (member_at (value_at l.level)) (length l.bytes - l.counter) l.members.members l.rest ≡ sequence_at 125 (member_at (value_at l.level)) l.bytes
+invariant-members_of-loop l = run_at 125 (member_at (value_at l.level)) (length l.bytes - l.counter) l.members.members l.rest
+    ≡ sequence_at 125 (member_at (value_at l.level)) l.bytes

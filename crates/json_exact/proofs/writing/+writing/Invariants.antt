@@ -7,4 +7,5 @@ abbrev pub invariant-push_items-loop-item : goal.invariant-push_items-loop-item
 invariant-push_items-loop-item l = l.out ≡ l.initial.out ++ flat_map (λ text. 44 ∷ text) (map text_of (take l.item-index l.others))
 
 abbrev pub invariant-push_members-loop-member : goal.invariant-push_members-loop-member
-invariant-push_members-loop-member l = l.out ≡ l.initial.out ++ flat_map (λ text. 44 ∷ text) (map member_text (take l.member-index l.others))
+invariant-push_members-loop-member l =
+    l.out ≡ l.initial.out ++ flat_map (λ text. 44 ∷ text) (map member_text (take l.member-index l.others))

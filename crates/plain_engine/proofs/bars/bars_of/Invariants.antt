@@ -11,4 +11,5 @@ abbrev pub invariant-loop-index : goal.invariant-loop-index
 invariant-loop-index l =
     let draw = bar_of (band_of l.plot.bands) (linear_of l.plot.scale) in
     bars_along draw (rows_at l.rows) (cells_of l.xs) (cells_of l.ys)
-    ≡ outcome_map (λ all. l.items ++ all) (bars_along draw (rows_at (drop l.index l.rows)) (cells_of (drop l.index l.xs)) (cells_of (drop l.index l.ys)))
+    ≡ outcome_map (λ all. l.items ++ all) (bars_along draw (rows_at (drop l.index l.rows)) (cells_of (drop l.index l.xs))
+    (cells_of (drop l.index l.ys)))

@@ -17,9 +17,11 @@ loop-cell-preserved c =
 
 pub returns-clause-value : goal.returns-clause-value
 returns-clause-value c =
-    let ended = YieldsList-end (YieldsList-from_rev_slice c.args.cells.now (search rules)) c.loop-cell.yielded _ c.loop-cell.yielded_by _ _ c.in-None.is c.next.ensures.steps in
+    let ended = YieldsList-end (YieldsList-from_rev_slice c.args.cells.now (search rules)) c.loop-cell.yielded _ c.loop-cell.yielded_by _ _
+    c.in-None.is c.next.ensures.steps in
     let kept : c.in_ok-collect.field-0.items ≡ c.loop-cell.found.keys = search rules in
-    ap cells_of kept ∙ c.loop-cell.invariant ∙ ap (ascending cell_cmp) (map_of_turned (λ (cell : Bor Cell). cell.now) _ c.loop-cell.yielded c.args.cells.now ended.0)
+    ap cells_of kept ∙ c.loop-cell.invariant
+    ∙ ap (ascending cell_cmp) (map_of_turned (λ (cell : Bor Cell). cell.now) _ c.loop-cell.yielded c.args.cells.now ended.0)
 
 pub returns-clause-few : goal.returns-clause-few
 returns-clause-few c =

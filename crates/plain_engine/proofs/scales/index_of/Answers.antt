@@ -6,4 +6,5 @@ use Rattle.plain_engine.proofs.scales.index_of.Goals as goal
 
 pub returns : goal.returns
 returns c =
-    c.ok.ensures.value ∙ index_from_search cell_cmp cell_cmp_total c.args.domain.now c.args.cell c.binary_search.result c.requires c.binary_search.ensures.bound c.binary_search.ensures.position
+    c.ok.ensures.value ∙ index_from_search cell_cmp cell_cmp_total c.args.domain.now c.args.cell c.binary_search.result c.requires
+    c.binary_search.ensures.bound c.binary_search.ensures.position

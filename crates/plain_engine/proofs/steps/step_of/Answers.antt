@@ -12,26 +12,31 @@ step_at-requires-clause-power_in_reach c =
 
 pub returns-then-step-le-LIMIT-clause-value : goal.returns-then-step-le-LIMIT-clause-value
 returns-then-step-le-LIMIT-clause-value c =
-    let is = step_of_taken c.args.span c.args.count c.loop-turn._turn c.loop-turn.power c.in-Some.step c.loop-turn-test.true c.loop-turn.invariant.0 c.loop-turn.invariant.1 c.in-Some.ensures in
+    let is = step_of_taken c.args.span c.args.count c.loop-turn._turn c.loop-turn.power c.in-Some.step c.loop-turn-test.true
+    c.loop-turn.invariant.0 c.loop-turn.invariant.1 c.in-Some.ensures in
     grind (arith, nat_tests)
 
 pub returns-else-step-le-LIMIT-clause-value : goal.returns-else-step-le-LIMIT-clause-value
 returns-else-step-le-LIMIT-clause-value c =
-    let is = step_of_taken c.args.span c.args.count c.loop-turn._turn c.loop-turn.power c.in-Some.step c.loop-turn-test.true c.loop-turn.invariant.0 c.loop-turn.invariant.1 c.in-Some.ensures in
+    let is = step_of_taken c.args.span c.args.count c.loop-turn._turn c.loop-turn.power c.in-Some.step c.loop-turn-test.true
+    c.loop-turn.invariant.0 c.loop-turn.invariant.1 c.in-Some.ensures in
     grind (arith, nat_tests)
 
 pub overflow_mul-power : goal.overflow_mul-power
 overflow_mul-power c =
-    let bound : c.loop-turn.power ≤ 10 * limit = omega (arith, c.loop-turn.invariant.0, power_in_reach c.loop-turn._turn c.loop-turn-test.true) in
+    let bound : c.loop-turn.power ≤ 10 * limit =
+    omega (arith, c.loop-turn.invariant.0, power_in_reach c.loop-turn._turn c.loop-turn-test.true) in
     search rules
 
 pub loop-turn-preserved : goal.loop-turn-preserved
 loop-turn-preserved c = (
   omega (arith, c.loop-turn.invariant.0, pow_more 10 c.loop-turn._turn),
-  steps_passed (is_taken c.args.span c.args.count) c.loop-turn._turn c.loop-turn.power c.loop-turn.invariant.0 c.loop-turn.invariant.1 c.in_default.ensures,
+  steps_passed (is_taken c.args.span c.args.count) c.loop-turn._turn c.loop-turn.power c.loop-turn.invariant.0 c.loop-turn.invariant.1
+      c.in_default.ensures,
 )
 
 pub returns-clause-value : goal.returns-clause-value
 returns-clause-value c =
     let end : c.loop-turn._turn ≡ 23 = omega arith in
-    sym (step_of_none c.args.span c.args.count (ap (λ n. find (is_taken c.args.span c.args.count) (steps_below n)) (sym end) ∙ c.loop-turn.invariant.1))
+    sym (step_of_none c.args.span c.args.count (ap (λ n. find (is_taken c.args.span c.args.count) (steps_below n)) (sym end)
+    ∙ c.loop-turn.invariant.1))

@@ -2,7 +2,7 @@ use Rattle.std.proofs.Common.{◌≡◌, drop, map}
 use Rattle.fixed_num.specs.Ranges.{all_found}
 use Rattle.param_flow.specs.Commands.{modify_in}
 use Rattle.play_script.specs.inner.Reading.{script_expression}
-use Rattle.play_script.proofs.FoundEntries.{after}
+use Rattle.fixed_num.proofs.FoundLemmas.{after}
 use Rattle.play_script.proofs.changes.entries_in.Given as goal
 
 abbrev pub invariant-loop-entry : goal.invariant-loop-entry

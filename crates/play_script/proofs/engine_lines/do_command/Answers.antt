@@ -6,7 +6,8 @@ pub returns-in-Ok-Print-clause-done : goal.returns-in-Ok-Print-clause-done
 returns-in-Ok-Print-clause-done g c = λ n noted faults.
     let meaning = g.E.Engine.meaning c.args.engine.now in
     let stands = g.E.Engine.stands c.args.engine.now in
-    printed_done meaning meaning n c.args.line.now (g.K.Sink.held c.args.out.now) _ noted faults c.print.result c.print.ensures.stop stands.drawn.0 stands.drawn.1
+    printed_done meaning meaning n c.args.line.now (g.K.Sink.held c.args.out.now) _ noted faults c.print.result c.print.ensures.stop
+    stands.drawn.0 stands.drawn.1
     (rw c.in-Ok-Print.field-0-is at c.in-Ok-Print.ensures.sound) refl c.print.ensures.ok c.print.ensures.prefix
 
 pub returns-in-Ok : goal.returns-in-Ok

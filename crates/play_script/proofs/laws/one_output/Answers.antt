@@ -5,4 +5,5 @@ use Rattle.play_script.proofs.Once.{one_output}
 use Rattle.play_script.proofs.laws.one_output.Goals as goal
 
 pub returns : goal.returns
-returns c = λ g st now later script out other notes others. one_output (IsVegaReply g) (one_reply (vega_semantics g)) st now later 1 (lines_of script) out other notes others
+returns c = λ g st now later script out other notes others. one_output (IsVegaReply g) (one_reply (vega_semantics g)) st now later 1
+    (lines_of script) out other notes others

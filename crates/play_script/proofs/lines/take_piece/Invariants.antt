@@ -10,6 +10,8 @@ invariant-loop-byte g l = record {
   notes_counted : g.N.Sink.faults l.initial.notes ≤ g.N.Sink.faults l.notes;
   steps : l.initial.steps ≤ l.steps;
   stands : (st : g.R.Lines.State) (before : Sinks) (taken : List ℕ) → length taken + length l.piece ≤ most_script_bytes
-      → Stands g.R.Lines.replies st before taken l.initial.line (g.R.Lines.state l.initial.target) (sinks (g.K.Sink.held l.initial.out) (g.N.Sink.held l.initial.notes) (g.N.Sink.faults l.initial.notes))
-      → Stands g.R.Lines.replies st before (taken ++ take l.byte-index l.piece) l.line (g.R.Lines.state l.target) (sinks (g.K.Sink.held l.out) (g.N.Sink.held l.notes) (g.N.Sink.faults l.notes));
+      → Stands g.R.Lines.replies st before taken l.initial.line (g.R.Lines.state l.initial.target)
+      (sinks (g.K.Sink.held l.initial.out) (g.N.Sink.held l.initial.notes) (g.N.Sink.faults l.initial.notes))
+      → Stands g.R.Lines.replies st before (taken ++ take l.byte-index l.piece) l.line (g.R.Lines.state l.target)
+      (sinks (g.K.Sink.held l.out) (g.N.Sink.held l.notes) (g.N.Sink.faults l.notes));
 }

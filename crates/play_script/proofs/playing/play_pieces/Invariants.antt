@@ -10,8 +10,10 @@ invariant-loop-n g l = record {
   notes_counted : g.N.Sink.faults l.initial.notes ≤ g.N.Sink.faults l.notes;
   steps : l.initial.steps ≤ l.steps;
   room : length l.buffer ≡ length l.initial.buffer;
-  going : Going g.R.Lines.replies (g.R.Lines.state l.initial.target) (sinks (g.K.Sink.held l.initial.out) (g.N.Sink.held l.initial.notes) (g.N.Sink.faults l.initial.notes))
-      (g.S.Source.left l.initial.script) (g.S.Source.left l.script) l.taken l.line (g.R.Lines.state l.target) (sinks (g.K.Sink.held l.out) (g.N.Sink.held l.notes) (g.N.Sink.faults l.notes));
+  going : Going g.R.Lines.replies (g.R.Lines.state l.initial.target)
+      (sinks (g.K.Sink.held l.initial.out) (g.N.Sink.held l.initial.notes) (g.N.Sink.faults l.initial.notes))
+      (g.S.Source.left l.initial.script) (g.S.Source.left l.script) l.taken l.line (g.R.Lines.state l.target)
+      (sinks (g.K.Sink.held l.out) (g.N.Sink.held l.notes) (g.N.Sink.faults l.notes));
 }
 
 abbrev pub decreases-loop-n : goal.decreases-loop-n

@@ -34,5 +34,6 @@ loop-row-preserved g c =
           ∙ sym (ap (λ rows. edits.staying + count_staying values change.remove (map datum_of rows)) at) ∙ h.2,
       (λ i. data_so_far (added i).overflows (added i).each (more i) (rows_after values change (map datum_of rest)))
           ∙ sym (data_go_on values change edits (take index rows) row rest next (omega (arith, each, taken)) c.in_ok-next.ensures)
-          ∙ sym (ap (λ left. data_so_far edits.overflows edits.each (take index rows) (rows_after values change (map datum_of left))) at) ∙ h.3,
+          ∙ sym (ap (λ left. data_so_far edits.overflows edits.each (take index rows) (rows_after values change (map datum_of left))) at)
+          ∙ h.3,
     )

@@ -1,7 +1,7 @@
 use Rattle.std.proofs.Common.{sym, subst}
 use Rattle.cell_value.specs.declared.state.ChartState.{ChartState}
 use Rattle.cell_value.specs.State.{state_of}
-use Rattle.vega_model.specs.declared.spec.VgSpec.{VgSpec}
+use Rattle.bar_spec.specs.declared.spec.BarSpec.{BarSpec}
 use Rattle.vega_meaning.specs.States.{IsStateOf}
 use Rattle.first_form.specs.Opening.{bars_of, opening_of}
 use Rattle.first_form.proofs.OpeningStates.{is_state_of}
@@ -10,6 +10,6 @@ use Rattle.run_tests.proofs.opened.opened_form.Goals as goal
 pub open-requires : goal.open-requires
 open-requires c =
     let form = c.args.form.now in
-    let of_spec : VgSpec → Type 0 = λ spec. IsStateOf spec (state_of (opening_of form)) in
+    let of_spec : BarSpec → Type 0 = λ spec. IsStateOf spec (state_of (opening_of form)) in
     let of_state : ChartState → Type 0 = λ state. IsStateOf c.in_ok-spec.spec (state_of state) in
     subst of_state (sym c.in_ok-state.ensures) (subst of_spec (sym c.in_ok-spec.ensures) (is_state_of form c.requires))

@@ -6,7 +6,8 @@ pub loop-at-init : goal.loop-at-init
 loop-at-init g c = record { within = omega arith; printed = prints_nothing c.args.out.now c.args.page.now _ }
 
 pub returns-in_err-make_room : goal.returns-in_err-make_room
-returns-in_err-make_room g c = prints_some c.args.bytes.now c.loop-at.at c.from_residual.ensures.0 c.loop-at.invariant.printed c.in_err-make_room.ensures.prints
+returns-in_err-make_room g c =
+    prints_some c.args.bytes.now c.loop-at.at c.from_residual.ensures.0 c.loop-at.invariant.printed c.in_err-make_room.ensures.prints
 
 pub loop-at-preserved : goal.loop-at-preserved
 loop-at-preserved g c =
@@ -15,5 +16,6 @@ loop-at-preserved g c =
     let count = simp (length-take, length-drop) at c.fill-at.ensures.count in
     record {
       within = omega (arith, count, c.loop-at-test.true);
-      printed = rw c.fill-at.ensures.filled (prints_piece bytes c.loop-at.at c.fill-at.result room (omega (arith, count)) c.loop-at.invariant.printed c.in_ok-make_room.ensures.prints);
+      printed = rw c.fill-at.ensures.filled (prints_piece bytes c.loop-at.at c.fill-at.result room (omega (arith, count))
+          c.loop-at.invariant.printed c.in_ok-make_room.ensures.prints);
     }

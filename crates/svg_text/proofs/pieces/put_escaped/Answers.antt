@@ -21,10 +21,12 @@ returns-in_err-put_escape g c =
     (prints_same (ap (flat_map xml_char) front) c.loop-c.invariant) c.in_err-put_escape.ensures
 
 pub loop-c-preserved : goal.loop-c-preserved
-loop-c-preserved g c = prints_same (one_more xml_char c.loop-c.yielded c.in-Some.c) (prints_then c.loop-c.invariant c.in_ok-put_escape.ensures)
+loop-c-preserved g c = prints_same (one_more xml_char c.loop-c.yielded c.in-Some.c)
+    (prints_then c.loop-c.invariant c.in_ok-put_escape.ensures)
 
 pub returns : goal.returns
 returns g c =
     let text : IsUtf8 c.args.text.now = subst IsUtf8 c.as_str.ensures c.as_str.utf8 in
-    let ended = YieldsList-end (YieldsList-from_chars c.args.text.now text (search rules)) c.loop-c.yielded _ c.loop-c.yielded_by _ _ c.in-None.is c.next.ensures.steps in
+    let ended = YieldsList-end (YieldsList-from_chars c.args.text.now text (search rules)) c.loop-c.yielded _ c.loop-c.yielded_by _ _
+    c.in-None.is c.next.ensures.steps in
     prints_same (ap (flat_map xml_char) (sym (map-id c.loop-c.yielded) ∙ ended.0)) c.loop-c.invariant

@@ -6,4 +6,5 @@ use Rattle.svg_text.specs.SceneText.{item_text}
 use Rattle.svg_text.proofs.scene_text.put_items.Given as goal
 
 abbrev pub invariant-loop-item : goal.invariant-loop-item
-invariant-loop-item g l = Prints {T = Unit {0}} {E = WriteFault} g.K.Sink.faults g.K.Sink.held l.initial.out l.initial.page l.out l.page (Ok tt) (flat_map item_text (take l.item-index l.items))
+invariant-loop-item g l = Prints {T = Unit {0}} {E = WriteFault} g.K.Sink.faults g.K.Sink.held l.initial.out l.initial.page l.out l.page
+    (Ok tt) (flat_map item_text (take l.item-index l.items))

@@ -5,4 +5,5 @@ use Rattle.svg_text.proofs.Steps.{prints_same, attributes_joined}
 use Rattle.svg_text.proofs.scene_text.put_outline.Goals as goal
 
 pub returns : goal.returns
-returns g c = prints_same (attributes_joined (codes " ") (codes "stroke") (codes "=\"") (xml_text c.args.stroke.now) (codes "\"") (codes "stroke-width") (spelling c.args.width)) c.put_pieces.ensures
+returns g c = prints_same (attributes_joined (codes " ") (codes "stroke") (codes "=\"") (xml_text c.args.stroke.now) (codes "\"")
+    (codes "stroke-width") (spelling c.args.width)) c.put_pieces.ensures

@@ -7,10 +7,16 @@ use Rattle.svg_text.proofs.Steps.{prints_begun, prints_same, prints_then}
 use Rattle.svg_text.proofs.scene_text.put_panel.Goals as goal
 
 pub returns-in_err-put_origin : goal.returns-in_err-put_origin
-returns-in_err-put_origin g c = prints_begun (flat_map item_text c.args.panel.now.items ++ codes "</g>\n") _ (sym (append_assoc (origin_text c.args.panel.now.x c.args.panel.now.y) (flat_map item_text c.args.panel.now.items) (codes "</g>\n"))) c.from_residual.ensures.0 c.in_err-put_origin.ensures
+returns-in_err-put_origin g c =
+    prints_begun (flat_map item_text c.args.panel.now.items ++ codes "</g>\n") _
+    (sym (append_assoc (origin_text c.args.panel.now.x c.args.panel.now.y) (flat_map item_text c.args.panel.now.items)
+    (codes "</g>\n"))) c.from_residual.ensures.0 c.in_err-put_origin.ensures
 
 pub returns-in_err-put_items : goal.returns-in_err-put_items
-returns-in_err-put_items g c = prints_begun (codes "</g>\n") _ (rw c.as_slice.ensures refl) c.from_residual-in_err-put_items.ensures.0 (prints_then c.in_ok-put_origin.ensures c.in_err-put_items.ensures)
+returns-in_err-put_items g c =
+    prints_begun (codes "</g>\n") _ (rw c.as_slice.ensures refl) c.from_residual-in_err-put_items.ensures.0
+    (prints_then c.in_ok-put_origin.ensures c.in_err-put_items.ensures)
 
 pub returns : goal.returns
-returns g c = prints_same (rw c.as_slice.ensures refl) (prints_then (prints_then c.in_ok-put_origin.ensures c.in_ok-put_items.ensures) c.put_text.ensures)
+returns g c = prints_same (rw c.as_slice.ensures refl) (prints_then (prints_then c.in_ok-put_origin.ensures c.in_ok-put_items.ensures)
+    c.put_text.ensures)

@@ -6,4 +6,5 @@ use Rattle.svg_text.specs.SceneText.{panel_text}
 use Rattle.svg_text.proofs.scene_text.put_panels.Given as goal
 
 abbrev pub invariant-loop-panel : goal.invariant-loop-panel
-invariant-loop-panel g l = Prints {T = Unit {0}} {E = WriteFault} g.K.Sink.faults g.K.Sink.held l.initial.out l.initial.page l.out l.page (Ok tt) (flat_map panel_text (take l.panel-index l.panels))
+invariant-loop-panel g l = Prints {T = Unit {0}} {E = WriteFault} g.K.Sink.faults g.K.Sink.held l.initial.out l.initial.page l.out l.page
+    (Ok tt) (flat_map panel_text (take l.panel-index l.panels))

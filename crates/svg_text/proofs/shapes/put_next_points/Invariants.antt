@@ -7,4 +7,5 @@ use Rattle.svg_text.specs.SceneText.{point_text}
 use Rattle.svg_text.proofs.shapes.put_next_points.Given as goal
 
 abbrev pub invariant-loop-point : goal.invariant-loop-point
-invariant-loop-point g l = Prints {T = Unit {0}} {E = WriteFault} g.K.Sink.faults g.K.Sink.held l.initial.out l.initial.page l.out l.page (Ok tt) (flat_map (λ p. codes " " ++ point_text p) (take l.point-index l.points))
+invariant-loop-point g l = Prints {T = Unit {0}} {E = WriteFault} g.K.Sink.faults g.K.Sink.held l.initial.out l.initial.page l.out l.page
+    (Ok tt) (flat_map (λ p. codes " " ++ point_text p) (take l.point-index l.points))

@@ -19,13 +19,16 @@ place_text cause place name digits is text =
 
 pub returns-in-Unreadable-clause-ok : goal.returns-in-Unreadable-clause-ok
 returns-in-Unreadable-clause-ok g c =
-    let at : List ℕ → Type 0 = λ text. OnOk c.write_place.result (Appended (g.N.Sink.held c.args.notes.now) (g.N.Sink.held c.write_place.new.notes) text) in
-    subst at (place_text c.args.self c.in-Unreadable.at c.args.name.now c.format.result.now c.in-Unreadable.is c.format.ensures.text) c.write_place.ensures.ok
+    let at : List ℕ → Type 0 = λ text. OnOk c.write_place.result
+    (Appended (g.N.Sink.held c.args.notes.now) (g.N.Sink.held c.write_place.new.notes) text) in
+    subst at (place_text c.args.self c.in-Unreadable.at c.args.name.now c.format.result.now c.in-Unreadable.is c.format.ensures.text)
+    c.write_place.ensures.ok
 
 pub returns-in-Unreadable-clause-prefix : goal.returns-in-Unreadable-clause-prefix
 returns-in-Unreadable-clause-prefix g c =
     let at : List ℕ → Type 0 = λ text. AppendedPrefix (g.N.Sink.held c.args.notes.now) (g.N.Sink.held c.write_place.new.notes) text in
-    subst at (place_text c.args.self c.in-Unreadable.at c.args.name.now c.format.result.now c.in-Unreadable.is c.format.ensures.text) c.write_place.ensures.prefix
+    subst at (place_text c.args.self c.in-Unreadable.at c.args.name.now c.format.result.now c.in-Unreadable.is c.format.ensures.text)
+    c.write_place.ensures.prefix
 
 pub returns-in-Read-clause-ok : goal.returns-in-Read-clause-ok
 returns-in-Read-clause-ok g c = rw c.in-Read.is (search rules)

@@ -9,7 +9,8 @@ use Rattle.fixed_num.proofs.num.Num.root.Goals as goal
 found : (c : goal.After-isqrt-root) → IsRoot c.args.self (to_z w128 c.isqrt-root.result)
 found c =
     let small : to_z w128 c.isqrt-root.result ≡ pos c.isqrt-root.result = omega (arith, ints, c.isqrt-root.ensures.bound) in
-    let root = root_from_squares c.args.self _ _ (omega (arith, ints, c.unsigned_abs.ensures.value)) c.isqrt-root.ensures.square_le c.isqrt-root.ensures.next_square_gt in
+    let root = root_from_squares c.args.self _ _ (omega (arith, ints, c.unsigned_abs.ensures.value)) c.isqrt-root.ensures.square_le
+    c.isqrt-root.ensures.next_square_gt in
     subst (IsRoot c.args.self) (sym small) root
 
 pub returns-clause-greatest : goal.returns-clause-greatest

@@ -8,5 +8,7 @@ use Rattle.json_exact.proofs.names.Members.have.Goals as goal
 pub returns-else-have : goal.returns-else-have
 returns-else-have c =
     let s = any_split (bytes_eq c.args.name.now) 8 c.args.self.now.members in
-    let few : list_any (bytes_eq c.args.name.now) (names_of (take 8 c.args.self.now.members)) ≡ false = rw c.as_slice-all.ensures at (sym c.have-2.ensures ∙ c.if-have.false) in
-    sym (s ∙ ap (λ (b : Bool). b || list_any (bytes_eq c.args.name.now) (drop 8 (names_of c.args.self.now.members))) few ∙ sym (c.contains.ensures ∙ c.args.self.now.found c.args.name.now))
+    let few : list_any (bytes_eq c.args.name.now) (names_of (take 8 c.args.self.now.members)) ≡ false =
+    rw c.as_slice-all.ensures at (sym c.have-2.ensures ∙ c.if-have.false) in
+    sym (s ∙ ap (λ (b : Bool). b || list_any (bytes_eq c.args.name.now) (drop 8 (names_of c.args.self.now.members))) few
+    ∙ sym (c.contains.ensures ∙ c.args.self.now.found c.args.name.now))

@@ -13,8 +13,10 @@ invariant_of-result c = record {
     | then-len-ge-FEW+in_ok-from_str+in_ok-insert w ↦
         let name = string_bytes w.in_ok-from_str.field-0 in
         let after = btree_set_updates_text name c.args.self.later w.insert.new.self true w.in_ok-insert.ensures.updates q in
-        rw (w.later-is, c.in_ok-push.ensures.ok) (later_pushed q name c.args.self.members c.args.member (contains_text c.args.self.later q) (contains_text w.insert.new.self q) (omega arith) (w.in_ok-from_str.ensures.ok ∙ w.as_str.ensures) (c.args.self.found q) after)
+        rw (w.later-is, c.in_ok-push.ensures.ok) (later_pushed q name c.args.self.members c.args.member (contains_text c.args.self.later q)
+        (contains_text w.insert.new.self q) (omega arith) (w.in_ok-from_str.ensures.ok ∙ w.as_str.ensures) (c.args.self.found q) after)
     | else-len-ge-FEW w ↦
-        rw (w.later-is, c.in_ok-push.ensures.ok) (c.args.self.found q ∙ sym (few_pushed (bytes_eq q) 8 c.args.self.members c.args.member (omega arith)))
+        rw (w.later-is, c.in_ok-push.ensures.ok) (c.args.self.found q
+        ∙ sym (few_pushed (bytes_eq q) 8 c.args.self.members c.args.member (omega arith)))
   ];
 }

@@ -1,11 +1,11 @@
-// Vega specifications.
+// The specification.
 ghost use Rattle.std.specs.Prelude.{◌≡◌, IfOk};
 
 use text_kit::{OutOfMemory, Text};
 
-/// A Vega specification: bars of the rows of a source.
+/// What a Vega specification of bars says: bars of the rows of a source.
 #[derive(Debug, Drop)]
-pub struct VgSpec {
+pub struct BarSpec {
     /// The name of the source.
     pub source: Text,
     /// The field whose cell places a bar along the band scale.
@@ -14,12 +14,12 @@ pub struct VgSpec {
     pub y: Text,
 }
 
-impl VgSpec {
+impl BarSpec {
     /// A specification that equals this one.
-    pub fn copy(&self) -> Result<VgSpec, OutOfMemory>
+    pub fn copy(&self) -> Result<BarSpec, OutOfMemory>
         ensures { IfOk result (λ copy. copy ≡ self.now) }
     {
-        Ok(VgSpec {
+        Ok(BarSpec {
             source: self.source.copy()?,
             x: self.x.copy()?,
             y: self.y.copy()?,

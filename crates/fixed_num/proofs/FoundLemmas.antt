@@ -1,4 +1,4 @@
--- Entries that are found one by one.
+-- What is found one by one.
 use Rattle.std.proofs.Common.{◌≡◌, Option, Some, None, List, [], ◌∷◌, ◌++◌, append_assoc, refl, ap}
 use Rattle.fixed_num.specs.Ranges.{◌>>=◌}
 

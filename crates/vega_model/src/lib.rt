@@ -1,6 +1,0 @@
-//! Vega specifications. For now one is a bar for each row of one source, over two of its fields.
-#![tactic(auto)]
-
-mod spec;
-
-pub use spec::VgSpec;
