@@ -1,4 +1,5 @@
 pub mod Case
 pub mod Names
 pub mod Arguments
+pub mod TimeUnits
 pub mod inner

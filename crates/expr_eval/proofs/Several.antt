@@ -46,7 +46,8 @@ pub all_more : {X Y : Type 0} (v : X → Option Y) (xs : List X) (i : ℕ) (x : 
 all_more v xs i x ys y l at e f =
     let more : take (i + 1) xs ≡ take i xs ++ x ∷ [] =
     ap (λ k. take k xs) (add-one i) ∙ take-suc xs i x l ∙ ap (λ z. take i xs ++ z ∷ []) (sym at) in
-    ap (λ zs. all_found (map v zs)) more ∙ ap all_found (map-append v (take i xs) (x ∷ [])) ∙ ap (λ o. all_found (map v (take i xs) ++ o ∷ [])) f
+    ap (λ zs. all_found (map v zs)) more ∙ ap all_found (map-append v (take i xs) (x ∷ []))
+    ∙ ap (λ o. all_found (map v (take i xs) ++ o ∷ [])) f
     ∙ one_more (map v (take i xs)) ys y e
 
 -- steps of some, of one more, and of all

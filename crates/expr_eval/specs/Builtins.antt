@@ -5,7 +5,7 @@ use Rattle.std.specs.Int.{int_min, int_max}
 use Rattle.std.specs.Option.{option_map_or}
 use Rattle.std.specs.Str.{chars}
 use Rattle.fixed_num.specs.Number.{million, floored, ceiled, root_of}
-use Rattle.time_calc.specs.declared.unit.PartOf.{PartOf}
+use Rattle.case_table.specs.declared.unit.PartOf.{PartOf}
 use Rattle.time_calc.specs.Parts.{part}
 use Rattle.time_calc.specs.Texts.{read_instant}
 use Rattle.time_calc.specs.Datetime.{instant_of}

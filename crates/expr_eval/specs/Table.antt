@@ -2,7 +2,7 @@
 use Rattle.std.specs.Prelude.{ℕ, List, [], ◌∷◌, Option, Some, if◌then◌else◌, ◌==◌, slice_get, codes, map, ◌≡◌, refl}
 use Rattle.std.specs.Option.{option_map_or}
 use Rattle.case_table.specs.Names as names
-use Rattle.time_calc.specs.declared.unit.PartOf.TheVariants as part
+use Rattle.case_table.specs.declared.unit.PartOf.TheVariants as part
 use Rattle.cell_value.specs.declared.cell.Cell.{Cell}
 use Rattle.cell_value.specs.declared.cell.Cell.TheVariants.{Null}
 use Rattle.cell_value.specs.Cell.{truth}

@@ -19,7 +19,7 @@ use Rattle.plain_rows.proofs.Lists.{kept_passes}
 
 module _ {X Y : Type 0} (f : X → Y) where
   -- what holds of each element as it is seen
-  all_back : (P : Y → Type 0) (xs : List X) → All P (map f xs) → All (λ x. P (f x)) xs
+  pub all_back : (P : Y → Type 0) (xs : List X) → All P (map f xs) → All (λ x. P (f x)) xs
   all_back P xs h k d within = subst P (get_or-map f xs k d (f d) within) (h k (f d) (omega (arith, length-map xs f)))
 
   -- a filter leaves pairs as they were

@@ -1,3 +1,6 @@
 mod Lists
 mod Keys
 mod Readings
+mod UnitLemmas
+pub mod FoldLemmas
+mod LookupLemmas

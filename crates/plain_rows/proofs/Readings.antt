@@ -42,7 +42,7 @@ reads_at out cell keyed name =
     ∙ ap (λ b. if bytes_eq name id_name then id else unwrap_or (cond b (Some cell) (finite.get keyed.row name)) Null) (sym (texts_ties name out))
     ∙ by_tests (bytes_eq name id_name) (bytes_eq name out) id cell (finite.get keyed.row name)
 
-reads_with : (out : List ℕ) (cell : Cell) (keyed : Keyed) → datum_with out cell (datum_of keyed) ≡ datum_of (with_cell out cell keyed)
+pub reads_with : (out : List ℕ) (cell : Cell) (keyed : Keyed) → datum_with out cell (datum_of keyed) ≡ datum_of (with_cell out cell keyed)
 reads_with out cell keyed = sym (λ i. record { key = keyed.key; cell = λ name. reads_at out cell keyed name i })
 
 reads_put : (out : List ℕ) (keyed : Keyed) (o : Option Cell) → option_map (λ cell. datum_with out cell (datum_of keyed)) o ≡ option_map datum_of (option_map (λ cell. with_cell out cell keyed) o)

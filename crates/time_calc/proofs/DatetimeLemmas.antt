@@ -24,11 +24,11 @@ ends_in_year year month h =
     let last : days_of_months leap 12 ≡ days_of_months leap 11 + days_of_month leap 12 = unfold days_of_months in refl in
     omega (arith, before, last, months_make_the_year year, years_follow year)
 
-year_1 : days_before_year 1 ≡ 366
+pub year_1 : days_before_year 1 ≡ 366
 unfolding days_before_year
 year_1 = refl
 
-year_9999 : days_before_year 9999 ≡ 3652060
+pub year_9999 : days_before_year 9999 ≡ 3652060
 unfolding days_before_year
 year_9999 = refl
 

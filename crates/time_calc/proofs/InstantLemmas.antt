@@ -9,11 +9,11 @@ use Rattle.time_calc.specs.InstantLaws.{InstantsAreOfTheirDays, DaysHaveTimes}
 
 -- ---- a day of so many milliseconds
 
-day_and_rest : (i : ℤ) → int_div_euclid i (pos 86400000) *ℤ pos 86400000 +ℤ pos (unsigned_abs (int_rem_euclid i (pos 86400000))) ≡ i
+pub day_and_rest : (i : ℤ) → int_div_euclid i (pos 86400000) *ℤ pos 86400000 +ℤ pos (unsigned_abs (int_rem_euclid i (pos 86400000))) ≡ i
 day_and_rest (pos n) = omega (arith, ints)
 day_and_rest (negsuc n) = omega (arith, ints)
 
-rest_below : (i : ℤ) → unsigned_abs (int_rem_euclid i (pos 86400000)) < 86400000
+pub rest_below : (i : ℤ) → unsigned_abs (int_rem_euclid i (pos 86400000)) < 86400000
 rest_below (pos n) = omega arith
 rest_below (negsuc n) = omega arith
 
@@ -44,7 +44,7 @@ pub record Shows (t : TimeOfDay) : Type 0 where
   pub seconds : t.seconds ≤ 59
   pub milliseconds : t.milliseconds ≤ 999
 
-shows : (t : TimeOfDay) → is_time t ≡ true → Shows t
+pub shows : (t : TimeOfDay) → is_time t ≡ true → Shows t
 shows t h =
     let first = and_parts _ _ h in let second = and_parts _ _ first.0 in let third = and_parts _ _ second.0 in
     record { hours = leb-true _ _ third.0; minutes = leb-true _ _ third.1; seconds = leb-true _ _ second.1; milliseconds = leb-true _ _ first.1 }
@@ -54,7 +54,7 @@ parts_back : (h m s k : ℕ) → m ≤ 59 → s ≤ 59 → k ≤ 999 → (n : �
     (n / 3600000 ≡ h) × (n / 60000 % 60 ≡ m) × (n / 1000 % 60 ≡ s) × (n % 1000 ≡ k)
 parts_back h m s k hm hs hk n e = (omega (arith, e, hm, hs, hk), omega (arith, e, hm, hs, hk), omega (arith, e, hm, hs, hk), omega (arith, e, hm, hs, hk))
 
-one_day : (day q : ℤ) (s r : ℕ) → s < 86400000 → r < 86400000 → q *ℤ pos 86400000 +ℤ pos r ≡ day *ℤ pos 86400000 +ℤ pos s → (q ≡ day) × (r ≡ s)
+pub one_day : (day q : ℤ) (s r : ℕ) → s < 86400000 → r < 86400000 → q *ℤ pos 86400000 +ℤ pos r ≡ day *ℤ pos 86400000 +ℤ pos s → (q ≡ day) × (r ≡ s)
 one_day day q s r hs hr e = (omega (arith, ints, e, hs, hr), omega (arith, ints, e, hs, hr))
 
 clock : ℕ → ℕ → ℕ → ℕ → TimeOfDay
@@ -75,3 +75,8 @@ days_have_times day t h =
     let both = one_day day (int_div_euclid i (pos 86400000)) (since_midnight t) n within (rest_below i) (day_and_rest i) in
     let back = parts_back t.hours t.minutes t.seconds t.milliseconds shown.minutes shown.seconds shown.milliseconds n both.1 in
     record { on_day = both.0; at_time = same_time t (n / 3600000) (n / 60000 % 60) (n / 1000 % 60) (n % 1000) back.0 back.1 back.2 back.3 }
+
+-- a million is 64 times 15625
+pub million_by_parts : (z : ℤ) → int_div_euclid (int_div_euclid z (pos 64)) (pos 15625) ≡ int_div_euclid z (pos 1000000)
+million_by_parts (pos n) = let e : n / 64 / 15625 ≡ n / 1000000 = omega arith in ap pos e
+million_by_parts (negsuc n) = let e : n / 64 / 15625 ≡ n / 1000000 = omega arith in ap negsuc e

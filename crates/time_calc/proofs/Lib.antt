@@ -1,4 +1,13 @@
+pub mod BoundaryClocks
+pub mod BoundaryDates
+pub mod BoundaryDays
+pub mod BoundaryFrame
+pub mod BoundaryMilliseconds
+pub mod BoundaryUnits
 pub mod CalendarLemmas
 pub mod DatetimeLemmas
 pub mod FormLemmas
 pub mod InstantLemmas
+pub mod LabelLemmas
+pub mod TimeUnitEnds
+pub mod TimeUnitLemmas

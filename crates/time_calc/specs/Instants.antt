@@ -1,7 +1,8 @@
 -- Instants: whole milliseconds since 1970-01-01T00:00Z, as days and times of day.
-use Rattle.std.specs.Prelude.{ℕ, ◌+◌, ◌*◌, ◌/◌, ◌%◌, ◌&&◌, int_le, nat_le, Bool, if◌then◌else◌, ℤ, pos, negsuc, neg_ℤ, ◌+ℤ◌, ◌*ℤ◌, unsigned_abs, Option, Some, None, ◌≡◌, refl}
+use Rattle.std.specs.Prelude.{ℕ, ◌+◌, ◌*◌, ◌/◌, ◌%◌, ◌&&◌, nat_le, Bool, if◌then◌else◌, ℤ, pos, negsuc, neg_ℤ, ◌+ℤ◌, ◌*ℤ◌, unsigned_abs, Option, Some, None, ◌≡◌, refl}
 use Rattle.std.specs.Int.{int_div_euclid, int_rem_euclid}
 use Rattle.fixed_num.specs.Number.{million}
+pub use Rattle.fixed_num.specs.Ranges.{is_within}
 use Rattle.time_calc.specs.declared.instants.TimeOfDay.{TimeOfDay}
 
 -- the milliseconds of a day
@@ -15,10 +16,6 @@ first_instant = neg_ℤ (pos 62135596800000)
 -- 9998-12-31T23:59:59.999Z
 abbrev pub last_instant : ℤ
 last_instant = pos 253370764799999
-
--- a number lies between two, both included
-abbrev pub is_within : ℤ → ℤ → ℤ → Bool
-is_within low high z = int_le low z && int_le z high
 
 -- an instant is in range
 abbrev pub is_in_range : ℤ → Bool

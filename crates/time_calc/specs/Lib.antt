@@ -3,6 +3,11 @@ pub mod CalendarLaws
 pub mod Instants
 pub mod InstantLaws
 pub mod Parts
+pub mod Boundaries
+pub mod NextBoundary
+pub mod TimeUnits
+pub mod TimeUnitLaws
+pub mod Labels
 pub mod Datetime
 pub mod Forms
 pub mod Texts

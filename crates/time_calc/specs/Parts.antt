@@ -1,8 +1,8 @@
 -- The parts of an instant.
 use Rattle.std.specs.Prelude.{ℕ, ◌+◌, ◌-◌, ◌/◌, ℤ, pos, ◌*ℤ◌, Option, Some, option_map, ◌≡◌, refl}
 use Rattle.fixed_num.specs.Number.{million}
-use Rattle.time_calc.specs.declared.unit.PartOf.{PartOf}
-use Rattle.time_calc.specs.declared.unit.PartOf.TheVariants.{Year, Quarter, Month, Date, Day, Hours, Minutes, Seconds, Milliseconds}
+use Rattle.case_table.specs.declared.unit.PartOf.{PartOf}
+use Rattle.case_table.specs.declared.unit.PartOf.TheVariants.{Year, Quarter, Month, Date, Day, Hours, Minutes, Seconds, Milliseconds}
 use Rattle.time_calc.specs.Calendar.{date_of_day, weekday_of, date_of_count, greatest, days_before_year, days_of_months}
 use Rattle.time_calc.specs.Instants.{instant_at, day_of_instant, time_of_instant, instant_number, first_instant, last_instant}
 

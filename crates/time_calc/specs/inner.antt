@@ -1,3 +1,5 @@
+pub mod Calendar
 pub mod Datetime
 pub mod Forms
+pub mod Labels
 pub mod Texts

@@ -1,5 +1,6 @@
 //! The proleptic Gregorian calendar.
 ghost use Rattle.std.specs.Prelude.{◌≡◌, ◌*◌, ◌/◌, ◌&&◌, nat_le, if◌then◌else◌, ◌≤◌, ◌<◌, ◌-◌, ◌+ℤ◌, ◌<ℤ◌, ◌≤ℤ◌, ℤ, pos, negsuc, neg_ℤ, IsTrue};
+ghost use Rattle.time_calc.specs.inner.Calendar.{missing_days, skipped_days};
 ghost use Rattle.time_calc.specs.Calendar.{is_leap, days_of_month, days_before_year, days_of_months, is_date, day_count, day_of_date, year_of_count, month_of_count, date_of_count, date_of_day, weekday_of};
 
 /// A date: the year, the month from 1 to 12, and the day of the month from 1.
@@ -11,17 +12,17 @@ pub struct Date {
 }
 
 /// The number of days from 1 January of the year 0 to 1 January 1970.
-const DAYS_BEFORE_1970: i64 = 719_528;
+pub(crate) const DAYS_BEFORE_1970: i64 = 719_528;
 
 /// Whether a year is a leap year.
-fn is_leap(year: u32) -> bool
+pub(crate) fn is_leap(year: u32) -> bool
     ensures { result ≡ is_leap year }
 {
     year % 4 == 0 && (year % 100 != 0 || year % 400 == 0)
 }
 
 /// The number of days of a month, counted from 1.
-fn days_of_month(leap: bool, month: u32) -> u32
+pub(crate) fn days_of_month(leap: bool, month: u32) -> u32
     ensures { result ≡ days_of_month leap month }
 {
     match month {
@@ -33,7 +34,7 @@ fn days_of_month(leap: bool, month: u32) -> u32
 
 /// The number of days of the years from 0 to before this one.
 #[tactic(auto, unfolding(crate::specs::Calendar::days_before_year))]
-fn days_before_year(year: u32) -> u32
+pub(crate) fn days_before_year(year: u32) -> u32
     requires { year ≤ 1_000_000 }
     ensures value { result ≡ days_before_year year }
     ensures bound { result ≤ 366 * year }
@@ -41,23 +42,28 @@ fn days_before_year(year: u32) -> u32
     365 * year + ((year + 3) / 4 - (year + 99) / 100 + (year + 399) / 400)
 }
 
-/// The leap day that so many months have from January on.
-fn leap_day(leap: bool, months: u32) -> u32
-    ensures value { result ≡ (if leap && nat_le 2 months then 1 else 0) }
-    ensures bound { result ≤ 1 }
+/// How many days so many months from January on lack, where February had 30 days.
+fn missing_days(leap: bool, months: u32) -> u32
+    ensures value { result ≡ missing_days leap months }
+    ensures bound { result ≤ 2 }
 {
-    if leap && months >= 2 { 1 } else { 0 }
+    if months < 2 {
+        0
+    } else if leap {
+        1
+    } else {
+        2
+    }
 }
 
 /// The number of days of so many months from January on.
-#[tactic(auto, using(crate::proofs::CalendarLemmas::months_by_table))]
-fn days_of_months(leap: bool, months: u32) -> u32
-    requires { months ≤ 11 }
+#[tactic(auto, using(crate::proofs::CalendarLemmas::months_by_formula))]
+pub(crate) fn days_of_months(leap: bool, months: u32) -> u32
+    requires { months ≤ 12 }
     ensures value { result ≡ days_of_months leap months }
-    ensures bound { result ≤ 335 }
+    ensures bound { result ≤ 366 }
 {
-    const COMMON: [u32; 12] = [0, 31, 59, 90, 120, 151, 181, 212, 243, 273, 304, 334];
-    COMMON[months as usize] + leap_day(leap, months)
+    (367 * months + 5) / 12 - missing_days(leap, months)
 }
 
 /// Whether the calendar has a date.
@@ -93,26 +99,38 @@ fn year_of_count(count: u32) -> u32
     ensures bound { result ≤ count / 365 }
     ensures started { days_before_year result ≤ count }
 {
-    let mut year = count / 365;
+    let mut year = (count + 1) * 400 / 146_097;
     while days_before_year(year) > count {
         year -= 1;
     }
     year
 }
 
+/// The days by which a day of a year would come later, where February had 30 days.
+fn skipped_days(leap: bool, count: u32) -> u32
+    ensures value { result ≡ skipped_days leap count }
+    ensures bound { result ≤ 2 }
+{
+    if leap {
+        if count < 60 { 0 } else { 1 }
+    } else if count < 59 {
+        0
+    } else {
+        2
+    }
+}
+
 /// The month of a day counted from 1 January of its year.
-#[tactic(auto, unfolding(crate::specs::Calendar::greatest))]
+#[tactic(auto, using(crate::proofs::CalendarLemmas::month_by_formula))]
 fn month_of_count(leap: bool, count: u32) -> u32
+    requires inside { count < days_of_months leap 12 }
+    requires small { count ≤ 365 }
     ensures value { result ≡ month_of_count leap count }
     ensures low { 1 ≤ result }
     ensures high { result ≤ 12 }
     ensures started { days_of_months leap (result - 1) ≤ count }
 {
-    let mut month = 12;
-    while days_of_months(leap, month - 1) > count {
-        month -= 1;
-    }
-    month
+    (12 * (count + skipped_days(leap, count)) + 6) / 367 + 1
 }
 
 /// The date of a day counted from 1 January of the year 0.

@@ -1,6 +1,6 @@
 //! Instants: whole milliseconds since 1970-01-01T00:00Z.
-ghost use Rattle.std.specs.Prelude.{◌≡◌, ◌≤◌, ◌<◌, ◌≤ℤ◌, ◌*ℤ◌, ℤ, pos, neg_ℤ, unsigned_abs, IfSome, IsTrue};
-ghost use Rattle.time_calc.specs.Instants.{is_in_range, instant_in_range, instant_at, since_midnight, is_time, day_of_instant, time_of_instant, first_instant, last_instant};
+ghost use Rattle.std.specs.Prelude.{◌≡◌, ◌≤◌, ◌<◌, ◌≤ℤ◌, ◌*ℤ◌, ◌+ℤ◌, ℤ, pos, neg_ℤ, unsigned_abs, Some, IfSome, IsTrue};
+ghost use Rattle.time_calc.specs.Instants.{instant_number, is_in_range, instant_in_range, instant_at, since_midnight, is_time, day_of_instant, time_of_instant, first_instant, last_instant};
 
 use fixed_num::Num;
 
@@ -20,19 +20,28 @@ pub(crate) const MILLION: i128 = 1_000_000;
 pub(crate) const DAY_LENGTH: i128 = 86_400_000;
 
 /// 0001-01-01T00:00:00.000Z.
-const FIRST_INSTANT: i128 = -62_135_596_800_000;
+pub(crate) const FIRST_INSTANT: i64 = -62_135_596_800_000;
 
 /// 9998-12-31T23:59:59.999Z.
-const LAST_INSTANT: i128 = 253_370_764_799_999;
+pub(crate) const LAST_INSTANT: i64 = 253_370_764_799_999;
 
 /// The number of an instant; None exactly where it is out of range.
 pub(crate) fn instant_in_range(instant: i128) -> Option<Num>
     ensures { result ≡ instant_in_range instant }
 {
-    if instant < FIRST_INSTANT || instant > LAST_INSTANT {
+    if instant < i128::from(FIRST_INSTANT) || instant > i128::from(LAST_INSTANT) {
         return None;
     }
     Num::of_millionths(instant * MILLION)
+}
+
+/// The number of an instant, or of the one at which the range ends.
+pub(crate) fn number_of(instant: i64) -> Option<Num>
+    requires low { first_instant ≤ℤ instant }
+    requires high { instant ≤ℤ (last_instant +ℤ pos 1) }
+    ensures { result ≡ Some (instant_number instant) }
+{
+    Num::of_millionths(i128::from(instant) * MILLION)
 }
 
 /// The instant for which a number stands, in whole milliseconds, below it where it has a fraction; None exactly where the
@@ -43,10 +52,12 @@ pub(crate) fn instant_at(number: Num) -> Option<i64>
     ensures high { IfSome result (λ instant. instant ≤ℤ last_instant) }
 {
     let millionths = number.millionths();
-    if millionths < FIRST_INSTANT * MILLION || millionths > LAST_INSTANT * MILLION {
+    if millionths < i128::from(FIRST_INSTANT) * MILLION
+        || millionths > i128::from(LAST_INSTANT) * MILLION
+    {
         return None;
     }
-    Some(millionths.div_euclid(MILLION) as i64)
+    Some((millionths.div_euclid(64) as i64).div_euclid(15_625))
 }
 
 /// The day of an instant, counted from 1 January 1970.

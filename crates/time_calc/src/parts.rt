@@ -5,7 +5,7 @@ ghost use Rattle.time_calc.specs.Parts.{part_of, part};
 
 use crate::calendar::{date_of_day, weekday_of};
 use crate::instants::{day_of_instant, instant_at, time_of_instant};
-use crate::unit::PartOf;
+use case_table::PartOf;
 use fixed_num::Num;
 
 /// A part of the instant for which a number of milliseconds since 1970-01-01T00:00Z stands, in UTC: the quarter from 1, the
@@ -19,7 +19,7 @@ pub fn part(at: Num, p: PartOf) -> Option<Num>
 }
 
 /// A part of an instant.
-fn part_of(instant: i64, p: PartOf) -> u32
+pub(crate) fn part_of(instant: i64, p: PartOf) -> u32
     requires first { first_instant ≤ℤ instant }
     requires last { instant ≤ℤ last_instant }
     ensures { result ≡ part_of instant p }

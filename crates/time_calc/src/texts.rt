@@ -14,7 +14,7 @@ use crate::instants::{DAY_LENGTH, TimeOfDay, instant_in_range, is_time, since_mi
 use fixed_num::Num;
 
 /// The names of the months.
-const MONTH_NAMES: [&str; 12] = [
+pub(crate) const MONTH_NAMES: [&str; 12] = [
     "Jan", "Feb", "Mar", "Apr", "May", "Jun", "Jul", "Aug", "Sep", "Oct", "Nov", "Dec",
 ];
 

@@ -1,18 +1,15 @@
-use Rattle.std.proofs.Common.{◌∙◌, sym, arith}
-use Rattle.time_calc.proofs.CalendarLemmas.{earlier_month, this_month}
+use Rattle.std.proofs.Common.{◌≡◌, ◌∙◌, ℕ, ◌+◌, ◌-◌, ◌*◌, ◌/◌, ap, arith}
+use Rattle.time_calc.specs.Calendar.{days_of_months, month_of_count}
+use Rattle.time_calc.proofs.CalendarLemmas.{month_by_formula, month_in_range, month_starts}
 use Rattle.time_calc.proofs.calendar.month_of_count.Goals as goal
 
-pub loop-month-preserved : goal.loop-month-preserved
-loop-month-preserved c =
-    let step = earlier_month c.args.leap c.args.count c.loop-month.month c.loop-month.invariant.bounded.0 (omega arith) in
-    record { found = step.1 ∙ c.loop-month.invariant.found; bounded = (step.0, omega (arith, c.loop-month.invariant.bounded.1)) }
+pub returns-clause-high : goal.returns-clause-high
+returns-clause-high c =
+    let is = ap (λ s. (12 * (c.args.count + s) + 6) / 367 + 1) c.skipped_days.ensures.value ∙ month_by_formula c.args.leap c.args.count c.requires.inside in
+    omega (arith, is, (month_in_range c.args.leap c.args.count).1)
 
-pub returns : goal.returns
-returns c =
-    let here = this_month c.args.leap c.args.count c.loop-month.month (omega arith) in
-    record {
-      value = sym here ∙ c.loop-month.invariant.found;
-      low = c.loop-month.invariant.bounded.0;
-      high = c.loop-month.invariant.bounded.1;
-      started = omega arith;
-    }
+pub returns-clause-started : goal.returns-clause-started
+returns-clause-started c =
+    let is = ap (λ s. (12 * (c.args.count + s) + 6) / 367 + 1) c.skipped_days.ensures.value ∙ month_by_formula c.args.leap c.args.count c.requires.inside in
+    let same = ap (λ m. days_of_months c.args.leap (m - 1)) is in
+    omega (arith, same, month_starts c.args.leap c.args.count)

@@ -1,6 +1,9 @@
 use Rattle.std.proofs.Common.{◌∙◌, sym, arith}
-use Rattle.time_calc.proofs.CalendarLemmas.{earlier_year, this_year}
+use Rattle.time_calc.proofs.CalendarLemmas.{earlier_year, this_year, first_year_tried}
 use Rattle.time_calc.proofs.calendar.year_of_count.Goals as goal
+
+pub loop-year-init : goal.loop-year-init
+loop-year-init c = let first = first_year_tried c.args.count in record { found = first.1; bounded = first.0 }
 
 pub days_before_year-requires : goal.days_before_year-requires
 days_before_year-requires c = omega (arith, c.loop-year.invariant.bounded)
