@@ -1,0 +1,4 @@
+mod KindLemmas
+mod RecordLemmas
+mod FieldLemmas
+mod StepLemmas

@@ -1,0 +1,12 @@
+use Rattle.std.proofs.Common.{[], length, slice_get, sym, ap, ◌∙◌}
+use Rattle.std.proofs.lemmas.Option.{slice_get-get_or}
+use Rattle.std.specs.Option.{option_map}
+use Rattle.csv.specs.Records.{fields_of}
+use Rattle.data_rows.proofs.FieldLemmas.{at_place}
+use Rattle.data_rows.proofs.csv_rows.field_in.Goals as goal
+
+pub unreachable-requires : goal.unreachable-requires
+unreachable-requires c = cc (slice_get-get_or (fields_of c.args.fields.now) c.args.i [] c.requires, at_place (fields_of c.args.fields.now) c.args.i, c.in-None.ensures.value)
+
+pub returns : goal.returns
+returns c = sym (at_place (fields_of c.args.fields.now) c.args.i) ∙ sym c.in-Some.ensures.value

@@ -1,0 +1,5 @@
+pub mod Outcome
+pub mod Parse
+pub mod JsonRows
+pub mod CsvRows
+pub mod inner

@@ -1,0 +1,5 @@
+-- Words that only private contracts and proofs cite.
+pub mod Kinds
+pub mod JsonNames
+pub mod Ahead
+pub mod Records

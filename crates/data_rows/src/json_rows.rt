@@ -1,0 +1,164 @@
+// Rows that are given as JSON.
+ghost use Rattle.std.specs.Prelude.{◌≡◌, [], ◌∷◌, codes, find, IfOk, ℕ, List, option_copied, map};
+ghost use Rattle.json_exact.specs.declared.json.Json.{out-Json};
+ghost use Rattle.cell_value.specs.Row.{row_of};
+ghost use Rattle.data_rows.specs.Outcome.{GivesRows, all_rows, numbered};
+ghost use Rattle.data_rows.specs.JsonRows.{cell_in, is_huge, cells_of, fields_in, bad_field, parsed_fields, json_row, rows_of_json};
+ghost use Rattle.data_rows.specs.Parse.{parsed_as};
+ghost use Rattle.data_rows.specs.inner.JsonNames.{huge_name};
+
+use crate::cells::text_cell;
+use crate::kinds::Kinds;
+use crate::{ParseKind, RowError};
+use cell_value::{Cell, Row};
+use json_exact::{Json, Member};
+use std::alloc::Global;
+use std::slice;
+use text_kit::{OutOfMemory, Seq, Text};
+
+/// The name under which every row reads as its id, whatever it holds there.
+pub(crate) const ID_NAME: &str = "_vgsid_";
+
+/// The rows of a JSON value, of which the texts of some fields are parsed. A list gives a row for each of its values, any other value
+/// one row. An object's members are its row's cells, with lists and objects read as null; a value that is no list and no object
+/// stands under `data`; a member `_vgsid_` is dropped. `Fault` comes exactly where a row is bad, and names the first: a list is bad
+/// as a whole, and a number out of range makes its field bad. Of several kinds under one name the last holds.
+pub fn rows_of_json(
+    alloc: Global,
+    tree: &Json,
+    parse: &Seq<(Text, ParseKind)>,
+) -> Result<Seq<Row>, RowError>
+    ensures { GivesRows result (rows_of_json parse.now tree.now) }
+{
+    let kinds = Kinds::of(alloc, parse.as_slice())?;
+    match tree {
+        Json::List(items) => rows_of_values(alloc, items.as_slice(), &kinds),
+        Json::Null
+        | Json::Flag(_)
+        | Json::Number(_)
+        | Json::Huge
+        | Json::Text(_)
+        | Json::Object(_) => rows_of_values(alloc, slice::from_ref(tree), &kinds),
+    }
+}
+
+// The rows of values.
+fn rows_of_values(alloc: Global, trees: &[Json], kinds: &Kinds) -> Result<Seq<Row>, RowError>
+    ensures { GivesRows result (all_rows 0 (map (json_row kinds.now.parse.now) trees.now)) }
+{
+    let mut rows = Seq::with_capacity(alloc, trees.len())?;
+    for (number, tree) in trees.iter().enumerate() {
+        match json_row(alloc, number as u64, tree, kinds) {
+            Ok(row) => rows.push(row)?,
+            Err(error) => return Err(error),
+        }
+    }
+    Ok(rows)
+}
+
+// The row of a value, which has a number.
+fn json_row(alloc: Global, number: u64, tree: &Json, kinds: &Kinds) -> Result<Row, RowError>
+    ensures { GivesRows result (numbered number (json_row kinds.now.parse.now tree.now)) }
+{
+    match bad_field(tree) {
+        Some(field) => Err(RowError::Fault {
+            row: number,
+            field: Text::of(alloc, field)?,
+        }),
+        None => Ok(Row::from_entries(alloc, fields_of(alloc, tree, kinds)?)?),
+    }
+}
+
+// The cells of a value under their names, parsed.
+fn fields_of(alloc: Global, tree: &Json, kinds: &Kinds) -> Result<Vec<(Text, Cell)>, OutOfMemory>
+    ensures { IfOk result (λ cells. cells.items ≡ parsed_fields kinds.now.parse.now (fields_in (out-Json tree.now))) }
+{
+    match tree {
+        Json::Object(members) => cells_of(alloc, members.as_slice(), kinds),
+        Json::Null | Json::Flag(_) | Json::Number(_) | Json::Huge | Json::Text(_) | Json::List(_) =>
+            data_field(alloc, kinds.of_field("data"), tree),
+    }
+}
+
+// A value that stands under `data`, parsed.
+fn data_field(
+    alloc: Global,
+    kind: Option<ParseKind>,
+    tree: &Json,
+) -> Result<Vec<(Text, Cell)>, OutOfMemory>
+    ensures { IfOk result (λ cells. cells.items ≡ (codes "data", parsed_as kind (cell_in (out-Json tree.now))) ∷ []) }
+{
+    let mut cells = Vec::new(alloc);
+    cells.push((Text::of(alloc, "data")?, cell_in(alloc, kind, tree)?))?;
+    Ok(cells)
+}
+
+// The cells that members give to a row, under their names, parsed.
+fn cells_of(
+    alloc: Global,
+    members: &[Member],
+    kinds: &Kinds,
+) -> Result<Vec<(Text, Cell)>, OutOfMemory>
+    ensures { IfOk result (λ cells. cells.items ≡ parsed_fields kinds.now.parse.now (cells_of members.now)) }
+{
+    let mut cells = Vec::with_capacity(alloc, members.len())?;
+    for member in members {
+        let name = member.name.as_str();
+        if name != ID_NAME {
+            let cell = cell_in(alloc, kinds.of_field(name), &member.value)?;
+            cells.push((member.name.copy()?, cell))?;
+        }
+    }
+    Ok(cells)
+}
+
+// The cell of a value, parsed; a list or an object is read as null.
+fn cell_in(alloc: Global, kind: Option<ParseKind>, tree: &Json) -> Result<Cell, OutOfMemory>
+    ensures { IfOk result (λ cell. cell ≡ parsed_as kind (cell_in (out-Json tree.now))) }
+{
+    match tree {
+        Json::Flag(flag) => Ok(Cell::Flag(*flag)),
+        Json::Number(number) => Ok(Cell::Number(*number)),
+        Json::Text(text) => text_cell(alloc, kind, text.as_str()),
+        Json::Null | Json::Huge | Json::List(_) | Json::Object(_) => Ok(Cell::Null),
+    }
+}
+
+// The first field of a row that can't be read: a number out of range. A list is no row at all.
+fn bad_field(tree: &Json) -> Option<&str>
+    ensures { option_copied result ≡ bad_field tree.now }
+{
+    match tree {
+        Json::List(_) => Some(""),
+        Json::Huge => Some("data"),
+        Json::Object(members) => huge_name(members.as_slice()),
+        Json::Null | Json::Flag(_) | Json::Number(_) | Json::Text(_) => None,
+    }
+}
+
+// The name of the first member whose value is a number out of range.
+fn huge_name(members: &[Member]) -> Option<&str>
+    ensures { option_copied result ≡ huge_name members.now }
+{
+    for member in members {
+        if is_huge(&member.value) {
+            return Some(member.name.as_str());
+        }
+    }
+    None
+}
+
+// Whether a value is a number out of range.
+fn is_huge(tree: &Json) -> bool
+    ensures { result ≡ is_huge (out-Json tree.now) }
+{
+    match tree {
+        Json::Huge => true,
+        Json::Null
+        | Json::Flag(_)
+        | Json::Number(_)
+        | Json::Text(_)
+        | Json::List(_)
+        | Json::Object(_) => false,
+    }
+}

@@ -1,0 +1,14 @@
+//! Rows of data files: of JSON and of CSV, with the kinds as which fields are to be parsed, or the first row that is bad.
+#![tactic(auto)]
+
+mod cells;
+mod csv_rows;
+mod error;
+mod json_rows;
+mod kinds;
+mod records;
+
+pub use csv_rows::rows_of_csv;
+pub use error::RowError;
+pub use json_rows::rows_of_json;
+pub use kinds::ParseKind;
