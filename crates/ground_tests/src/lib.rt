@@ -1,6 +1,8 @@
-//! Tests of the ground: texts and lists, numbers, tables of names, and the outside. The crates are called as others call them.
+//! Tests of the ground: texts and lists, numbers, tables of names, graphs, and the outside. The crates are called as others call them.
 #![tactic(auto)]
 
+#[cfg(test)]
+mod graphs;
 #[cfg(test)]
 mod names;
 #[cfg(test)]
