@@ -9,7 +9,7 @@ use Rattle.std.proofs.lemmas.Bool.Decides.{nat_tests}
 use Rattle.std.proofs.lemmas.Str.{IsUtf8-from_ascii, IsCharBoundary-from_take}
 use Rattle.std.proofs.lemmas.Str.Ascii.{IsAscii-nil, IsAscii-cons}
 use Rattle.expr_syntax.specs.Tokens.{is_blank, is_name_start, is_name_byte, IsName, BeginsWithout}
-use Rattle.expr_syntax.specs.inner.Scanner.{first}
+use Rattle.fixed_num.specs.Front.{first}
 
 pub one_more : (n : ℕ) → 1 + n ≡ suc n
 one_more n = omega arith

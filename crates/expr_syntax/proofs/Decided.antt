@@ -1,5 +1,6 @@
 -- Whether a text reads as a tree can be decided.
-use Rattle.std.proofs.Common.{◌≡◌, ℕ, zero, suc, ◌<◌, List, [], ◌∷◌, length, drop, Result, Ok, Err, refl, sym, ap, subst, inl, inr, ◌⊎◌, arith}
+use Rattle.std.proofs.Common.{◌≡◌, ℕ, zero, suc, ◌<◌, List, [], ◌∷◌, length, drop, Result, Ok, Err, refl, sym, ap, subst, inl, inr, ◌⊎◌}
+use Rattle.std.proofs.Common.{arith}
 use Rattle.std.specs.List.{prefix_len}
 use Rattle.expr_syntax.specs.declared.expr.Expr.{Expr}
 use Rattle.expr_syntax.specs.declared.token.Token.{Token}
@@ -12,7 +13,7 @@ use Rattle.expr_syntax.proofs.Readings.{whole_read, read_sound}
 use Rattle.expr_syntax.proofs.TokenLemmas.{token_has, has_token, token_shorter, none_has, blanks_have, have_blanks, blanks_le}
 
 -- the tokens of bytes, or that they have none
-abbrev HaveTokens : List ℕ → Type 0
+abbrev pub HaveTokens : List ℕ → Type 0
 HaveTokens bytes = ((ts : List Token) × HasTokens bytes ts) ⊎ ((ts : List Token) → HasTokens bytes ts → ⊥)
 
 -- bytes from the first that is no blank
@@ -28,13 +29,14 @@ at_token : (bytes : List ℕ) → 0 < length (bare bytes) → ((x : Token × Lis
 at_token bytes some later (Ok x) e = with_first bytes x e (later x e)
 at_token bytes some later (Err k) e = inr (λ ts h. none_has (bare bytes) ts (blanks_have bytes ts h) some (front_ends is_blank bytes) e)
 
-at_bare : (bytes rest : List ℕ) → bare bytes ≡ rest → ((x : Token × List ℕ) → token_at (bare bytes) ≡ Ok x → HaveTokens x.1) → HaveTokens bytes
+at_bare : (bytes rest : List ℕ) → bare bytes ≡ rest → ((x : Token × List ℕ) → token_at (bare bytes) ≡ Ok x → HaveTokens x.1)
+    → HaveTokens bytes
 at_bare bytes [] e later = inl ([], have_blanks bytes [] (subst (λ (b : List ℕ). HasTokens b []) (sym e) none))
 at_bare bytes (b ∷ rest) e later =
     let long : length (bare bytes) ≡ length (b ∷ rest) = ap length e in
     at_token bytes (omega arith) later (token_at (bare bytes)) refl
 
-have_tokens : (fuel : ℕ) (bytes : List ℕ) → length bytes < fuel → HaveTokens bytes
+pub have_tokens : (fuel : ℕ) (bytes : List ℕ) → length bytes < fuel → HaveTokens bytes
 have_tokens zero bytes few = absurd (omega arith)
 have_tokens (suc fuel) bytes few =
     at_bare bytes (bare bytes) refl (λ x e. have_tokens fuel x.1 (omega (arith, few, token_shorter (bare bytes) x e, blanks_le bytes)))

@@ -19,7 +19,8 @@ expression_read text = kept (decided text)
 
 -- ---- what is read is an expression
 
-without_sound : (text : List ℕ) (d e : Expr) (b : Bool) → HasReading text d → has_domain_length d ≡ b → (if b then None else Some d) ≡ Some e
+without_sound : (text : List ℕ) (d e : Expr) (b : Bool) → HasReading text d → has_domain_length d ≡ b
+    → (if b then None else Some d) ≡ Some e
     → IsExpression text e
 without_sound text d e true r has k = absurd cc
 without_sound text d e false r has k =

@@ -15,7 +15,8 @@ use Rattle.expr_syntax.specs.declared.token.Mark.TheVariants as mark
 use Rattle.expr_syntax.specs.Grammar.{mark_of, level_of, store_of}
 use Rattle.expr_syntax.specs.inner.Parser.{mark_number, is, starts, after, name_at, quoted_at, after_word, operator_of, of_level}
 use Rattle.expr_syntax.specs.inner.Parser.{operator_at, before_store}
-use Rattle.expr_syntax.proofs.Taken.{bind_ok, guarded, ok_is}
+use Rattle.fixed_num.proofs.Steps.{bind_ok, guarded}
+use Rattle.expr_syntax.proofs.Taken.{ok_is}
 
 -- ---- marks
 
@@ -68,7 +69,7 @@ starts_true m (Quoted text ∷ rest) e = absurd cc
 
 pub after_sound : (m : AnyMark) (tokens rest : List Token) → after m tokens ≡ Ok rest → tokens ≡ Mark m ∷ rest
 after_sound m tokens rest e =
-    let g = guarded (starts m tokens) (Ok (drop 1 tokens)) rest e in
+    let g = guarded (starts m tokens) tt (Ok (drop 1 tokens)) rest e in
     starts_true m tokens g.0 ∙ ap (λ (r : List Token). Mark m ∷ r) (ok_is (drop 1 tokens) rest g.1)
 
 -- ---- words and texts
@@ -98,16 +99,16 @@ bytes_same a = (bytes_eq-Decides a a).1 refl
 pub after_word_sound : (word : List ℕ) (tokens rest : List Token) → after_word word tokens ≡ Ok rest → tokens ≡ Name word ∷ rest
 after_word_sound word tokens rest e =
     let b = bind_ok (name_at tokens) (λ x. cond (bytes_eq x.0 word) (Ok x.1) (Err tt)) rest e in
-    let g = guarded (bytes_eq b.value.0 word) (Ok b.value.1) rest b.then in
-    name_sound tokens b.value b.is ∙ ap (λ (w : List ℕ). Name w ∷ b.value.1) (bytes_true b.value.0 word g.0)
-    ∙ ap (λ (r : List Token). Name word ∷ r) (ok_is b.value.1 rest g.1)
+    let g = guarded (bytes_eq b.0.0 word) tt (Ok b.0.1) rest b.2 in
+    name_sound tokens b.0 b.1 ∙ ap (λ (w : List ℕ). Name w ∷ b.0.1) (bytes_true b.0.0 word g.0)
+    ∙ ap (λ (r : List Token). Name word ∷ r) (ok_is b.0.1 rest g.1)
 
 -- ---- the names of stores
 
 pub before_store_sound : (text p : List ℕ) → before_store text ≡ Ok p → text ≡ store_of p
 unfolding before_store
 before_store_sound text p e =
-    let g = guarded (bytes_eq (drop (length text - 6) text) (codes "_store")) (Ok (take (length text - 6) text)) p e in
+    let g = guarded (bytes_eq (drop (length text - 6) text) (codes "_store")) tt (Ok (take (length text - 6) text)) p e in
     sym (take-append-drop (length text - 6) text) ∙ ap (λ (back : List ℕ). take (length text - 6) text ++ back) (bytes_true _ _ g.0)
     ∙ ap store_of (ok_is (take (length text - 6) text) p g.1)
 

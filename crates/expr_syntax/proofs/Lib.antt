@@ -21,8 +21,10 @@ pub mod Complete
 pub mod Loops
 pub mod Readings
 pub mod Decided
+pub mod DecidedCalls
 pub mod Expressed
 pub mod Folded
 pub mod Rewritten
 pub mod Named
+pub mod Called
 pub mod TreeExamples

@@ -11,8 +11,10 @@ use Rattle.expr_syntax.specs.declared.token.Mark.{Mark as AnyMark}
 use Rattle.expr_syntax.specs.declared.token.Mark.TheVariants.{Or, And, Like, NotLike, Same, NotSame, Less, LessSame, More, MoreSame, Not}
 use Rattle.expr_syntax.specs.Tokens.{mark_text, IsLongest}
 use Rattle.expr_syntax.specs.TokenText.{grows}
-use Rattle.expr_syntax.specs.inner.Scanner.{first, mark_of, mark_at}
-use Rattle.expr_syntax.proofs.Steps.{either_way, begins}
+use Rattle.expr_syntax.specs.inner.Scanner.{mark_of, mark_at}
+use Rattle.fixed_num.specs.Front.{first}
+use Rattle.fixed_num.proofs.Steps.{begins}
+use Rattle.expr_syntax.proofs.Steps.{either_way}
 use Rattle.expr_syntax.proofs.Cuts.{cut_behind}
 use Rattle.std.specs.Str.{IsUtf8, IsAscii, IsCharBoundary}
 use Rattle.std.proofs.lemmas.List.{take_at}

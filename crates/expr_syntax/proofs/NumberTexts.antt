@@ -1,10 +1,9 @@
 -- A text has parts exactly where it is a JSON number.
-use Rattle.std.proofs.Common.{◌≡◌, ℕ, List, [], ◌∷◌, ◌++◌, Option, Some, None, Result, Ok, Err, refl, sym, subst, ap, ◌∙◌}
+use Rattle.std.proofs.Common.{◌≡◌, ℕ, List, [], ◌∷◌, Some, Ok, Err, refl, sym, subst, ap, ◌∙◌}
 use Rattle.std.proofs.lemmas.List.{append-nil}
 use Rattle.fixed_num.specs.JsonNumber.{Parts, Spells}
 use Rattle.fixed_num.specs.Front.{Read, parts_at}
-use Rattle.fixed_num.proofs.Steps.{Takes}
-use Rattle.fixed_num.proofs.Numerals.{NumberIs, parts_again, parts_sound as front_sound}
+use Rattle.fixed_num.proofs.Numerals.{parts_again, parts_sound as front_sound}
 use Rattle.expr_syntax.specs.NumberText.{parts_of, parts_alone}
 
 pub parts_found : (bytes : List ℕ) (p : Parts) → Spells bytes p → parts_of bytes ≡ Some p

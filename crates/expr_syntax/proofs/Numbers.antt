@@ -1,14 +1,13 @@
 -- The bytes of a number at the front, and its value.
 use Rattle.std.proofs.Common.{◌≡◌, ◌≢◌, ℕ, ◌+◌, ◌<◌, ◌≤◌, Bool, true, false, eqb, ◌||◌, List, [], ◌∷◌, ◌++◌, length, take, drop, get_or}
-use Rattle.std.proofs.Common.{length-append, ℤ, pos, negsuc, Ok, Err, le-leb, lt-ltb, Option, Some, None, refl, sym, ap, subst, ◌∙◌, arith}
+use Rattle.std.proofs.Common.{length-append, ℤ, Ok, Err, Option, Some, None, refl, sym, ap, subst, ◌∙◌, arith}
 use Rattle.std.proofs.Common.{inl, inr, append_assoc}
-use Rattle.std.specs.Prelude.{IsErrOf, neg_ℤ, ◌≤ℤ◌}
+use Rattle.std.specs.Prelude.{IsErrOf}
 use Rattle.std.specs.Fmt.{sign_text}
 use Rattle.std.specs.List.{list_all}
 use Rattle.std.specs.Char.{is_ascii_digit}
 use Rattle.std.specs.Str.{IsUtf8, IsAscii, IsCharBoundary}
-use Rattle.std.proofs.lemmas.Bool.{cases_Bool, cond-true, cond-false, leb-true, ltb-true, false≢true, false_from_ne_true}
-use Rattle.std.proofs.lemmas.Int.{ints}
+use Rattle.std.proofs.lemmas.Bool.{cases_Bool, cond-true, cond-false}
 use Rattle.std.proofs.lemmas.List.{take_at, drop_at, drop_all, drop_more}
 use Rattle.std.proofs.lemmas.Bool.Decides.{nat_tests}
 use Rattle.std.proofs.lemmas.Str.Ascii.{IsAscii-nil, IsAscii-cons}
@@ -17,12 +16,15 @@ use Rattle.expr_syntax.proofs.NumberTexts.{parts_found, parts_sound}
 use Rattle.fixed_num.proofs.Numerals.{reads_one}
 use Rattle.fixed_num.specs.declared.reading.NumFault.{NumFault}
 use Rattle.fixed_num.specs.declared.reading.NumFault.TheVariants.{Shape, Range}
-use Rattle.fixed_num.specs.Number.{limit, IsNumber}
+use Rattle.fixed_num.specs.Number.{IsNumber}
 use Rattle.expr_syntax.specs.NumberText.{parts_of}
 use Rattle.fixed_num.specs.JsonNumber.{IsJsonNumber, Reads, value_of, Parts, Spells, IsWhole, IsExponent, AreDigits, IsSign, fraction_text}
 use Rattle.expr_syntax.specs.Tokens.{is_name_byte, BeginsWithout}
-use Rattle.expr_syntax.specs.inner.Scanner.{first, belongs, is_exponent_mark, number_len, in_range, number_with, number_at}
-use Rattle.expr_syntax.proofs.Steps.{chosen, done, ok_is}
+use Rattle.fixed_num.specs.Ranges.{◌>>=◌, in_range}
+use Rattle.fixed_num.specs.Front.{first}
+use Rattle.fixed_num.proofs.RangeLemmas.{in_range_at_number, in_range_elsewhere, is_number_or_not}
+use Rattle.expr_syntax.specs.inner.Scanner.{belongs, is_exponent_mark, number_len, number_in, number_with, number_at}
+use Rattle.expr_syntax.proofs.Steps.{done, ok_is}
 use Rattle.expr_syntax.specs.declared.token.Token.{Token}
 use Rattle.expr_syntax.specs.declared.token.Token.TheVariants.{Number}
 use Rattle.expr_syntax.proofs.Cuts.{one_more, cut_behind}
@@ -194,31 +196,11 @@ number_begins word rest p s n =
 
 -- ---- its value
 
-bound : (n top : ℕ) → pos n ≤ℤ pos top → n ≤ top
-bound n top k = omega (arith, ints)
-
-below : (n top : ℕ) → neg_ℤ (pos top) ≤ℤ negsuc n → n < top
-below n top k = omega (arith, ints)
-
-inside : (n top : ℕ) → n ≤ top → (neg_ℤ (pos top) ≤ℤ pos n) × (pos n ≤ℤ pos top)
-inside n top k = (omega (arith, ints), omega (arith, ints))
-
-inside_below : (n top : ℕ) → n < top → (neg_ℤ (pos top) ≤ℤ negsuc n) × (negsuc n ≤ℤ pos top)
-inside_below n top k = (omega (arith, ints), omega (arith, ints))
-
-pub is_in_range : (m : ℤ) → in_range m ≡ true → IsNumber m
-is_in_range (pos n) e = inside n limit (leb-true n limit e)
-is_in_range (negsuc n) e = inside_below n limit (ltb-true n limit e)
-
-pub in_range_is : (m : ℤ) → IsNumber m → in_range m ≡ true
-in_range_is (pos n) k = le-leb n limit (bound n limit k.1)
-in_range_is (negsuc n) k = lt-ltb n limit (below n limit k.0)
-
 -- a number that is not out of range is in range
 pub is_number : (m : ℤ) → ((IsNumber m → ⊥) → ⊥) → IsNumber m
-is_number m h = elim (cases_Bool (in_range m)) [
-  | inl e ↦ is_in_range m e
-  | inr e ↦ absurd (h (λ k. absurd (false≢true (sym e ∙ in_range_is m k))))
+is_number m h = elim (is_number_or_not m) [
+  | inl k ↦ k
+  | inr none ↦ absurd (h none)
 ]
 
 -- the word that is read is a number in range
@@ -228,12 +210,19 @@ pub record Stands (word rest : List ℕ) (x : Token × List ℕ) : Type 0 where
   pub reads : Reads word number
   pub fits : IsNumber number
 
-number_with-ok : (o : Option Parts) (rest : List ℕ) (x : Token × List ℕ) → number_with o rest ≡ Ok x
-    → (p : Parts) × (o ≡ Some p) × (in_range (value_of p) ≡ true) × ((Number (value_of p), rest) ≡ x)
+-- the number of some parts, if it is in range
+abbrev valued : Option Parts → Option ℤ
+valued parts = parts >>= λ p. in_range (value_of p)
+
+none_here : (rest : List ℕ) (x : Token × List ℕ) → number_with None rest ≡ Ok x → ⊥
+none_here rest x e = absurd cc
+
+number_with-ok : (o : Option Parts) (rest : List ℕ) (x : Token × List ℕ) → number_with (valued o) rest ≡ Ok x
+    → (p : Parts) × (o ≡ Some p) × IsNumber (value_of p) × ((Number (value_of p), rest) ≡ x)
 number_with-ok None rest x e = absurd cc
-number_with-ok (Some p) rest x e = elim (chosen (in_range (value_of p)) (done (Number (value_of p), rest)) (Err tt) (Ok x) e) [
-  | inl c ↦ (p, refl, c.0, ok_is (Number (value_of p), rest) x c.1)
-  | inr c ↦ absurd cc
+number_with-ok (Some p) rest x e = elim (is_number_or_not (value_of p)) [
+  | inl k ↦ (p, refl, k, ok_is (Number (value_of p), rest) x (sym (ap (λ o. number_with o rest) (in_range_at_number (value_of p) k)) ∙ e))
+  | inr out ↦ absurd (none_here rest x (sym (ap (λ o. number_with o rest) (in_range_elsewhere (value_of p) out)) ∙ e))
 ]
 
 pub number_sound : (bytes : List ℕ) (x : Token × List ℕ) → number_at bytes ≡ Ok x
@@ -245,20 +234,18 @@ number_sound bytes x e =
       number = value_of a.0;
       token = sym a.3;
       reads = (a.0, parts_sound (take (number_len false bytes) bytes) a.0 a.1, refl);
-      fits = is_in_range (value_of a.0) a.2;
+      fits = a.2;
     }
-
-number_with-some : (p : Parts) (rest : List ℕ) (m : ℤ) → m ≡ value_of p → IsNumber m → number_with (Some p) rest ≡ done (Number m, rest)
-number_with-some p rest m e k = rw (← e) (cond-true (in_range m) (done (Number m, rest)) (Err tt) (in_range_is m k))
 
 -- a number of so many bytes that is read
 number_here : (bytes word rest : List ℕ) (m : ℤ) → take (number_len false bytes) bytes ≡ word → drop (number_len false bytes) bytes ≡ rest
     → Reads word m → IsNumber m → number_at bytes ≡ done (Number m, rest)
 unfolding number_at
 number_here bytes word rest m w r n k =
-    ap (λ (t : List ℕ). number_with (parts_of t) (drop (number_len false bytes) bytes)) w
-    ∙ ap (λ (o : Option Parts). number_with o (drop (number_len false bytes) bytes)) (parts_found word n.0 n.1)
-    ∙ ap (number_with (Some n.0)) r ∙ number_with-some n.0 rest m n.2 k
+    ap (λ (t : List ℕ). number_with (number_in t) (drop (number_len false bytes) bytes)) w
+    ∙ ap (λ (o : Option Parts). number_with (valued o) (drop (number_len false bytes) bytes)) (parts_found word n.0 n.1)
+    ∙ ap (number_with (in_range (value_of n.0))) r
+    ∙ ap (λ (o : Option ℤ). number_with o rest) (ap in_range (sym n.2) ∙ in_range_at_number m k)
 
 pub number_again : (word rest : List ℕ) (m : ℤ) → Reads word m → IsNumber m → get_or word 0 0 ≢ 45 → BeginsWithout adheres rest
     → number_at (word ++ rest) ≡ done (Number m, rest)
@@ -272,11 +259,10 @@ pub word_ok : (bytes : List ℕ) (m : ℤ) → Reads (take (number_len false byt
     → number_at bytes ≡ done (Number m, drop (number_len false bytes) bytes)
 word_ok bytes m n k = number_here bytes _ _ m refl refl n k
 
-no_parts : (o : Option Parts) (rest : List ℕ) → ((p : Parts) → o ≡ Some p → IsNumber (value_of p) → ⊥) → number_with o rest ≡ Err tt
+no_parts : (o : Option Parts) (rest : List ℕ) → ((p : Parts) → o ≡ Some p → IsNumber (value_of p) → ⊥)
+    → number_with (valued o) rest ≡ Err tt
 no_parts None rest h = refl
-no_parts (Some p) rest h =
-    cond-false (in_range (value_of p)) (done (Number (value_of p), rest)) (Err tt)
-    (false_from_ne_true (in_range (value_of p)) (λ e. h p refl (is_in_range (value_of p) e)))
+no_parts (Some p) rest h = ap (λ (o : Option ℤ). number_with o rest) (in_range_elsewhere (value_of p) (h p refl))
 
 -- a word that is no number in range
 pub word_fault : (bytes : List ℕ) → ((m : ℤ) → Reads (take (number_len false bytes) bytes) m → IsNumber m → ⊥) → number_at bytes ≡ Err tt

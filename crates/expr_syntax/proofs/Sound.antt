@@ -23,14 +23,15 @@ use Rattle.expr_syntax.specs.inner.Parser.{branches_at, choice_at, level_at, hei
 use Rattle.expr_syntax.proofs.Heights.{height-Null, height-Flag, height-Number, height-Text, height-Param, height-Member, height-Not}
 use Rattle.expr_syntax.proofs.Heights.{height-Minus, height-Plus, height-Binary, height-Choose, height-Pair, height-Call}
 use Rattle.expr_syntax.proofs.Grounds.{is_true, starts_true, after_sound, name_sound, bytes_true, operator_sound, both}
-use Rattle.expr_syntax.proofs.Taken.{step, test, guarded, ok_is, done, Takes, Takes-at, Sound}
+use Rattle.fixed_num.proofs.Steps.{guarded}
+use Rattle.expr_syntax.proofs.Taken.{step, test, ok_is, done, Takes, Takes-at, Sound}
 use Rattle.expr_syntax.proofs.Leaves.{At, Behind, selected_sound, stored_sound, domain_length_sound, field_sound}
 
 -- a tree that was kept within the limit
 pub within_sound : (limit highest : ℕ) (e : Expr) (rest : List Token) (x : Expr × List Token) → within limit highest e rest ≡ Ok x
     → (highest < limit) × (done (e, rest) ≡ Ok x)
 within_sound limit highest e rest x r =
-    let g = guarded (nat_lt highest limit) (Ok (e, rest)) x r in
+    let g = guarded (nat_lt highest limit) tt (Ok (e, rest)) x r in
     (ltb-true highest limit g.0, g.1)
 
 -- a reader of what stands between brackets of this nesting
@@ -462,7 +463,7 @@ pub whole_sound : (tokens : List Token) (e : Expr) → whole_at tokens ≡ Ok e 
 unfolding whole_at
 whole_sound tokens e r =
     step (tree_at most_nesting most_height 8 tokens) _ e r λ v r1 e1.
-    let g = guarded (eqb (length v.1) 0) (Ok v.0) e e1 in
+    let g = guarded (eqb (length v.1) 0) tt (Ok v.0) e e1 in
     let t = tree_sound most_nesting most_height 8 tokens v r1 in
     let nothing : v.1 ≡ [] = nil_from_length v.1 (eqb-true _ _ g.0) in
     let all : t.front ≡ tokens = sym (t.parts ∙ ap (λ (b : List Token). t.front ++ b) nothing ∙ append-nil t.front) in

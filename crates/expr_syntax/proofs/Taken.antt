@@ -1,19 +1,10 @@
 -- Steps that may fail, taken apart; and what was read from the front.
-use Rattle.std.proofs.Common.{◌≡◌, Bool, true, false, cond, List, ◌++◌, Result, Ok, Err, refl, subst, inl, inr, ◌⊎◌}
+use Rattle.std.proofs.Common.{◌≡◌, Bool, true, false, cond, List, ◌++◌, Result, Ok, Err, refl, subst}
 use Rattle.expr_syntax.specs.declared.token.Token.{Token}
-use Rattle.expr_syntax.specs.inner.Parser.{◌>>=◌, Read}
+use Rattle.fixed_num.specs.Steps.{◌>>=◌}
+use Rattle.expr_syntax.specs.inner.Parser.{Read}
 
--- the value of a step that did not fail
-pub record Bound {A B : Type 0} (r : Result A (Unit {0})) (f : A → Result B (Unit {0})) (y : B) : Type 0 where
-  pub value : A
-  pub is : r ≡ Ok value
-  pub then : f value ≡ Ok y
-
-pub bind_ok : {A B : Type 0} (r : Result A (Unit {0})) (f : A → Result B (Unit {0})) (y : B) → (r >>= f) ≡ Ok y → Bound r f y
-bind_ok (Ok x) f y e = record { value = x; is = refl; then = e }
-bind_ok (Err d) f y e = absurd cc
-
--- the same, handed on
+-- the value of a step that did not fail, handed on
 pub step : {A B C : Type 0} (r : Result A (Unit {0})) (f : A → Result B (Unit {0})) (y : B) → (r >>= f) ≡ Ok y
     → ((x : A) → r ≡ Ok x → f x ≡ Ok y → C) → C
 step (Ok x) f y e k = k x refl e
@@ -24,16 +15,6 @@ pub test : {A C : Type 0} (b : Bool) (x y : Result A (Unit {0})) (z : A) → con
     → (b ≡ false → y ≡ Ok z → C) → C
 test true x y z e k l = k refl e
 test false x y z e k l = l refl e
-
--- which way a test went
-pub chosen : {A : Type 0} (b : Bool) (x y z : A) → cond b x y ≡ z → ((b ≡ true) × (x ≡ z)) ⊎ ((b ≡ false) × (y ≡ z))
-chosen true x y z e = inl (refl, e)
-chosen false x y z e = inr (refl, e)
-
--- a test that had to hold
-pub guarded : {A : Type 0} (b : Bool) (x : Result A (Unit {0})) (z : A) → cond b x (Err tt) ≡ Ok z → (b ≡ true) × (x ≡ Ok z)
-guarded true x z e = (refl, e)
-guarded false x z e = absurd cc
 
 abbrev pub done : {A : Type 0} → A → Result A (Unit {0})
 done x = Ok x

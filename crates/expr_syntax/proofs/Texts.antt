@@ -10,7 +10,8 @@ use Rattle.std.proofs.lemmas.Bool.Decides.{nat_tests}
 use Rattle.std.proofs.lemmas.List.{nil_from_length}
 use Rattle.expr_syntax.specs.Tokens.{unescape, Means, nothing, itself, escape}
 use Rattle.expr_syntax.specs.inner.Scanner.{Read, with_byte, with_escape, inside_at, is_quote}
-use Rattle.expr_syntax.proofs.Steps.{chosen, ok_is}
+use Rattle.fixed_num.proofs.Steps.{chosen}
+use Rattle.expr_syntax.proofs.Steps.{ok_is}
 
 -- ---- what is read means so
 

@@ -19,9 +19,11 @@ use Rattle.expr_syntax.specs.Tokens.{BeginsWithout, IsLongest, MayFollow, HasTok
 use Rattle.text_kit.specs.Answer.{IsFault}
 use Rattle.expr_syntax.specs.declared.errors.ExprError.{ExprError}
 use Rattle.expr_syntax.specs.declared.errors.ExprError.TheVariants.{Shape, Memory}
-use Rattle.expr_syntax.specs.inner.Scanner.{cause, Read, first, mark_of, mark_at, after_mark, number_len, number_at, inside_at, as_quoted}
+use Rattle.expr_syntax.specs.inner.Scanner.{cause, Read, mark_of, mark_at, after_mark, number_len, number_at, inside_at, as_quoted}
 use Rattle.expr_syntax.specs.inner.Scanner.{name_at, is_quote, token_at}
-use Rattle.expr_syntax.proofs.Steps.{chosen, done, ok_is, begins}
+use Rattle.fixed_num.specs.Front.{first}
+use Rattle.fixed_num.proofs.Steps.{chosen, begins}
+use Rattle.expr_syntax.proofs.Steps.{done, ok_is}
 use Rattle.expr_syntax.proofs.Marks.{mark_there, mark_longest, mark_again, mark_some}
 use Rattle.expr_syntax.proofs.Cuts.{one_more, front_ends, front_is, name_passes, passes_name}
 use Rattle.expr_syntax.proofs.Numbers as numbers

@@ -13,7 +13,7 @@ use Rattle.expr_syntax.specs.declared.token.Token.TheVariants.{Name, Number, Quo
 use Rattle.expr_syntax.specs.Tokens.{mark_text, IsToken, name, number, quoted, mark, MayFollow, HasTokens, none, blank, token}
 use Rattle.expr_syntax.specs.TokenText.{escape_in_text, token_text, IsWritten, AreWritten, ends_operand, grows, clings, is_apart}
 use Rattle.expr_syntax.specs.TokenText.{text_after, text_of_tokens}
-use Rattle.expr_syntax.specs.inner.Scanner.{first}
+use Rattle.fixed_num.specs.Front.{first}
 use Rattle.expr_syntax.proofs.Marks.{mark_found, mark_longest}
 use Rattle.expr_syntax.proofs.Numbers.{minus_of}
 use Rattle.expr_syntax.proofs.Escaped.{text_means}

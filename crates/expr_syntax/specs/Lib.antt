@@ -5,4 +5,5 @@ pub mod Grammar
 pub mod Expressions
 pub mod Writing
 pub mod Names
+pub mod Calls
 pub mod inner

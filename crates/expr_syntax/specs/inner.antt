@@ -1,3 +1,4 @@
 pub mod Scanner
 pub mod Parser
 pub mod Expression
+pub mod Calls

@@ -1,6 +1,7 @@
 //! The expressions of charts: their tokens, and the trees that they read as.
 #![tactic(auto)]
 
+mod calls;
 mod domains;
 mod errors;
 mod expr;
@@ -15,6 +16,7 @@ mod token;
 mod token_text;
 mod writer;
 
+pub use calls::{TextCall, text_call};
 pub use domains::{expressions_are_read, has_domain_length};
 pub use errors::ExprError;
 pub use expr::{BinOp, Expr};

@@ -5,7 +5,8 @@ ghost use Rattle.std.specs.List.{prefix_len};
 ghost use Rattle.text_kit.specs.Answer.{GivesAs};
 ghost use Rattle.expr_syntax.specs.declared.errors.ExprError.TheVariants.{Shape};
 ghost use Rattle.expr_syntax.specs.Tokens.{is_blank, is_name_start, is_name_byte, unescape, HasTokens};
-ghost use Rattle.expr_syntax.specs.inner.Scanner.{cause, first, mark_of, mark_at, after_mark, belongs, is_exponent_mark};
+ghost use Rattle.expr_syntax.specs.inner.Scanner.{cause, mark_of, mark_at, after_mark, belongs, is_exponent_mark};
+ghost use Rattle.fixed_num.specs.Front.{first};
 ghost use Rattle.expr_syntax.specs.inner.Scanner.{number_len, number_at, inside_at, as_quoted, name_at, is_quote, token_at};
 ghost use Rattle.expr_syntax.specs.declared.token.Token.{Token as AnyToken};
 

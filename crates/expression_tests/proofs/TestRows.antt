@@ -20,10 +20,13 @@ three_keys : AreKeys (numbered 1 ∷ numbered 2 ∷ last ∷ [])
 three_keys = record {
   rise =
       AllPairs-cons IsBefore (numbered 1) (numbered 2 ∷ last ∷ [])
-      (All-cons (IsBefore (numbered 1)) (numbered 2) (last ∷ []) (inl (lit< tt)) (All-cons (IsBefore (numbered 1)) last [] (inl (lit< tt)) (All-nil (IsBefore (numbered 1)))))
-      (AllPairs-cons IsBefore (numbered 2) (last ∷ []) (All-cons (IsBefore (numbered 2)) last [] (inl (lit< tt)) (All-nil (IsBefore (numbered 2))))
+      (All-cons (IsBefore (numbered 1)) (numbered 2) (last ∷ []) (inl (lit< tt))
+      (All-cons (IsBefore (numbered 1)) last [] (inl (lit< tt)) (All-nil (IsBefore (numbered 1)))))
+      (AllPairs-cons IsBefore (numbered 2) (last ∷ [])
+      (All-cons (IsBefore (numbered 2)) last [] (inl (lit< tt)) (All-nil (IsBefore (numbered 2))))
       (AllPairs-cons IsBefore last [] (All-nil (IsBefore last)) (λ i j d less within. absurd (omega (arith, within)))));
-  small_ids = All-cons IsSmall (numbered 1) (numbered 2 ∷ last ∷ []) (lit≤ tt) (All-cons IsSmall (numbered 2) (last ∷ []) (lit≤ tt) (All-cons IsSmall last [] (lit≤ tt) (All-nil IsSmall)));
+  small_ids = All-cons IsSmall (numbered 1) (numbered 2 ∷ last ∷ []) (lit≤ tt)
+      (All-cons IsSmall (numbered 2) (last ∷ []) (lit≤ tt) (All-cons IsSmall last [] (lit≤ tt) (All-nil IsSmall)));
   few = lit≤ tt;
 }
 

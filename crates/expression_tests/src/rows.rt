@@ -1,12 +1,14 @@
-// Filters and calculations over rows without cells whose ids are 1, 2 and 10^15. A line puts values under names, one after the other,
-// and ends in a test with the ids of the rows that it keeps, which were found apart.
+// Filters, calculations and units of time over rows without cells whose ids are 1, 2 and 10^15. A line puts values under names, one
+// after the other, or the start and the end of a time unit of a field under two, and ends in a test with the ids of the rows that it
+// keeps, which were found apart.
 ghost use Rattle.std.specs.Prelude.{◌≡◌, IfOk};
 ghost use Rattle.plain_rows.specs.Rows.{AreRows};
 
+use case_table::time_unit_of;
 use cell_value::{Key, Keyed, Row, Rows};
 use expr_eval::{EvalError, NoParams};
 use expr_syntax::{Expr, ExprError, read};
-use plain_rows::{calculate, filter};
+use plain_rows::{TimeOf, calculate, filter, time_unit};
 use std::alloc::Global;
 use std::test::Fail;
 use text_kit::{OutOfMemory, Seq, Text};
@@ -36,7 +38,20 @@ a = if(datum._vgsid_ == 1, '', if(datum._vgsid_ == 2, [0, 0], 0)); datum.a => 2\
 _vgsid_ = 7; datum._vgsid_ == 7 =>\n\
 _vgsid_ = 7; datum._vgsid_ == 2 => 2\n\
 _vgsid_ = datum._vgsid_ + 1; true => overflow\n\
-a = b; datum.a == null => 1 2 1000000000000000\n";
+a = b; datum.a == null => 1 2 1000000000000000\n\
+at = utc(2024, 1, 29, 13); unit month at a b; datum.a == utc(2012, 1) && datum.b == utc(2012, 2) => 1 2 1000000000000000\n\
+at = utc(2024, 1, 29, 13); unit yearmonth at a b; datum.a == utc(2024, 1) && datum.b == utc(2024, 2) => 1 2 1000000000000000\n\
+at = utc(2024, 1, 29, 13); unit utcdate at a b; datum.a == utc(2012, 0, 29) && datum.b == utc(2012, 0, 30) => 1 2 1000000000000000\n\
+at = -0.5; unit seconds at a b; datum.a == utc(2012, 0, 1, 0, 0, 59) && datum.b == utc(2012, 0, 1, 0, 1) => 1 2 1000000000000000\n\
+at = 253370764799999; unit year at a b; datum.b == datum.at + 1 => 1 2 1000000000000000\n\
+at = 253370764800000; unit year at a b; datum.a == null && datum.b == null => 1 2 1000000000000000\n\
+a = 7; at = 'x'; unit year at a b; datum.a == null && datum.b == null && datum.at == 'x' => 1 2 1000000000000000\n\
+unit year absent a b; datum.a == null && datum.b == null => 1 2 1000000000000000\n\
+unit year at a a; datum.a == null => 1 2 1000000000000000\n\
+at = 0; unit year at a a; datum.a == utc(1971, 0) => 1 2 1000000000000000\n\
+at = utc(1970, 5); unit year at at b; datum.at == 0 && datum.b == utc(1971, 0) => 1 2 1000000000000000\n\
+unit year _vgsid_ a b; datum.a == 0 && datum.b == utc(1971, 0) => 1 2\n\
+at = 0; unit year at _vgsid_ b; datum._vgsid_ == 1 && datum.b == utc(1971, 0) => 1\n";
 
 fn bare(alloc: Global, id: u64) -> Keyed
     ensures { result.key ≡ record { id = id; branch = 0 } }
@@ -93,11 +108,45 @@ fn expression(alloc: Global, text: &str) -> Result<Expr, Stop> {
     Ok(read(alloc, text)?)
 }
 
+// A time unit of a field, in words: its name, the field, and the names of the start and the end.
+fn time_of(alloc: Global, words: &str) -> Result<TimeOf, Stop> {
+    let mut words = words.split(' ');
+    let (Some(name), Some(field), Some(out), Some(out_end)) = (
+        words.next(),
+        words.next(),
+        words.next(),
+        words.next(),
+    ) else {
+        return Err(Stop::Shape);
+    };
+    let Some(unit) = time_unit_of(name) else {
+        return Err(Stop::Shape);
+    };
+    Ok(TimeOf {
+        field: Text::of(alloc, field)?,
+        unit,
+        out: Text::of(alloc, out)?,
+        out_end: Text::of(alloc, out_end)?,
+    })
+}
+
+// The rows with a time unit of a field.
+fn in_units(alloc: Global, rows: &Rows, words: &str) -> Result<Rows, Stop>
+    requires { AreRows rows.now }
+    ensures { IfOk result AreRows }
+{
+    let t = time_of(alloc, words)?;
+    Ok(time_unit(alloc, rows, &t)?)
+}
+
 // The rows after one step.
 fn stepped(alloc: Global, rows: &Rows, step: &str) -> Result<Rows, Stop>
     requires { AreRows rows.now }
     ensures { IfOk result AreRows }
 {
+    if let Some(words) = step.strip_prefix("unit ") {
+        return in_units(alloc, rows, words);
+    }
     match step.split_once(" = ") {
         Some((name, text)) => {
             let e = expression(alloc, text)?;

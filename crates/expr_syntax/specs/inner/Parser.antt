@@ -2,6 +2,7 @@
 use Rattle.std.specs.Prelude.{ℕ, zero, suc, ◌-◌, max, List, [], ◌∷◌, ◌++◌, length, drop, take, codes, Bool, true, false, ◌&&◌, ◌==◌, nat_lt}
 use Rattle.std.specs.Prelude.{if◌then◌else◌, Result, Ok, Err, Option, Some, None, bytes_eq, map}
 use Rattle.std.specs.Str.{bytes_eq as same_bytes}
+use Rattle.fixed_num.specs.Steps.{◌>>=◌}
 use Rattle.case_table.specs.Names.{index_of, builtins}
 use Rattle.case_table.specs.Arguments.{admits}
 use Rattle.expr_syntax.specs.declared.expr.Expr.{Expr}
@@ -17,11 +18,6 @@ use Rattle.expr_syntax.specs.Grammar.{level_of, list_max, height, most_nesting, 
 -- what is read from the front and the tokens after it, or that there is nothing to read
 abbrev pub Read : Type 0 → Type 0
 Read A = Result (A × List Token) (Unit {0})
-
-infixl 10 ◌>>=◌
-abbrev pub ◌>>=◌ : {A B : Type 0} → Result A (Unit {0}) → (A → Result B (Unit {0})) → Result B (Unit {0})
-(Ok x) >>= f = f x
-(Err e) >>= f = Err e
 
 -- ---- single tokens
 

@@ -1,10 +1,11 @@
 -- The token at the front of the bytes, as a function of them. Only private contracts cite it.
-use Rattle.std.specs.Prelude.{ℕ, ◌+◌, List, [], ◌∷◌, length, take, drop, slice_index, ℤ, pos, negsuc, Bool, true, false, ◌&&◌, ◌||◌, ◌==◌}
-use Rattle.std.specs.Prelude.{nat_lt, nat_le, if◌then◌else◌, Result, Ok, Err, Option, Some, None}
+use Rattle.std.specs.Prelude.{ℕ, ◌+◌, List, [], ◌∷◌, length, take, drop, slice_index, ℤ, Bool, true, false, ◌&&◌, ◌||◌, ◌==◌}
+use Rattle.std.specs.Prelude.{if◌then◌else◌, Result, Ok, Err, Option, Some, None}
 use Rattle.std.specs.List.{prefix_len}
 use Rattle.std.specs.Char.{is_ascii_digit}
-use Rattle.fixed_num.specs.Number.{limit}
-use Rattle.fixed_num.specs.JsonNumber.{Parts, value_of}
+use Rattle.fixed_num.specs.JsonNumber.{value_of}
+use Rattle.fixed_num.specs.Ranges.{◌>>=◌, in_range}
+use Rattle.fixed_num.specs.Front.{first}
 use Rattle.expr_syntax.specs.NumberText.{parts_of}
 use Rattle.expr_syntax.specs.declared.errors.ExprError.{ExprError}
 use Rattle.expr_syntax.specs.declared.errors.ExprError.TheVariants.{Shape, Memory}
@@ -24,10 +25,6 @@ Read A = Result (A × List ℕ) (Unit {0})
 abbrev pub cause : ExprError → Option (Unit {0})
 cause Shape = Some tt
 cause Memory = None
-
--- the first byte, 0 where there is none
-abbrev pub first : List ℕ → ℕ
-first bytes = slice_index bytes 0
 
 -- ---- marks
 
@@ -78,18 +75,17 @@ abbrev pub number_len : Bool → List ℕ → ℕ
 number_len behind [] = 0
 number_len behind (byte ∷ others) = if belongs behind byte then 1 + number_len (is_exponent_mark byte) others else 0
 
--- the millionths are in range
-abbrev pub in_range : ℤ → Bool
-in_range (pos n) = nat_le n limit
-in_range (negsuc n) = nat_lt n limit
+-- the number that a text is, if it is in range
+abbrev pub number_in : List ℕ → Option ℤ
+number_in text = parts_of text >>= λ parts. in_range (value_of parts)
 
--- the number that has these parts, before the rest
-abbrev pub number_with : Option Parts → List ℕ → Read Token
+-- a number before the rest
+abbrev pub number_with : Option ℤ → List ℕ → Read Token
 number_with None rest = Err tt
-number_with (Some parts) rest = if in_range (value_of parts) then Ok (Number (value_of parts), rest) else Err tt
+number_with (Some m) rest = Ok (Number m, rest)
 
 unfoldable pub number_at : List ℕ → Read Token
-number_at bytes = number_with (parts_of (take (number_len false bytes) bytes)) (drop (number_len false bytes) bytes)
+number_at bytes = number_with (number_in (take (number_len false bytes) bytes)) (drop (number_len false bytes) bytes)
 
 -- ---- texts
 
