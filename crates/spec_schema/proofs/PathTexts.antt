@@ -23,12 +23,29 @@ char_kept c t s = elim (cases_lt c 128) [
   | inr h ↦ elim (cases_lt c 2048) [
     | inl k ↦ rw (encode_2 c h k, high (192 + c / 64) (omega arith), high (128 + c % 64) (omega arith)) refl
     | inr k ↦ elim (cases_lt c 65536) [
-      | inl j ↦ rw (encode_3 c k j, high (224 + c / 4096) (omega arith), high (128 + (c / 64) % 64) (omega arith), high (128 + c % 64) (omega arith)) refl
-      | inr j ↦ rw (encode_4 c j, high (240 + c / 262144) (omega arith), high (128 + (c / 4096) % 64) (omega arith), high (128 + (c / 64) % 64) (omega arith), high (128 + c % 64) (omega arith)) refl
+      | inl j ↦ rw (
+        encode_3 c k j,
+        high (224 + c / 4096) (omega arith),
+        high (128 + (c / 64) % 64) (omega arith),
+        high (128 + c % 64)
+            (omega arith),
+      ) refl
+      | inr j ↦ rw (
+        encode_4 c j,
+        high (240 + c / 262144) (omega arith),
+        high (128 + (c / 4096) % 64) (omega arith),
+        high
+            (128 + (c / 64) % 64) (omega arith),
+        high (128 + c % 64) (omega arith),
+      ) refl
     ]
   ]
 ]
 
 -- one more character of a name
-pub word_more : (out cs : List ℕ) (c : ℕ) → (out ++ flat_map path_byte (encode_utf8_all cs)) ++ flat_map path_byte (encode_utf8 c) ≡ out ++ flat_map path_byte (encode_utf8_all (cs ++ c ∷ []))
-word_more out cs c = append_assoc out _ _ ∙ ap (λ (t : List ℕ). out ++ t) (sym (flat_map-append path_byte (encode_utf8_all cs) (encode_utf8 c)) ∙ ap (flat_map path_byte) (sym (encodes-append cs (c ∷ []) ∙ ap (λ (t : List ℕ). encode_utf8_all cs ++ t) (append-nil (encode_utf8 c)))))
+pub word_more : (out cs : List ℕ) (c : ℕ) → (out ++ flat_map path_byte (encode_utf8_all cs)) ++ flat_map path_byte (encode_utf8 c)
+    ≡ out ++ flat_map path_byte (encode_utf8_all (cs ++ c ∷ []))
+word_more out cs c = append_assoc out _ _
+    ∙ ap (λ (t : List ℕ). out ++ t) (sym (flat_map-append path_byte (encode_utf8_all cs) (encode_utf8 c))
+    ∙ ap (flat_map path_byte) (sym (encodes-append cs (c ∷ [])
+    ∙ ap (λ (t : List ℕ). encode_utf8_all cs ++ t) (append-nil (encode_utf8 c)))))

@@ -7,7 +7,9 @@ use Rattle.spec_schema.specs.declared.form.Shape.{Shape}
 use Rattle.spec_schema.specs.declared.form.Form.TheVariants as form
 use Rattle.spec_schema.specs.declared.layout.Layout.{Layout}
 use Rattle.spec_schema.specs.declared.schema.Schema.{Schema}
-use Rattle.spec_schema.specs.Values.{Opened, is_null, is_flag, is_true, number_passes, is_between, is_whole_between, is_text, text_passes, among, is_cell, is_pair, list_passes, has_length, object_passes}
+use Rattle.fixed_num.specs.Ranges.{is_within}
+use Rattle.spec_schema.specs.Values.{Opened, is_null, is_flag, is_true, number_passes, is_whole_between, is_text, text_passes}
+use Rattle.spec_schema.specs.Values.{among, is_cell, is_pair, list_passes, has_length, object_passes}
 use Rattle.spec_schema.specs.Layouts.{layout_in}
 
 -- the names of a list
@@ -19,7 +21,7 @@ abbrev pub fits : Schema → Form → Opened → Bool
 fits schema form.Null tree = is_null tree
 fits schema form.Flag tree = is_flag tree
 fits schema form.True tree = is_true tree
-fits schema (form.Number least most) tree = number_passes (is_between least most) tree
+fits schema (form.Number least most) tree = number_passes (is_within least most) tree
 fits schema (form.Whole least most) tree = number_passes (is_whole_between least most) tree
 fits schema form.Text tree = is_text tree
 fits schema (form.Name code) tree = text_passes (among (names_of schema code)) tree

@@ -1,8 +1,10 @@
 -- What a value is, apart from what stands inside it. Each word speaks of a value opened by one level.
-use Rattle.std.specs.Prelude.{◌≡◌, ℕ, ℤ, pos, negsuc, ◌%◌, ◌==◌, nat_le, int_le, unsigned_abs, Bool, true, false, ◌&&◌, List, [], ◌∷◌, length, codes, refl}
+use Rattle.std.specs.Prelude.{◌≡◌, ℕ, ℤ, pos, negsuc, ◌%◌, ◌==◌, nat_le, unsigned_abs, Bool, true, false, ◌&&◌, List, [], ◌∷◌}
+use Rattle.std.specs.Prelude.{length, codes, refl}
 use Rattle.std.specs.List.{list_any}
 use Rattle.std.specs.Str.{bytes_eq}
 use Rattle.fixed_num.specs.Number.{million}
+use Rattle.fixed_num.specs.Ranges.{is_within}
 use Rattle.json_exact.specs.declared.json.Json.{Json, Json-F, out-Json}
 use Rattle.json_exact.specs.declared.json.Json.TheOpen as level
 use Rattle.json_exact.specs.declared.json.Member.{Member}
@@ -50,17 +52,13 @@ object_passes test other = false
 abbrev pub is_number : Opened → Bool
 is_number = number_passes (λ n. true)
 
--- a number of millionths from the least to the most
-abbrev pub is_between : ℤ → ℤ → ℤ → Bool
-is_between least most n = int_le least n && int_le n most
-
 -- a number of millionths that is a whole number
 abbrev pub is_whole : ℤ → Bool
 is_whole n = unsigned_abs n % million == 0
 
--- both
+-- a number of millionths that is a whole number from the least to the most
 abbrev pub is_whole_between : ℤ → ℤ → ℤ → Bool
-is_whole_between least most n = is_whole n && is_between least most n
+is_whole_between least most n = is_whole n && is_within least most n
 
 -- a text
 abbrev pub is_text : Opened → Bool
@@ -95,10 +93,10 @@ half_is_not_whole = refl
 minus_ninety_is_whole : is_whole (negsuc 89999999) ≡ true
 minus_ninety_is_whole = refl
 
-the_most_is_in : is_between (pos 0) (pos 1000000) (pos 1000000) ≡ true
+the_most_is_in : is_whole_between (pos 0) (pos 1000000) (pos 1000000) ≡ true
 the_most_is_in = refl
 
-one_past_the_most : is_between (pos 0) (pos 1000000) (pos 1000001) ≡ false
+one_past_the_most : is_whole_between (pos 0) (pos 1000000) (pos 2000000) ≡ false
 one_past_the_most = refl
 
 csv_is_among : among (codes "json" ∷ codes "csv" ∷ []) (codes "csv") ≡ true

@@ -60,8 +60,8 @@ fn push_plain(out: &mut Text, c: char) -> Result<(), OutOfMemory>
     out.push_str(c.encode_utf8(&mut bytes))
 }
 
-// A name in a path, after its slash.
-fn path_word(alloc: Global, name: &str) -> Result<Text, OutOfMemory>
+/// A name in a path, after its slash.
+pub fn path_word(alloc: Global, name: &str) -> Result<Text, OutOfMemory>
     ensures { IfOk result (λ text. text ≡ path_word name.now) }
 {
     let mut out = Text::of(alloc, "/")?;

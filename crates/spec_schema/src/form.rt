@@ -2,7 +2,9 @@
 ghost use Rattle.std.specs.Prelude.{◌≡◌};
 ghost use Rattle.json_exact.specs.declared.json.Json.{out-Json};
 ghost use Rattle.spec_schema.specs.Forms.{items_shape};
-ghost use Rattle.spec_schema.specs.Values.{is_null, is_flag, is_true, is_number, number_passes, is_between, is_whole, is_whole_between, is_text, text_passes, among, is_pair, is_cell, list_passes, has_length};
+ghost use Rattle.fixed_num.specs.Ranges.{is_within};
+ghost use Rattle.spec_schema.specs.Values.{is_null, is_flag, is_true, is_number, number_passes, is_whole, is_whole_between, is_text};
+ghost use Rattle.spec_schema.specs.Values.{text_passes, among, is_pair, is_cell, list_passes, has_length};
 
 use fixed_num::Num;
 use json_exact::Json;
@@ -117,7 +119,7 @@ fn is_number(tree: &Json) -> bool
 
 // Whether a number lies between two bounds in millionths, both included.
 fn is_between(number: Num, least: i128, most: i128) -> bool
-    ensures { result ≡ is_between least most number }
+    ensures { result ≡ is_within least most number }
 {
     least <= number.millionths() && number.millionths() <= most
 }
@@ -131,7 +133,7 @@ fn is_whole(number: Num) -> bool
 
 /// Whether it is a number between two bounds in millionths, both included.
 pub fn is_number_between(tree: &Json, least: i128, most: i128) -> bool
-    ensures { result ≡ number_passes (is_between least most) (out-Json tree.now) }
+    ensures { result ≡ number_passes (is_within least most) (out-Json tree.now) }
 {
     match tree {
         Json::Number(number) => is_between(*number, least, most),

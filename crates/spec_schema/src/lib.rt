@@ -11,10 +11,10 @@ mod rows;
 mod schema;
 mod search;
 
-pub use fault::Fault;
+pub use fault::{Fault, path_word};
 pub use form::{Form, Shape};
-pub use layout::{Layout, Rule, Test};
+pub use layout::{Layout, Rule, Test, shape_in};
 pub use order::{earlier, faults_are_in_order};
 pub use rows::{Row, When, layout_by, names_by};
-pub use schema::Schema;
+pub use schema::{Schema, form_of, layout_of};
 pub use search::first_fault;

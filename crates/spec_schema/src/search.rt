@@ -2,7 +2,8 @@
 ghost use Rattle.std.specs.Prelude.{◌≡◌, Some, map, flat_map, length, IfOk};
 ghost use Rattle.std.specs.List.{enumerate_from};
 ghost use Rattle.spec_schema.specs.Forms.{layout_of};
-ghost use Rattle.spec_schema.specs.Faults.{faults_in, list_faults, object_faults, faults_by, member_faults, is_missing, missing_fault, member_names, judged_members, first};
+ghost use Rattle.spec_schema.specs.Faults.{faults_in, list_faults, object_faults, faults_by, member_faults, is_missing, missing_fault};
+ghost use Rattle.spec_schema.specs.Faults.{member_names, judged_members, first};
 
 use crate::fault::{Fault, below, below_number, here};
 use crate::form::Form;

@@ -2,7 +2,8 @@
 use Rattle.std.specs.Prelude.{None, List, [], ◌∷◌, codes}
 use Rattle.spec_schema.specs.declared.layout.Layout.{Layout}
 use Rattle.spec_schema.specs.Tables.{may}
-use Rattle.vega_schema.specs.declared.codes.TheConstants.{CELL, CHANNEL, CHANNELS, EXPRESSION, FREE, LABEL_FORMAT, NUMBER, TEXT, VALUE, WORDS_CHANNEL, WORDS_VALUE}
+use Rattle.vega_schema.specs.declared.codes.TheConstants.{CELL, CHANNEL, CHANNELS, EXPRESSION, FREE, LABEL_FORMAT, NUMBER, TEXT, VALUE}
+use Rattle.vega_schema.specs.declared.codes.TheConstants.{WORDS_CHANNEL, WORDS_VALUE}
 
 -- an encode set
 unfoldable pub channels : Layout

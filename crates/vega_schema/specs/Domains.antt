@@ -3,7 +3,8 @@ use Rattle.std.specs.Prelude.{None, List, [], ◌∷◌, codes}
 use Rattle.spec_schema.specs.declared.layout.Layout.{Layout}
 use Rattle.spec_schema.specs.declared.layout.Test.TheVariants.{Has, Lacks}
 use Rattle.spec_schema.specs.Tables.{may}
-use Rattle.vega_schema.specs.declared.codes.TheConstants.{DOMAIN, DOMAIN_ORDER, DOMAIN_SORT, EXPRESSION, OPERATION, ORDER, REFERENCE, REFERENCES, TEXT}
+use Rattle.vega_schema.specs.declared.codes.TheConstants.{DOMAIN, DOMAIN_ORDER, DOMAIN_SORT, EXPRESSION, OPERATION, ORDER, REFERENCE}
+use Rattle.vega_schema.specs.declared.codes.TheConstants.{REFERENCES, TEXT}
 
 -- the domain that an expression gives
 unfoldable pub domain_of_signal : Layout

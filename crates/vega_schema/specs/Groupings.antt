@@ -3,7 +3,8 @@ use Rattle.std.specs.Prelude.{None, List, [], ◌∷◌, codes}
 use Rattle.spec_schema.specs.declared.layout.Layout.{Layout}
 use Rattle.spec_schema.specs.declared.layout.Test.TheVariants.{Says}
 use Rattle.spec_schema.specs.Tables.{must, may}
-use Rattle.vega_schema.specs.declared.codes.TheConstants.{CELL, FLAG, FRAME, FREE, NOTHING, ONE_TEXT, OPERATIONS, PARAMETERS, SORT, TEXT, TEXTS, TEXTS_OR_NULLS, TRANSFORM, WINDOW_OPERATIONS}
+use Rattle.vega_schema.specs.declared.codes.TheConstants.{CELL, FLAG, FRAME, FREE, NOTHING, ONE_TEXT, OPERATIONS, PARAMETERS, SORT, TEXT}
+use Rattle.vega_schema.specs.declared.codes.TheConstants.{TEXTS, TEXTS_OR_NULLS, TRANSFORM, WINDOW_OPERATIONS}
 
 -- a transform of the type `aggregate`
 unfoldable pub aggregate : Layout

@@ -3,7 +3,7 @@ use Rattle.std.specs.Prelude.{None, List, [], ◌∷◌, codes}
 use Rattle.spec_schema.specs.declared.layout.Layout.{Layout}
 use Rattle.spec_schema.specs.declared.layout.Test.TheVariants.{Says}
 use Rattle.spec_schema.specs.Tables.{must, may}
-use Rattle.vega_schema.specs.declared.codes.TheConstants.{ANGLE, AUTOSIZE, AXES, AXIS, CELLS, COUNT, DATA_LIST, EDGE, ENCODE, FLAG, GROUP_FROM, LABEL_FORMAT, LAYOUT, LEGEND, LEGENDS, MARK, MARKS, SCALES, SIDE, SIGNALS, SIZE, SORT, SPACE, TEXT, TICK_COUNT, TOP}
+use Rattle.vega_schema.specs.declared.codes.TheConstants.{ANGLE, AUTOSIZE, AXES, AXIS, CELLS, COUNT, DATA_LIST, EDGE, FLAG, GROUP_ENCODE, GROUP_FROM, LABEL_FORMAT, LAYOUT, LEGEND, LEGENDS, MARK, MARKS, SCALES, SIDE, SIGNALS, SIZE, SORT, SPACE, TEXT, TICK_COUNT, TOP}
 
 -- a group
 unfoldable pub group_mark : Layout
@@ -12,7 +12,7 @@ group_mark = record {
   when = Says (codes "type") (codes "group") ∷ [];
   rules =
       must (codes "type") TEXT ∷ may (codes "name") TEXT ∷ may (codes "from") GROUP_FROM ∷
-      may (codes "encode") ENCODE ∷ may (codes "sort") SORT ∷ may (codes "data") DATA_LIST ∷
+      may (codes "encode") GROUP_ENCODE ∷ may (codes "sort") SORT ∷ may (codes "data") DATA_LIST ∷
       may (codes "signals") SIGNALS ∷ may (codes "scales") SCALES ∷ may (codes "layout") LAYOUT ∷
       may (codes "marks") MARKS ∷ may (codes "axes") AXES ∷ may (codes "legends") LEGENDS ∷
       may (codes "title") TEXT ∷

@@ -10,4 +10,5 @@ pub mod Domains
 pub mod PlainMarks
 pub mod Marks
 pub mod Channels
+pub mod Sizes
 pub mod Schema

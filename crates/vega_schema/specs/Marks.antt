@@ -3,7 +3,8 @@ use Rattle.std.specs.Prelude.{None, List, [], ◌∷◌, codes}
 use Rattle.spec_schema.specs.declared.layout.Layout.{Layout}
 use Rattle.spec_schema.specs.declared.layout.Test.TheVariants.{Has, Lacks}
 use Rattle.spec_schema.specs.Tables.{must, may}
-use Rattle.vega_schema.specs.declared.codes.TheConstants.{CHANNELS, CROSS, ENCODE, FACET, FLAG, FREE, GROUP_FROM, HEADERS, MARK, MARK_FROM, NOTHING, TEXT, TEXTS, TEXT_OR_TEXTS}
+use Rattle.vega_schema.specs.declared.codes.TheConstants.{CHANNELS, CROSS, ENCODE, FACET, FLAG, FREE, GROUP_FROM, HEADERS, MARK, MARK_FROM}
+use Rattle.vega_schema.specs.declared.codes.TheConstants.{NOTHING, TEXT, TEXTS, TEXT_OR_TEXTS}
 
 -- where the rows of a mark come from
 unfoldable pub mark_from : Layout

@@ -3,7 +3,8 @@ use Rattle.std.specs.Prelude.{None, List, [], ◌∷◌, codes}
 use Rattle.spec_schema.specs.declared.layout.Layout.{Layout}
 use Rattle.spec_schema.specs.declared.layout.Test.TheVariants.{Says}
 use Rattle.spec_schema.specs.Tables.{must, may}
-use Rattle.vega_schema.specs.declared.codes.TheConstants.{CONTINUOUS_RANGE, DISCRETE_RANGE, EXPRESSION_SIGNAL, FLAG, FREE, NOTHING, ORDINAL_RANGE, SCALE, SCALE_DOMAIN, SHARE, TEXT}
+use Rattle.vega_schema.specs.declared.codes.TheConstants.{CONTINUOUS_RANGE, DISCRETE_RANGE, EXPRESSION_SIGNAL, FLAG, FREE, NOTHING}
+use Rattle.vega_schema.specs.declared.codes.TheConstants.{ORDINAL_RANGE, SCALE, SCALE_DOMAIN, SHARE, TEXT}
 
 -- a scale of the type `linear`
 unfoldable pub linear_scale : Layout

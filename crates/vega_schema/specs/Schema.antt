@@ -14,6 +14,7 @@ use Rattle.vega_schema.specs.Domains.{all_domains}
 use Rattle.vega_schema.specs.PlainMarks.{all_plain_marks}
 use Rattle.vega_schema.specs.Marks.{all_marks}
 use Rattle.vega_schema.specs.Channels.{all_channels}
+use Rattle.vega_schema.specs.Sizes.{all_sizes}
 
 -- some of the layouts
 abbrev pub first_layouts : List Layout
@@ -25,7 +26,7 @@ later_layouts = all_groupings ++ all_signals ++ all_scales
 
 -- some of the layouts
 abbrev pub last_layouts : List Layout
-last_layouts = all_domains ++ all_plain_marks ++ all_marks ++ all_channels
+last_layouts = all_domains ++ all_plain_marks ++ all_marks ++ all_channels ++ all_sizes
 
 -- the layouts of all objects
 abbrev pub layouts : List Layout

@@ -3,7 +3,8 @@ use Rattle.std.specs.Prelude.{Some, None, List, [], ◌∷◌, codes}
 use Rattle.spec_schema.specs.declared.layout.Layout.{Layout}
 use Rattle.spec_schema.specs.declared.layout.Test.TheVariants.{Has}
 use Rattle.spec_schema.specs.Tables.{must, may}
-use Rattle.vega_schema.specs.declared.codes.TheConstants.{DATA, EXTENT_SIGNAL, FORMAT, FORMAT_TYPE, FREE, ORDERS, PARSE, PARSE_KIND, SORT, TEXT, TEXT_OR_TEXTS, TRANSFORMS}
+use Rattle.vega_schema.specs.declared.codes.TheConstants.{DATA, EXTENT_SIGNAL, FORMAT, FORMAT_TYPE, FREE, ORDERS, PARSE, PARSE_KIND, SORT}
+use Rattle.vega_schema.specs.declared.codes.TheConstants.{TEXT, TEXT_OR_TEXTS, TRANSFORMS}
 
 -- a data set
 unfoldable pub data_set : Layout

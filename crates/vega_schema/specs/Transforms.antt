@@ -3,7 +3,8 @@ use Rattle.std.specs.Prelude.{None, List, [], ◌∷◌, codes}
 use Rattle.spec_schema.specs.declared.layout.Layout.{Layout}
 use Rattle.spec_schema.specs.declared.layout.Test.TheVariants.{Says}
 use Rattle.spec_schema.specs.Tables.{must, may}
-use Rattle.vega_schema.specs.declared.codes.TheConstants.{COUNT, EXPRESSION, EXTENT, OFFSET, SORT, STEP, TEXT, TEXTS, TIME_UNIT, TRANSFORM, TWO_TEXTS}
+use Rattle.vega_schema.specs.declared.codes.TheConstants.{COUNT, EXPRESSION, EXTENT, OFFSET, SORT, STEP, TEXT, TEXTS, TIME_UNIT, TRANSFORM}
+use Rattle.vega_schema.specs.declared.codes.TheConstants.{TWO_TEXTS}
 
 -- a transform of the type `filter`
 unfoldable pub filter : Layout

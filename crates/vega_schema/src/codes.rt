@@ -261,6 +261,24 @@ pub const LEGEND: u16 = 85;
 /// The layout of a grid.
 pub const LAYOUT: u16 = 86;
 
+/// The text of an expression that gives the size of a plot.
+pub const SIZE_EXPRESSION: u16 = 87;
+
+/// The value of an expression that gives the size of a plot.
+pub const SIZE_SIGNAL: u16 = 88;
+
+/// The encode sets of a group.
+pub const GROUP_ENCODE: u16 = 89;
+
+/// An encode set of a group.
+pub const GROUP_CHANNELS: u16 = 90;
+
+/// A value of a channel that gives the size of a plot, or a list of values with tests.
+pub const SIZE_CHANNEL: u16 = 91;
+
+/// A value of a channel that gives the size of a plot.
+pub const SIZE_VALUE: u16 = 92;
+
 /// What `autosize` may say.
 pub const AUTOSIZE_NAMES: u16 = 0;
 

@@ -1,6 +1,7 @@
 //! The members of objects: domains.
 ghost use Rattle.std.specs.Prelude.{◌≡◌, ◌++◌, IfOk, OnOk};
-ghost use Rattle.vega_schema.specs.Domains.{domain_of_signal, domain_of_field, domain_of_fields, reference, sort_by_operation, sort_by_cells, all_domains};
+ghost use Rattle.vega_schema.specs.Domains.{domain_of_signal, domain_of_field, domain_of_fields, reference, sort_by_operation};
+ghost use Rattle.vega_schema.specs.Domains.{sort_by_cells, all_domains};
 
 use crate::codes::{
     DOMAIN, DOMAIN_ORDER, DOMAIN_SORT, EXPRESSION, OPERATION, ORDER, REFERENCE, REFERENCES, TEXT,

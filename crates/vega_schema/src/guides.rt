@@ -3,7 +3,7 @@ ghost use Rattle.std.specs.Prelude.{◌≡◌, ◌++◌, IfOk, OnOk};
 ghost use Rattle.vega_schema.specs.Guides.{group_mark, axis, legend, grid_layout, top, all_guides};
 
 use crate::codes::{
-    ANGLE, AUTOSIZE, AXES, AXIS, CELLS, COUNT, DATA_LIST, EDGE, ENCODE, FLAG, GROUP_FROM,
+    ANGLE, AUTOSIZE, AXES, AXIS, CELLS, COUNT, DATA_LIST, EDGE, FLAG, GROUP_ENCODE, GROUP_FROM,
     LABEL_FORMAT, LAYOUT, LEGEND, LEGENDS, MARK, MARKS, SCALES, SIDE, SIGNALS, SIZE, SORT, SPACE,
     TEXT, TICK_COUNT, TOP,
 };
@@ -21,7 +21,7 @@ fn group_mark(alloc: Global) -> Result<Layout, OutOfMemory>
         MARK,
         &[When::Says("type", "group")],
         &table![
-        must "type" TEXT, may "name" TEXT, may "from" GROUP_FROM, may "encode" ENCODE, may "sort" SORT,
+        must "type" TEXT, may "name" TEXT, may "from" GROUP_FROM, may "encode" GROUP_ENCODE, may "sort" SORT,
         may "data" DATA_LIST, may "signals" SIGNALS, may "scales" SCALES, may "layout" LAYOUT, may "marks" MARKS,
         may "axes" AXES, may "legends" LEGENDS, may "title" TEXT,
     ],

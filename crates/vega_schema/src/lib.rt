@@ -12,9 +12,14 @@ mod scales;
 mod schema;
 mod shapes;
 mod signals;
+mod sizes;
 mod sources;
 mod transforms;
 mod words;
 
-pub use codes::TOP;
+pub use codes::{
+    AXIS, CHANNEL, DATA, EXPRESSION, EXTENT, FACET, LABEL_FORMAT, LEGEND, MARK, MARK_FROM,
+    REFERENCE, SCALE, SCALE_DOMAIN, SIGNAL, SIZE_CHANNEL, SIZE_EXPRESSION, SIZE_VALUE, SORT, TOP,
+    TRANSFORM, VALUE, WORDS_CHANNEL, WORDS_VALUE,
+};
 pub use schema::vega_schema;

@@ -11,6 +11,7 @@ use crate::plain_marks::push_plain_marks;
 use crate::scales::push_scales;
 use crate::shapes::shapes;
 use crate::signals::push_signals;
+use crate::sizes::push_sizes;
 use crate::sources::push_sources;
 use crate::transforms::push_transforms;
 use crate::words::words;
@@ -43,7 +44,8 @@ fn last_layouts(alloc: Global, out: &mut Seq<Layout>) -> Result<(), OutOfMemory>
     push_domains(alloc, out)?;
     push_plain_marks(alloc, out)?;
     push_marks(alloc, out)?;
-    push_channels(alloc, out)
+    push_channels(alloc, out)?;
+    push_sizes(alloc, out)
 }
 
 // The layouts of all objects.

@@ -25,6 +25,7 @@ fn leaves(alloc: Global) -> Result<Seq<Shape>, OutOfMemory>
             FREE Form::Free,
             TEXT Form::Text,
             EXPRESSION Form::Text,
+            SIZE_EXPRESSION Form::Text,
             LABEL_FORMAT Form::Text,
             FLAG Form::Flag,
             CELL Form::Cell,
@@ -43,7 +44,7 @@ fn leaves(alloc: Global) -> Result<Seq<Shape>, OutOfMemory>
             BOUND Form::Null,
             RANGE_NUMBER Form::Number { least: 0, most: 1_000_000_000_000 },
             SIZE Form::Number { least: 1, most: 10_000_000_000 },
-            SIZE Form::Object(EXPRESSION_SIGNAL),
+            SIZE Form::Object(SIZE_SIGNAL),
         ],
     )
 }
@@ -117,6 +118,8 @@ fn lists(alloc: Global) -> Result<Seq<Shape>, OutOfMemory>
             CHANNEL Form::List { least: 0, most: usize::MAX, items: VALUE },
             WORDS_CHANNEL Form::Object(WORDS_VALUE),
             WORDS_CHANNEL Form::List { least: 0, most: usize::MAX, items: WORDS_VALUE },
+            SIZE_CHANNEL Form::Object(SIZE_VALUE),
+            SIZE_CHANNEL Form::List { least: 0, most: usize::MAX, items: SIZE_VALUE },
             DATA_LIST Form::List { least: 0, most: usize::MAX, items: DATA },
             TRANSFORMS Form::List { least: 0, most: usize::MAX, items: TRANSFORM },
             SIGNALS Form::List { least: 0, most: usize::MAX, items: SIGNAL },
@@ -165,6 +168,10 @@ fn objects(alloc: Global) -> Result<Seq<Shape>, OutOfMemory>
             AXIS Form::Object(AXIS),
             LEGEND Form::Object(LEGEND),
             LAYOUT Form::Object(LAYOUT),
+            SIZE_SIGNAL Form::Object(SIZE_SIGNAL),
+            GROUP_ENCODE Form::Object(GROUP_ENCODE),
+            GROUP_CHANNELS Form::Object(GROUP_CHANNELS),
+            SIZE_VALUE Form::Object(SIZE_VALUE),
         ],
     )
 }

@@ -1,6 +1,9 @@
 //! The lists of names.
 ghost use Rattle.std.specs.Prelude.{◌≡◌, IfOk, OnOk, ◌++◌};
-ghost use Rattle.vega_schema.specs.Words.{autosize_names, format_names, parse_names, operation_names, window_names, unit_names, offset_names, order_names, continuous_names, discrete_names, ordinal_names, event_names, header_names, side_names, edge_names, data_words, operation_words, order_words, scale_words, side_words, words};
+ghost use Rattle.vega_schema.specs.Words.{autosize_names, format_names, parse_names, operation_names, window_names, unit_names};
+ghost use Rattle.vega_schema.specs.Words.{offset_names, order_names, continuous_names, discrete_names, ordinal_names, event_names};
+ghost use Rattle.vega_schema.specs.Words.{header_names, side_names, edge_names, data_words, operation_words, order_words, scale_words};
+ghost use Rattle.vega_schema.specs.Words.{side_words, words};
 
 use spec_schema::names_by;
 use std::alloc::Global;

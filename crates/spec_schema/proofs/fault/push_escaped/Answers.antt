@@ -9,9 +9,12 @@ use Rattle.spec_schema.proofs.PathTexts.{word_more}
 use Rattle.spec_schema.proofs.fault.push_escaped.Goals as goal
 
 pub loop-c-preserved : goal.loop-c-preserved
-loop-c-preserved c = c.in_ok-push_char.ensures ∙ ap (λ text. text ++ flat_map path_byte (encode_utf8 c.in-Some.c)) c.loop-c.invariant ∙ word_more c.args.out.now c.loop-c.yielded c.in-Some.c
+loop-c-preserved c = c.in_ok-push_char.ensures ∙ ap (λ text. text ++ flat_map path_byte (encode_utf8 c.in-Some.c)) c.loop-c.invariant
+    ∙ word_more c.args.out.now c.loop-c.yielded c.in-Some.c
 
 pub returns : goal.returns
 returns c =
-    let ended = YieldsList-end (YieldsList-from_chars c.args.name.now c.utf8.name (search rules)) c.loop-c.yielded _ c.loop-c.yielded_by _ _ c.in-None.is c.next.ensures.steps in
-    c.loop-c.invariant ∙ ap (λ cs. c.args.out.now ++ flat_map path_byte (encode_utf8_all cs)) (sym (map-id c.loop-c.yielded) ∙ ended.0) ∙ ap (λ t. c.args.out.now ++ flat_map path_byte t) (encodes-chars c.args.name.now c.utf8.name)
+    let ended = YieldsList-end (YieldsList-from_chars c.args.name.now c.utf8.name (search rules)) c.loop-c.yielded _ c.loop-c.yielded_by _ _
+    c.in-None.is c.next.ensures.steps in
+    c.loop-c.invariant ∙ ap (λ cs. c.args.out.now ++ flat_map path_byte (encode_utf8_all cs)) (sym (map-id c.loop-c.yielded) ∙ ended.0)
+    ∙ ap (λ t. c.args.out.now ++ flat_map path_byte t) (encodes-chars c.args.name.now c.utf8.name)
