@@ -1,0 +1,26 @@
+use Rattle.std.proofs.Common.{◌≡◌, take, drop, map, ◌+◌, ◌*◌}
+use Rattle.std.specs.Prelude.{codes}
+use Rattle.json_exact.specs.declared.json.Json.{size-Json}
+use Rattle.vega_building.specs.Spec.{mark_of, marks_at}
+use Rattle.vega_building.proofs.spec.+marks.Given as goal
+
+abbrev pub decreases-mark_of : goal.decreases-mark_of
+decreases-mark_of l = 6 * size-Json l.tree.now
+
+abbrev pub decreases-object_mark : goal.decreases-object_mark
+decreases-object_mark l = 6 * goal.size-object_mark l + 3
+
+abbrev pub decreases-marks_at : goal.decreases-marks_at
+decreases-marks_at l = 6 * goal.size-marks_at l + 2
+
+abbrev pub decreases-marks_in : goal.decreases-marks_in
+decreases-marks_in l = 6 * size-Json l.tree.now + 1
+
+abbrev pub decreases-marks_of : goal.decreases-marks_of
+decreases-marks_of l = 6 * goal.size-marks_of l + 1
+
+abbrev pub invariant-marks_of-loop-tree : goal.invariant-marks_of-loop-tree
+invariant-marks_of-loop-tree l = l.marks ≡ map mark_of (take l.tree-index l.items)
+
+abbrev pub invariant-marks_at-loop-member : goal.invariant-marks_at-loop-member
+invariant-marks_at-loop-member l = marks_at (drop l.member-index l.members) (codes "marks") ≡ marks_at l.members (codes "marks")

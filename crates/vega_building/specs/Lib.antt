@@ -1,0 +1,13 @@
+pub mod Parts
+pub mod Names
+pub mod Orders
+pub mod Transforms
+pub mod Groupings
+pub mod Sources
+pub mod Signals
+pub mod Domains
+pub mod Scales
+pub mod Channels
+pub mod Marks
+pub mod Guides
+pub mod Spec

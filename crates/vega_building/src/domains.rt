@@ -1,0 +1,148 @@
+// Domains of scales.
+ghost use Rattle.std.specs.Prelude.{◌≡◌, IfOk};
+ghost use Rattle.json_exact.specs.declared.json.Json.{out-Json};
+ghost use Rattle.vega_building.specs.Domains.{reference_of, domain_order_of, domain_order_in, domain_order_at, field_domain_of, needed_references, fields_domain_of, domain_of, domain_in, domain_at, needed_domain};
+
+use crate::names::order_at;
+use crate::parts::{
+    Object, has_member, items_at, list_of, needed_expression, needed_text, objects_of,
+};
+use crate::tables::needed_operation;
+use crate::values::member_value;
+use json_exact::{Json, Member};
+use std::alloc::Global;
+use text_kit::{OutOfMemory, Seq};
+use vega_spec::{Domain, DomainOrder, FieldDomain, FieldsDomain, Reference};
+
+impl Object for Reference {
+    ghost built = { reference_of };
+
+    fn of_members(alloc: Global, members: &[Member]) -> Result<Reference, OutOfMemory> {
+        Ok(Reference {
+            data_: needed_text(alloc, members, "data")?,
+            field: needed_text(alloc, members, "field")?,
+        })
+    }
+}
+
+// An order by an operation, where there is one, or by the cells themselves.
+fn domain_order_of(alloc: Global, members: &[Member]) -> Result<DomainOrder, OutOfMemory>
+    ensures { IfOk result (λ order. order ≡ domain_order_of members.now) }
+{
+    let order = order_at(members, "order");
+    if has_member(members, "op") {
+        let op = needed_operation(members, "op");
+        Ok(DomainOrder::Operation(order, op, needed_text(alloc, members, "field")?))
+    } else {
+        Ok(DomainOrder::Cells(order))
+    }
+}
+
+// How the cells of a domain stand.
+fn domain_order_in(alloc: Global, tree: &Json) -> Result<Option<DomainOrder>, OutOfMemory>
+    ensures { IfOk result (λ order. order ≡ domain_order_in (out-Json tree.now)) }
+{
+    match tree {
+        Json::Flag(true) => Ok(Some(DomainOrder::True)),
+        Json::Object(members) => Ok(Some(domain_order_of(alloc, members.as_slice())?)),
+        Json::Null
+        | Json::Flag(false)
+        | Json::Number(_)
+        | Json::Huge
+        | Json::Text(_)
+        | Json::List(_) => Ok(None),
+    }
+}
+
+// The same under a name.
+fn domain_order_at(
+    alloc: Global,
+    members: &[Member],
+    name: &str,
+) -> Result<Option<DomainOrder>, OutOfMemory>
+    ensures { IfOk result (λ order. order ≡ domain_order_at members.now name.now) }
+{
+    match member_value(members, name) {
+        Some(tree) => domain_order_in(alloc, tree),
+        None => Ok(None),
+    }
+}
+
+// The cells of a field.
+fn field_domain_of(alloc: Global, members: &[Member]) -> Result<FieldDomain, OutOfMemory>
+    ensures { IfOk result (λ domain. domain ≡ field_domain_of members.now) }
+{
+    Ok(FieldDomain {
+        data_: needed_text(alloc, members, "data")?,
+        field: needed_text(alloc, members, "field")?,
+        sort: domain_order_at(alloc, members, "sort")?,
+    })
+}
+
+// The references of a list under a name, none where there is no list.
+fn needed_references(
+    alloc: Global,
+    members: &[Member],
+    name: &str,
+) -> Result<Seq<Reference>, OutOfMemory>
+    ensures { IfOk result (λ references. references ≡ needed_references members.now name.now) }
+{
+    match items_at(members, name) {
+        Some(items) => objects_of(alloc, items.as_slice()),
+        None => Ok(Seq::new(alloc)),
+    }
+}
+
+// The cells of several fields.
+fn fields_domain_of(alloc: Global, members: &[Member]) -> Result<FieldsDomain, OutOfMemory>
+    ensures { IfOk result (λ domain. domain ≡ fields_domain_of members.now) }
+{
+    Ok(FieldsDomain {
+        fields: needed_references(alloc, members, "fields")?,
+        sort: domain_order_at(alloc, members, "sort")?,
+    })
+}
+
+// A domain that is an object: an expression, several fields, or one.
+fn domain_of(alloc: Global, members: &[Member]) -> Result<Domain, OutOfMemory>
+    ensures { IfOk result (λ domain. domain ≡ domain_of members.now) }
+{
+    if has_member(members, "signal") {
+        Ok(Domain::Signal(needed_expression(alloc, members, "signal")?))
+    } else if has_member(members, "fields") {
+        Ok(Domain::Fields(fields_domain_of(alloc, members)?))
+    } else {
+        Ok(Domain::Field(field_domain_of(alloc, members)?))
+    }
+}
+
+// A domain.
+fn domain_in(alloc: Global, tree: &Json) -> Result<Option<Domain>, OutOfMemory>
+    ensures { IfOk result (λ domain. domain ≡ domain_in (out-Json tree.now)) }
+{
+    match tree {
+        Json::List(items) => Ok(Some(Domain::Cells(list_of(alloc, items.as_slice())?))),
+        Json::Object(members) => Ok(Some(domain_of(alloc, members.as_slice())?)),
+        Json::Null | Json::Flag(_) | Json::Number(_) | Json::Huge | Json::Text(_) => Ok(None),
+    }
+}
+
+// The same under a name.
+fn domain_at(alloc: Global, members: &[Member], name: &str) -> Result<Option<Domain>, OutOfMemory>
+    ensures { IfOk result (λ domain. domain ≡ domain_at members.now name.now) }
+{
+    match member_value(members, name) {
+        Some(tree) => domain_in(alloc, tree),
+        None => Ok(None),
+    }
+}
+
+/// The domain under a name, that of no cells where there is none.
+pub fn needed_domain(alloc: Global, members: &[Member], name: &str) -> Result<Domain, OutOfMemory>
+    ensures { IfOk result (λ domain. domain ≡ needed_domain members.now name.now) }
+{
+    match domain_at(alloc, members, name)? {
+        Some(domain) => Ok(domain),
+        None => Ok(Domain::Cells(Seq::new(alloc))),
+    }
+}

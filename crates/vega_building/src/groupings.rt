@@ -1,0 +1,104 @@
+// Transforms over several rows.
+ghost use Rattle.std.specs.Prelude.{◌≡◌, IfOk};
+ghost use Rattle.vega_building.specs.Groupings.{maybe_text, maybe_number, aggregate_of, frame_in, frame_at, needed_operations, window_of, lookup_of};
+
+use crate::parts::{
+    Item, cell_at, flag_at, items_at, list_at, list_of, needed_text, needed_texts, object_at,
+};
+use crate::values::{number_in, text_in};
+use fixed_num::Num;
+use json_exact::{Json, Member};
+use std::alloc::Global;
+use text_kit::{OutOfMemory, Seq, Text};
+use vega_spec::{Aggregate, Frame, Lookup, Window};
+
+impl Item for Option<Text> {
+    ghost item = { maybe_text };
+
+    fn of_item(_: Global, tree: &Json) -> Result<Option<Text>, OutOfMemory> {
+        match text_in(tree) {
+            Some(text) => Ok(Some(text.copy()?)),
+            None => Ok(None),
+        }
+    }
+}
+
+impl Item for Option<Num> {
+    ghost item = { maybe_number };
+
+    fn of_item(_: Global, tree: &Json) -> Result<Option<Num>, OutOfMemory> {
+        Ok(number_in(tree))
+    }
+}
+
+/// `aggregate` and `joinaggregate`
+pub fn aggregate_of(alloc: Global, members: &[Member]) -> Result<Aggregate, OutOfMemory>
+    ensures { IfOk result (λ aggregate. aggregate ≡ aggregate_of members.now) }
+{
+    Ok(Aggregate {
+        groupby: list_at(alloc, members, "groupby")?,
+        ops: list_at(alloc, members, "ops")?,
+        fields: list_at(alloc, members, "fields")?,
+        as_: list_at(alloc, members, "as")?,
+    })
+}
+
+// The codes of operations under a name, none where there is no list.
+fn needed_operations(alloc: Global, members: &[Member], name: &str) -> Result<Seq<u16>, OutOfMemory>
+    ensures { IfOk result (λ codes. codes ≡ needed_operations members.now name.now) }
+{
+    match items_at(members, name) {
+        Some(items) => list_of(alloc, items.as_slice()),
+        None => Ok(Seq::new(alloc)),
+    }
+}
+
+// The two bounds of a frame.
+fn frame_in(items: &[Json]) -> Option<Frame>
+    ensures { result ≡ frame_in items.now }
+{
+    match items {
+        [a, b] => Some(Frame {
+            first: number_in(a),
+            last: number_in(b),
+        }),
+        _ => None,
+    }
+}
+
+// The frame under a name.
+fn frame_at(members: &[Member], name: &str) -> Option<Frame>
+    ensures { result ≡ frame_at members.now name.now }
+{
+    frame_in(items_at(members, name)?.as_slice())
+}
+
+/// `window`
+pub fn window_of(alloc: Global, members: &[Member]) -> Result<Window, OutOfMemory>
+    ensures { IfOk result (λ window. window ≡ window_of members.now) }
+{
+    Ok(Window {
+        ops: needed_operations(alloc, members, "ops")?,
+        fields: list_at(alloc, members, "fields")?,
+        params: list_at(alloc, members, "params")?,
+        as_: list_at(alloc, members, "as")?,
+        groupby: list_at(alloc, members, "groupby")?,
+        sort: object_at(alloc, members, "sort")?,
+        frame: frame_at(members, "frame"),
+        ignore_peers: flag_at(members, "ignorePeers"),
+    })
+}
+
+/// `lookup`
+pub fn lookup_of(alloc: Global, members: &[Member]) -> Result<Lookup, OutOfMemory>
+    ensures { IfOk result (λ lookup. lookup ≡ lookup_of members.now) }
+{
+    Ok(Lookup {
+        from: needed_text(alloc, members, "from")?,
+        key: needed_text(alloc, members, "key")?,
+        fields: needed_texts(alloc, members, "fields")?,
+        values: needed_texts(alloc, members, "values")?,
+        as_: list_at(alloc, members, "as")?,
+        default: cell_at(members, "default")?,
+    })
+}

@@ -1,0 +1,83 @@
+// Scales.
+ghost use Rattle.std.specs.Prelude.{◌≡◌, IfOk};
+ghost use Rattle.json_exact.specs.declared.json.Json.{out-Json};
+ghost use Rattle.vega_building.specs.Scales.{range_named, range_in, range_at, needed_range, scale_of};
+
+use crate::domains::needed_domain;
+use crate::parts::{Object, flag_at, list_of, needed_text, number_at, signal_at};
+use crate::tables::needed_scale_kind;
+use crate::values::member_value;
+use json_exact::{Json, Member};
+use std::alloc::Global;
+use text_kit::{OutOfMemory, Seq};
+use vega_spec::{Range, Scale};
+
+// A range that goes by a name.
+fn range_named(name: &str) -> Option<Range>
+    ensures { result ≡ range_named name.now }
+{
+    if name == "width" {
+        Some(Range::Width)
+    } else if name == "height" {
+        Some(Range::Height)
+    } else if name == "category" {
+        Some(Range::Category)
+    } else if name == "ramp" {
+        Some(Range::Ramp)
+    } else if name == "symbol" {
+        Some(Range::Symbol)
+    } else {
+        None
+    }
+}
+
+// A range.
+fn range_in(alloc: Global, tree: &Json) -> Result<Option<Range>, OutOfMemory>
+    ensures { IfOk result (λ range. range ≡ range_in (out-Json tree.now)) }
+{
+    match tree {
+        Json::List(items) => Ok(Some(Range::Cells(list_of(alloc, items.as_slice())?))),
+        Json::Text(text) => Ok(range_named(text.as_str())),
+        Json::Null | Json::Flag(_) | Json::Number(_) | Json::Huge | Json::Object(_) => Ok(None),
+    }
+}
+
+// The same under a name.
+fn range_at(alloc: Global, members: &[Member], name: &str) -> Result<Option<Range>, OutOfMemory>
+    ensures { IfOk result (λ range. range ≡ range_at members.now name.now) }
+{
+    match member_value(members, name) {
+        Some(tree) => range_in(alloc, tree),
+        None => Ok(None),
+    }
+}
+
+// The range under a name, that of no cells where there is none.
+fn needed_range(alloc: Global, members: &[Member], name: &str) -> Result<Range, OutOfMemory>
+    ensures { IfOk result (λ range. range ≡ needed_range members.now name.now) }
+{
+    match range_at(alloc, members, name)? {
+        Some(range) => Ok(range),
+        None => Ok(Range::Cells(Seq::new(alloc))),
+    }
+}
+
+impl Object for Scale {
+    ghost built = { scale_of };
+
+    fn of_members(alloc: Global, members: &[Member]) -> Result<Scale, OutOfMemory> {
+        Ok(Scale {
+            name: needed_text(alloc, members, "name")?,
+            type_: needed_scale_kind(members, "type"),
+            domain: needed_domain(alloc, members, "domain")?,
+            domain_raw: signal_at(alloc, members, "domainRaw")?,
+            range: needed_range(alloc, members, "range")?,
+            zero: flag_at(members, "zero"),
+            nice: flag_at(members, "nice"),
+            reverse: flag_at(members, "reverse"),
+            padding: number_at(members, "padding"),
+            padding_inner: number_at(members, "paddingInner"),
+            padding_outer: number_at(members, "paddingOuter"),
+        })
+    }
+}

@@ -1,0 +1,188 @@
+// Transforms of rows.
+ghost use Rattle.std.specs.Prelude.{◌≡◌, IfOk};
+ghost use Rattle.json_exact.specs.declared.json.Json.{out-Json};
+ghost use Rattle.vega_building.specs.Transforms.{filter_of, formula_of, extent_of, numbers_in, extent_signal, bin_extent_in, bin_extent_at, needed_bin_extent, bin_of, time_unit_of, stack_of, fold_of, transform_by, transform_of};
+
+use crate::groupings::{aggregate_of, lookup_of, window_of};
+use crate::names::offset_at;
+use crate::parts::{
+    Object, list_at, needed_expression, needed_text, needed_texts, number_at, object_at, text_at,
+    two_texts_at,
+};
+use crate::tables::needed_time_unit;
+use crate::values::{member_value, number_in};
+use json_exact::{Json, Member};
+use std::alloc::Global;
+use text_kit::{OutOfMemory, Text};
+use vega_spec::{Bin, BinExtent, Extent, Filter, Fold, Formula, Stack, TimeUnit, Transform};
+
+// `filter`
+fn filter_of(alloc: Global, members: &[Member]) -> Result<Filter, OutOfMemory>
+    ensures { IfOk result (λ filter. filter ≡ filter_of members.now) }
+{
+    Ok(Filter {
+        expr: needed_expression(alloc, members, "expr")?,
+    })
+}
+
+// `formula`
+fn formula_of(alloc: Global, members: &[Member]) -> Result<Formula, OutOfMemory>
+    ensures { IfOk result (λ formula. formula ≡ formula_of members.now) }
+{
+    Ok(Formula {
+        expr: needed_expression(alloc, members, "expr")?,
+        as_: needed_text(alloc, members, "as")?,
+    })
+}
+
+// `extent`
+fn extent_of(alloc: Global, members: &[Member]) -> Result<Extent, OutOfMemory>
+    ensures { IfOk result (λ extent. extent ≡ extent_of members.now) }
+{
+    Ok(Extent {
+        field: needed_text(alloc, members, "field")?,
+        signal: needed_text(alloc, members, "signal")?,
+    })
+}
+
+// Two numbers.
+fn numbers_in(items: &[Json]) -> Option<BinExtent>
+    ensures { result ≡ numbers_in items.now }
+{
+    let [a, b] = items else {
+        return None;
+    };
+    let x = number_in(a)?;
+    let y = number_in(b)?;
+    Some(BinExtent::Pair(x, y))
+}
+
+// The name of a signal.
+fn extent_signal(members: &[Member]) -> Result<Option<BinExtent>, OutOfMemory>
+    ensures { IfOk result (λ extent. extent ≡ extent_signal members.now) }
+{
+    match text_at(members, "signal")? {
+        Some(name) => Ok(Some(BinExtent::Signal(name))),
+        None => Ok(None),
+    }
+}
+
+// Two numbers, or the name of a signal.
+fn bin_extent_in(tree: &Json) -> Result<Option<BinExtent>, OutOfMemory>
+    ensures { IfOk result (λ extent. extent ≡ bin_extent_in (out-Json tree.now)) }
+{
+    match tree {
+        Json::List(items) => Ok(numbers_in(items.as_slice())),
+        Json::Object(members) => extent_signal(members.as_slice()),
+        Json::Null | Json::Flag(_) | Json::Number(_) | Json::Huge | Json::Text(_) => Ok(None),
+    }
+}
+
+// What bins take in, under a name.
+fn bin_extent_at(members: &[Member], name: &str) -> Result<Option<BinExtent>, OutOfMemory>
+    ensures { IfOk result (λ extent. extent ≡ bin_extent_at members.now name.now) }
+{
+    match member_value(members, name) {
+        Some(tree) => bin_extent_in(tree),
+        None => Ok(None),
+    }
+}
+
+// What bins take in, under a name, the signal of no name where it isn't said.
+fn needed_bin_extent(
+    alloc: Global,
+    members: &[Member],
+    name: &str,
+) -> Result<BinExtent, OutOfMemory>
+    ensures { IfOk result (λ extent. extent ≡ needed_bin_extent members.now name.now) }
+{
+    match bin_extent_at(members, name)? {
+        Some(extent) => Ok(extent),
+        None => Ok(BinExtent::Signal(Text::new(alloc))),
+    }
+}
+
+// `bin`
+fn bin_of(alloc: Global, members: &[Member]) -> Result<Bin, OutOfMemory>
+    ensures { IfOk result (λ bin. bin ≡ bin_of members.now) }
+{
+    Ok(Bin {
+        field: needed_text(alloc, members, "field")?,
+        extent: needed_bin_extent(alloc, members, "extent")?,
+        maxbins: number_at(members, "maxbins"),
+        step: number_at(members, "step"),
+        as_: two_texts_at(alloc, members, "as")?,
+    })
+}
+
+// `timeunit`
+fn time_unit_of(alloc: Global, members: &[Member]) -> Result<TimeUnit, OutOfMemory>
+    ensures { IfOk result (λ unit. unit ≡ time_unit_of members.now) }
+{
+    Ok(TimeUnit {
+        field: needed_text(alloc, members, "field")?,
+        units: needed_time_unit(members, "units"),
+        as_: two_texts_at(alloc, members, "as")?,
+    })
+}
+
+// `stack`
+fn stack_of(alloc: Global, members: &[Member]) -> Result<Stack, OutOfMemory>
+    ensures { IfOk result (λ stack. stack ≡ stack_of members.now) }
+{
+    Ok(Stack {
+        groupby: list_at(alloc, members, "groupby")?,
+        field: needed_text(alloc, members, "field")?,
+        sort: object_at(alloc, members, "sort")?,
+        offset: offset_at(members, "offset"),
+        as_: two_texts_at(alloc, members, "as")?,
+    })
+}
+
+// `fold`
+fn fold_of(alloc: Global, members: &[Member]) -> Result<Fold, OutOfMemory>
+    ensures { IfOk result (λ fold. fold ≡ fold_of members.now) }
+{
+    Ok(Fold {
+        fields: needed_texts(alloc, members, "fields")?,
+        as_: two_texts_at(alloc, members, "as")?,
+    })
+}
+
+// A transform by its type; one of no known type is a filter.
+fn transform_by(alloc: Global, name: &str, members: &[Member]) -> Result<Transform, OutOfMemory>
+    ensures { IfOk result (λ transform. transform ≡ transform_by name.now members.now) }
+{
+    if name == "formula" {
+        Ok(Transform::Formula(formula_of(alloc, members)?))
+    } else if name == "extent" {
+        Ok(Transform::Extent(extent_of(alloc, members)?))
+    } else if name == "bin" {
+        Ok(Transform::Bin(bin_of(alloc, members)?))
+    } else if name == "timeunit" {
+        Ok(Transform::TimeUnit(time_unit_of(alloc, members)?))
+    } else if name == "aggregate" {
+        Ok(Transform::Aggregate(aggregate_of(alloc, members)?))
+    } else if name == "joinaggregate" {
+        Ok(Transform::JoinAggregate(aggregate_of(alloc, members)?))
+    } else if name == "stack" {
+        Ok(Transform::Stack(stack_of(alloc, members)?))
+    } else if name == "window" {
+        Ok(Transform::Window(window_of(alloc, members)?))
+    } else if name == "lookup" {
+        Ok(Transform::Lookup(lookup_of(alloc, members)?))
+    } else if name == "fold" {
+        Ok(Transform::Fold(fold_of(alloc, members)?))
+    } else {
+        Ok(Transform::Filter(filter_of(alloc, members)?))
+    }
+}
+
+impl Object for Transform {
+    ghost built = { transform_of };
+
+    fn of_members(alloc: Global, members: &[Member]) -> Result<Transform, OutOfMemory> {
+        let name = needed_text(alloc, members, "type")?;
+        transform_by(alloc, name.as_str(), members)
+    }
+}

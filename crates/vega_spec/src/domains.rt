@@ -1,0 +1,112 @@
+// Domains of scales.
+use crate::Order;
+use cell_value::Cell;
+use expr_syntax::Expr;
+use std::alloc::Global;
+use text_kit::{Copies, OutOfMemory, Seq, Text};
+
+/// The domain of a scale.
+#[derive(Debug, Drop)]
+pub enum Domain {
+    /// A list of cells.
+    Cells(Seq<Cell>),
+    /// The value of an expression.
+    Signal(Expr),
+    /// The cells of a field.
+    Field(FieldDomain),
+    /// The cells of several fields.
+    Fields(FieldsDomain),
+}
+
+/// The cells of a field of a data set.
+#[derive(Debug, Drop)]
+pub struct FieldDomain {
+    /// The data set.
+    pub data_: Text,
+    /// The field.
+    pub field: Text,
+    /// How the cells stand.
+    pub sort: Option<DomainOrder>,
+}
+
+/// The cells of several fields.
+#[derive(Debug, Drop)]
+pub struct FieldsDomain {
+    /// The fields.
+    pub fields: Seq<Reference>,
+    /// How the cells stand.
+    pub sort: Option<DomainOrder>,
+}
+
+/// A field of a data set.
+#[derive(Debug, Drop)]
+pub struct Reference {
+    /// The data set.
+    pub data_: Text,
+    /// The field.
+    pub field: Text,
+}
+
+/// How the cells of a domain stand.
+#[derive(Debug, Drop)]
+pub enum DomainOrder {
+    /// `true`: ascending.
+    True,
+    /// By themselves, in this direction.
+    Cells(Option<Order>),
+    /// In this direction by the operation of this code among `case_table::OPERATIONS` over this field.
+    Operation(Option<Order>, u16, Text),
+}
+
+impl Copies for Domain {
+    fn copied(&self, alloc: Global) -> Result<Domain, OutOfMemory> {
+        match self {
+            Domain::Cells(cells) => Ok(Domain::Cells(cells.copied(alloc)?)),
+            Domain::Signal(e) => Ok(Domain::Signal(e.copy(alloc)?)),
+            Domain::Field(of) => Ok(Domain::Field(of.copied(alloc)?)),
+            Domain::Fields(of) => Ok(Domain::Fields(of.copied(alloc)?)),
+        }
+    }
+}
+
+impl Copies for FieldDomain {
+    fn copied(&self, alloc: Global) -> Result<FieldDomain, OutOfMemory> {
+        Ok(FieldDomain {
+            data_: self.data_.copy()?,
+            field: self.field.copy()?,
+            sort: Copies::copied(&self.sort, alloc)?,
+        })
+    }
+}
+
+impl Copies for FieldsDomain {
+    fn copied(&self, alloc: Global) -> Result<FieldsDomain, OutOfMemory> {
+        Ok(FieldsDomain {
+            fields: Copies::copied(&self.fields, alloc)?,
+            sort: Copies::copied(&self.sort, alloc)?,
+        })
+    }
+}
+
+impl Copies for Reference {
+    fn copied(&self, _: Global) -> Result<Reference, OutOfMemory> {
+        Ok(Reference {
+            data_: self.data_.copy()?,
+            field: self.field.copy()?,
+        })
+    }
+}
+
+impl Copies for DomainOrder {
+    fn copied(&self, _: Global) -> Result<DomainOrder, OutOfMemory> {
+        match self {
+            DomainOrder::True => Ok(DomainOrder::True),
+            DomainOrder::Cells(order) => Ok(DomainOrder::Cells(*order)),
+            DomainOrder::Operation(order, op, field) => Ok(DomainOrder::Operation(
+                *order,
+                *op,
+                field.copy()?,
+            )),
+        }
+    }
+}

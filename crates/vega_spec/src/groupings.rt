@@ -1,0 +1,106 @@
+// Transforms over several rows.
+use crate::Sort;
+use crate::copying::copied_values;
+use cell_value::Cell;
+use fixed_num::Num;
+use std::alloc::Global;
+use text_kit::{Copies, OutOfMemory, Seq, Text};
+
+/// What is computed of each group of rows.
+#[derive(Debug, Drop)]
+pub struct Aggregate {
+    /// The fields whose equal cells make a group.
+    pub groupby: Option<Seq<Text>>,
+    /// The codes of the operations among `case_table::OPERATIONS`.
+    pub ops: Option<Seq<u16>>,
+    /// The field of each operation.
+    pub fields: Option<Seq<Option<Text>>>,
+    /// The name of what each gives.
+    pub as_: Option<Seq<Option<Text>>>,
+}
+
+/// What is computed of each row over its neighbours.
+#[derive(Debug, Drop)]
+pub struct Window {
+    /// The codes of the operations among `case_table::OPERATIONS`.
+    pub ops: Seq<u16>,
+    /// The field of each operation.
+    pub fields: Option<Seq<Option<Text>>>,
+    /// The number that each takes.
+    pub params: Option<Seq<Option<Num>>>,
+    /// The name of what each gives.
+    pub as_: Option<Seq<Option<Text>>>,
+    /// The fields whose equal cells make a partition.
+    pub groupby: Option<Seq<Text>>,
+    /// The order within a partition.
+    pub sort: Option<Sort>,
+    /// The rows about each row.
+    pub frame: Option<Frame>,
+    /// Whether the frame isn't widened to rows that are equal in `sort`.
+    pub ignore_peers: Option<bool>,
+}
+
+/// The rows about a row, counted from it, negative before it.
+#[derive(Clone, Copy, Debug)]
+pub struct Frame {
+    /// The first row; None for the partition's first.
+    pub first: Option<Num>,
+    /// The last row; None for the partition's last.
+    pub last: Option<Num>,
+}
+
+/// How cells of another data set are taken.
+#[derive(Debug, Drop)]
+pub struct Lookup {
+    /// The other data set.
+    pub from: Text,
+    /// The field there that is sought.
+    pub key: Text,
+    /// The fields of the row that are looked up.
+    pub fields: Seq<Text>,
+    /// The fields there that are taken.
+    pub values: Seq<Text>,
+    /// Their names here, one for each.
+    pub as_: Option<Seq<Text>>,
+    /// What stands where no row has the key.
+    pub default: Option<Cell>,
+}
+
+impl Copies for Aggregate {
+    fn copied(&self, alloc: Global) -> Result<Aggregate, OutOfMemory> {
+        Ok(Aggregate {
+            groupby: Copies::copied(&self.groupby, alloc)?,
+            ops: copied_values(alloc, &self.ops)?,
+            fields: Copies::copied(&self.fields, alloc)?,
+            as_: Copies::copied(&self.as_, alloc)?,
+        })
+    }
+}
+
+impl Copies for Window {
+    fn copied(&self, alloc: Global) -> Result<Window, OutOfMemory> {
+        Ok(Window {
+            ops: Seq::from_slice(alloc, self.ops.as_slice())?,
+            fields: Copies::copied(&self.fields, alloc)?,
+            params: copied_values(alloc, &self.params)?,
+            as_: Copies::copied(&self.as_, alloc)?,
+            groupby: Copies::copied(&self.groupby, alloc)?,
+            sort: Copies::copied(&self.sort, alloc)?,
+            frame: self.frame,
+            ignore_peers: self.ignore_peers,
+        })
+    }
+}
+
+impl Copies for Lookup {
+    fn copied(&self, alloc: Global) -> Result<Lookup, OutOfMemory> {
+        Ok(Lookup {
+            from: self.from.copy()?,
+            key: self.key.copy()?,
+            fields: Copies::copied(&self.fields, alloc)?,
+            values: Copies::copied(&self.values, alloc)?,
+            as_: Copies::copied(&self.as_, alloc)?,
+            default: Copies::copied(&self.default, alloc)?,
+        })
+    }
+}

@@ -1,0 +1,12 @@
+use Rattle.std.proofs.Common.{ap}
+use Rattle.vega_writing.specs.Slots.{object}
+use Rattle.vega_writing.specs.Guides.{legend_slots}
+use Rattle.vega_writing.proofs.Chains.{answered, pushed}
+use Rattle.vega_writing.proofs.guides.LegendWritten.tree.Goals as goal
+
+pub returns : goal.returns
+unfolding legend_slots
+returns c =
+    answered c.object.result _ _ c.object.ensures (ap object (pushed _ c.in_ok-put_if-6.ensures (
+    pushed _ c.in_ok-put_if-5.ensures (pushed _ c.in_ok-put_if-4.ensures (pushed _ c.in_ok-put_if-3.ensures (
+    pushed _ c.in_ok-put_if-2.ensures (pushed _ c.in_ok-put_if.ensures c.new-slots.ensures)))))))

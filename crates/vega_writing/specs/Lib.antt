@@ -1,0 +1,14 @@
+pub mod Slots
+pub mod Trees
+pub mod Names
+pub mod Orders
+pub mod Domains
+pub mod Data
+pub mod Encode
+pub mod Groupings
+pub mod Guides
+pub mod Marks
+pub mod Scales
+pub mod Signals
+pub mod Transforms
+pub mod Spec
