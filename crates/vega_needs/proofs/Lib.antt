@@ -1,0 +1,4 @@
+mod PlaceLemmas
+mod ReaderLemmas
+mod RowLemmas
+mod PlacedLemmas

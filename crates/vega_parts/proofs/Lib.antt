@@ -1,0 +1,4 @@
+mod Trails
+mod FarUrls
+mod Fields
+mod Entries

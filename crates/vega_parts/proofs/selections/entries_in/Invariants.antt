@@ -1,0 +1,9 @@
+use Rattle.std.proofs.Common.{◌≡◌, ◌++◌, drop, flat_map}
+use Rattle.std.specs.Prelude.{reverse}
+use Rattle.std.specs.List.{enumerate_from}
+use Rattle.vega_parts.specs.Selections.{entry_of, entries_in}
+use Rattle.vega_parts.proofs.selections.entries_in.Given as goal
+
+abbrev pub invariant-loop-inner : goal.invariant-loop-inner
+invariant-loop-inner l = l.out ++ flat_map (entry_of (reverse l.trail) l.number) (enumerate_from l.inner (drop l.inner l.items))
+    ≡ entries_in (reverse l.trail) l.number l.items

@@ -1,0 +1,16 @@
+pub mod Members
+pub mod Trails
+pub mod Names
+pub mod Lengths
+pub mod Data
+pub mod Transforms
+pub mod Signals
+pub mod Updates
+pub mod Selections
+pub mod Scales
+pub mod Marks
+pub mod Facets
+pub mod Expressions
+pub mod LabelFormats
+pub mod Parts
+pub mod Examples

@@ -1,0 +1,10 @@
+mod KeyedLemmas
+mod IndexLemmas
+mod OrderLemmas
+mod KeyLemmas
+mod FrontLemmas
+mod LoopLemmas
+mod SearchLemmas
+mod FoldLemmas
+mod MetLemmas
+mod DragLemmas

@@ -1,0 +1,9 @@
+use Rattle.std.proofs.Common.{◌≡◌, drop, flat_map}
+use Rattle.vega_rules.specs.Faults.{sooner, earliest}
+use Rattle.vega_rules.specs.Intervals.{interval_by, intervals}
+use Rattle.vega_rules.proofs.drags.sooner_intervals.Given as goal
+
+-- the fault so far and those of the rest
+abbrev pub invariant-loop-part : goal.invariant-loop-part
+invariant-loop-part l = sooner l.so_far (earliest (flat_map (interval_by l.parts) (drop l.part-index l.parts)))
+    ≡ sooner l.fn.so_far (earliest (intervals l.parts))

@@ -1,0 +1,9 @@
+use Rattle.std.proofs.Common.{arith}
+use Rattle.vega_rules.specs.Unknown.{unknown_by}
+use Rattle.vega_rules.proofs.LoopLemmas.{one_step}
+use Rattle.vega_rules.proofs.uses.sooner_unknown.Goals as goal
+
+pub loop-part-preserved : goal.loop-part-preserved
+loop-part-preserved c = one_step
+    (unknown_by c.args.parts.now) c.args.parts.now c.loop-part.part-index c.loop-part.so_far c.in_ok-so_far.so_far _ c.part-item.result
+    (omega arith) c.part-item.is c.in_ok-so_far.ensures c.loop-part.invariant

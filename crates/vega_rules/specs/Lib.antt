@@ -1,0 +1,13 @@
+pub mod Places
+pub mod Faults
+pub mod Names
+pub mod Twice
+pub mod Resolved
+pub mod Unknown
+pub mod Sized
+pub mod Limits
+pub mod Folds
+pub mod Below
+pub mod Intervals
+pub mod Rules
+pub mod inner
