@@ -1,0 +1,11 @@
+//! Reading and writing Vega specifications: the first fault of a tree in the order of its text, or the one specification that it
+//! says; and a tree that says a specification.
+#![tactic(auto)]
+
+mod faults;
+mod reading;
+mod writing;
+
+pub use faults::first_fault_of;
+pub use reading::read;
+pub use writing::{what_was_written_is_read, write};
