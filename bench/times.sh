@@ -1,5 +1,5 @@
 #!/bin/sh
-# How long parts and boundaries of instants take beside the kit's jiff doing the same, in nanoseconds a call: a part and the start of
+# How long parts and boundaries of instants take beside the kit's jiff doing the same, in nanoseconds a call: each part, and the start of
 # an hour, a day, a month and a year, each from a number of milliseconds to one. And how long 1,000,000 instants take by `yearmonth`.
 # It makes a program in a folder of its own with copies of the crates, and of what was proved of them, proves it, and runs it as LLVM
 # builds it. Run it with `rt` on the path.
@@ -85,14 +85,85 @@ fn milliseconds(at: DateTime) -> Option<i128> {
     Some(i128::from(Offset::UTC.to_timestamp(at).ok()?.as_millisecond()))
 }
 
-fn jiff_part(p: PartOf, ms: i64) -> Option<i128> {
-    let at = datetime(ms)?;
-    Some(match p {
-        PartOf::Year => i128::from(at.year()),
-        PartOf::Month => i128::from(at.month() - 1),
-        PartOf::Hours => i128::from(at.hour()),
-        _ => i128::from(at.day()),
-    })
+// A part as jiff gives it: a type each, so that the code of one has nothing of the others.
+trait JiffPart {
+    fn of(at: DateTime) -> i128;
+}
+
+struct Millisecond;
+
+impl JiffPart for Millisecond {
+    fn of(at: DateTime) -> i128 {
+        i128::from(at.millisecond())
+    }
+}
+
+struct Second;
+
+impl JiffPart for Second {
+    fn of(at: DateTime) -> i128 {
+        i128::from(at.second())
+    }
+}
+
+struct Minute;
+
+impl JiffPart for Minute {
+    fn of(at: DateTime) -> i128 {
+        i128::from(at.minute())
+    }
+}
+
+struct Hour;
+
+impl JiffPart for Hour {
+    fn of(at: DateTime) -> i128 {
+        i128::from(at.hour())
+    }
+}
+
+struct Weekday;
+
+impl JiffPart for Weekday {
+    fn of(at: DateTime) -> i128 {
+        i128::from(at.weekday().to_sunday_zero_offset())
+    }
+}
+
+struct DayOfMonth;
+
+impl JiffPart for DayOfMonth {
+    fn of(at: DateTime) -> i128 {
+        i128::from(at.day())
+    }
+}
+
+struct Month;
+
+impl JiffPart for Month {
+    fn of(at: DateTime) -> i128 {
+        i128::from(at.month() - 1)
+    }
+}
+
+struct Quarter;
+
+impl JiffPart for Quarter {
+    fn of(at: DateTime) -> i128 {
+        i128::from((at.month() - 1) / 3 + 1)
+    }
+}
+
+struct Year;
+
+impl JiffPart for Year {
+    fn of(at: DateTime) -> i128 {
+        i128::from(at.year())
+    }
+}
+
+fn jiff_part<J: JiffPart>(ms: i64) -> Option<i128> {
+    Some(J::of(datetime(ms)?))
 }
 
 fn jiff_start(unit: Unit, ms: i64) -> Option<i128> {
@@ -105,10 +176,10 @@ fn jiff_start(unit: Unit, ms: i64) -> Option<i128> {
     }
 }
 
-fn jiff_parts(turns: u32, p: PartOf) -> i128 {
+fn jiff_parts<J: JiffPart>(turns: u32) -> i128 {
     let mut all = 0;
     for i in 0..turns {
-        if let Some(found) = jiff_part(p, instant(i)) {
+        if let Some(found) = jiff_part::<J>(instant(i)) {
             all ^= found;
         }
     }
@@ -144,12 +215,16 @@ fn tell(rt: &(impl Print + Clock), name: &str, start: Instant, found: i128) -> i
     println!(rt; "{name} {time} ns  ({found})")
 }
 
-fn compare_parts(rt: &(impl Print + Clock), name: &str, p: PartOf) -> io::Result<()> {
+fn compare_parts<J: JiffPart>(
+    rt: &(impl Print + Clock),
+    name: &str,
+    p: PartOf,
+) -> io::Result<()> {
     let start = Instant::now(rt)?;
     let found = parts(TURNS, p);
     tell(rt, name, start, found)?;
     let start = Instant::now(rt)?;
-    let found = jiff_parts(TURNS, p);
+    let found = jiff_parts::<J>(TURNS);
     tell(rt, "  jiff                ", start, found)
 }
 
@@ -166,10 +241,15 @@ fn main(rt: HostRuntime) -> io::Result<()> {
     let start = Instant::now(&rt)?;
     let found = nothing(TURNS);
     tell(&rt, "the numbers alone     ", start, found)?;
-    compare_parts(&rt, "the hour              ", PartOf::Hours)?;
-    compare_parts(&rt, "the date              ", PartOf::Date)?;
-    compare_parts(&rt, "the month             ", PartOf::Month)?;
-    compare_parts(&rt, "the year              ", PartOf::Year)?;
+    compare_parts::<Millisecond>(&rt, "the millisecond       ", PartOf::Milliseconds)?;
+    compare_parts::<Second>(&rt, "the second            ", PartOf::Seconds)?;
+    compare_parts::<Minute>(&rt, "the minute            ", PartOf::Minutes)?;
+    compare_parts::<Hour>(&rt, "the hour              ", PartOf::Hours)?;
+    compare_parts::<Weekday>(&rt, "the day of the week   ", PartOf::Day)?;
+    compare_parts::<DayOfMonth>(&rt, "the date              ", PartOf::Date)?;
+    compare_parts::<Month>(&rt, "the month             ", PartOf::Month)?;
+    compare_parts::<Quarter>(&rt, "the quarter           ", PartOf::Quarter)?;
+    compare_parts::<Year>(&rt, "the year              ", PartOf::Year)?;
     compare_starts(&rt, "the start of the hour ", Unit::Hour)?;
     compare_starts(&rt, "the start of the day  ", Unit::Day)?;
     compare_starts(&rt, "the start of the month", Unit::Month)?;

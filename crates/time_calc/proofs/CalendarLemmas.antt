@@ -1,11 +1,11 @@
 -- Days and dates are counted from each other.
-use Rattle.std.proofs.Common.{◌≡◌, ℕ, zero, suc, ◌+◌, ◌-◌, ◌*◌, ◌/◌, ◌<◌, ◌≤◌, Bool, true, false, ◌&&◌, cond, nat_eq, nat_le, refl, sym, ap, ◌∙◌, arith, ℤ, pos, neg_ℤ, ◌+ℤ◌, ◌-ℤ◌, ◌≤ℤ◌, unsigned_abs, slice_index_or, [], ◌∷◌, inl, inr}
+use Rattle.std.proofs.Common.{◌≡◌, ℕ, zero, suc, ◌+◌, ◌-◌, ◌*◌, ◌/◌, ◌<◌, ◌≤◌, Bool, true, false, cond, nat_eq, nat_le, refl, sym, ap, ◌∙◌, arith, ℤ, pos, neg_ℤ, ◌+ℤ◌, ◌-ℤ◌, ◌≤ℤ◌, unsigned_abs, inl, inr}
 use Rattle.std.proofs.lemmas.Bool.{leb-true, leb-false, le-leb, lt-leb, true≢false, cases_lt, eqb-true, agree_below_at, and_parts, and_from}
 use Rattle.std.proofs.lemmas.Bool.Decides.{nat_tests}
 use Rattle.std.proofs.lemmas.Int.{ints}
 use Rattle.time_calc.specs.declared.calendar.Date.{Date}
 use Rattle.time_calc.specs.Calendar.{is_leap, days_of_month, days_before_year, days_of_months, is_date, day_count, days_before_1970, greatest, year_of_count, month_of_count, date_in_year, date_of_count, date_of_day}
-use Rattle.time_calc.specs.inner.Calendar.{missing_days, skipped_days}
+use Rattle.time_calc.specs.inner.Calendar.{missing_days}
 use Rattle.time_calc.specs.CalendarLaws.{YearsFollow, MonthsMakeTheYear, DateOfItsDay, DaysHaveDates, DayOfItsDate}
 
 -- ---- the greatest number that passes
@@ -49,30 +49,6 @@ greatest_is p n g first passes bounded above =
         | inl lt ↦ absurd (true≢false (sym passes ∙ greatest_above p n g lt bounded))
         | inr le ↦ omega arith
       ]
-    ]
-
--- a number that doesn't pass may be left out, and one that passes is the greatest up to itself
-greatest_step : (p : ℕ → Bool) (n : ℕ) → 1 ≤ n → p n ≡ false → greatest p (n - 1) ≡ greatest p n
-unfolding greatest
-greatest_step p zero h e = absurd (omega (arith, h))
-greatest_step p (suc n) h e =
-    let back : suc n - 1 ≡ n = omega arith in ap (greatest p) back ∙ ap (λ b. cond b (suc n) (greatest p n)) (sym e)
-
-greatest_at : (p : ℕ → Bool) (n : ℕ) → p n ≡ true → greatest p n ≡ n
-unfolding greatest
-greatest_at p zero e = refl
-greatest_at p (suc n) e = ap (λ b. cond b (suc n) (greatest p n)) e
-
--- numbers that don't pass may be left out
-pub greatest_skips : (p : ℕ → Bool) (g n : ℕ) → g ≤ n → ((k : ℕ) → g < k → k ≤ n → p k ≡ false) → greatest p g ≡ greatest p n
-greatest_skips p g zero h none = let same : g ≡ 0 = omega (arith, h) in ap (greatest p) same
-greatest_skips p g (suc n) h none =
-    elim (cases_lt g (suc n)) as (λ w. greatest p g ≡ greatest p (suc n)) [
-      | inl lt ↦
-          let back : suc n - 1 ≡ n = omega arith in
-          greatest_skips p g n (omega (arith, lt)) (λ k over upto. none k over (omega (arith, upto)))
-          ∙ ap (greatest p) (sym back) ∙ greatest_step p (suc n) (omega arith) (none (suc n) lt (omega arith))
-      | inr ge ↦ let same : g ≡ suc n = omega (arith, h, ge) in ap (greatest p) same
     ]
 
 -- ---- years
@@ -260,60 +236,3 @@ days_have_dates day h = date_of_parts (date_of_day day) (count_has_date (unsigne
 pub day_of_its_date : DayOfItsDate
 day_of_its_date day h =
     ap (λ n. pos n -ℤ pos days_before_1970) (count_of_its_date (unsigned_abs (day +ℤ pos days_before_1970))) ∙ forth_and_back day days_before_1970 h
-
--- ---- steps of the loop that looks for a year
-
-pub earlier_year : (count year : ℕ) → count < days_before_year year → (1 ≤ year) × (greatest (λ y. nat_le (days_before_year y) count) (year - 1) ≡ greatest (λ y. nat_le (days_before_year y) count) year)
-earlier_year count year h =
-    let some : 1 ≤ year =
-    elim (cases_lt year 1) as (λ w. 1 ≤ year)
-    [ inl lt ↦ let same : year ≡ 0 = omega arith in absurd (omega (arith, h, leb-true _ _ (no_years count), ap days_before_year same)) | inr ge ↦ ge ] in
-    (some, greatest_step (λ y. nat_le (days_before_year y) count) year some (lt-leb _ _ h))
-
-pub this_year : (count year : ℕ) → days_before_year year ≤ count → greatest (λ y. nat_le (days_before_year y) count) year ≡ year
-this_year count year h = greatest_at (λ y. nat_le (days_before_year y) count) year (le-leb _ _ h)
-
--- the loop begins with a year after which none has begun
-pub first_year_tried : (count : ℕ) → ((count + 1) * 400 / 146097 ≤ count / 365)
-    × (greatest (λ y. nat_le (days_before_year y) count) ((count + 1) * 400 / 146097) ≡ greatest (λ y. nat_le (days_before_year y) count) (count / 365))
-unfolding days_before_year
-first_year_tried count =
-    let upto : (count + 1) * 400 / 146097 ≤ count / 365 = omega arith in
-    (upto, greatest_skips (λ y. nat_le (days_before_year y) count) ((count + 1) * 400 / 146097) (count / 365) upto (λ k over below. lt-leb _ _ (omega (arith, over))))
-
--- the month of each day of a year by such a formula
-where_leap : (count q : ℕ) → q ≡ (12 * (count + skipped_days true count) + 6) / 367 → count < 366 →
-    (q ≤ 11) × ((367 * q + 5) / 12 - missing_days true q ≤ count) × (count < (367 * (q + 1) + 5) / 12 - missing_days true (q + 1))
-where_leap count q is h = (grind (arith, nat_tests), grind (arith, nat_tests), grind (arith, nat_tests))
-
-where_common : (count q : ℕ) → q ≡ (12 * (count + skipped_days false count) + 6) / 367 → count < 365 →
-    (q ≤ 11) × ((367 * q + 5) / 12 - missing_days false q ≤ count) × (count < (367 * (q + 1) + 5) / 12 - missing_days false (q + 1))
-where_common count q is h = (grind (arith, nat_tests), grind (arith, nat_tests), grind (arith, nat_tests))
-
-month_there : (leap : Bool) (count q : ℕ) → (q ≤ 11) × ((367 * q + 5) / 12 - missing_days leap q ≤ count) × (count < (367 * (q + 1) + 5) / 12 - missing_days leap (q + 1)) → q + 1 ≡ month_of_count leap count
-month_there leap count q (below, from, upto) =
-    let starts = months_by_formula leap q (omega (arith, below)) in
-    let ends = months_by_formula leap (q + 1) (omega (arith, below)) in
-    let back : q + 1 - 1 ≡ q = omega arith in
-    let same : days_of_months leap (q + 1 - 1) ≡ days_of_months leap q = ap (days_of_months leap) back in
-    sym (month_is leap (q + 1) count (omega (arith, below)) (omega (arith, same, starts, from)) (omega (arith, ends, upto)))
-
-pub month_by_formula : (leap : Bool) (count : ℕ) → count < days_of_months leap 12 → (12 * (count + skipped_days leap count) + 6) / 367 + 1 ≡ month_of_count leap count
-unfolding days_of_months
-month_by_formula true count h = month_there true count _ (where_leap count _ refl h)
-month_by_formula false count h = month_there false count _ (where_common count _ refl h)
-
--- the rest of the days before a day, without those of the years before its year
-pub rest_is_inside : (count y : ℕ) (leap : Bool) → y ≡ year_of_count count → leap ≡ is_leap y → (count - days_before_year y < days_of_months leap 12) × (count - days_before_year y ≤ 365)
-rest_is_inside count y leap is same =
-    let ends = year_ends count in
-    let next : days_before_year (y + 1) ≡ days_before_year (year_of_count count + 1) = ap (λ y. days_before_year (y + 1)) is in
-    let follow = years_follow y in let make = months_make_the_year y in let starts = year_starts count in
-    let here : days_before_year y ≡ days_before_year (year_of_count count) = ap days_before_year is in
-    let months : days_of_months leap 12 ≡ days_of_months (is_leap y) 12 = ap (λ l. days_of_months l 12) same in
-    let few = at_most_366 (is_leap y) in
-    (omega (arith, ends, next, follow, make, months, starts, here), omega (arith, ends, next, follow, make, few, starts, here))
-  where
-    at_most_366 : (leap : Bool) → days_of_months leap 12 ≤ 366
-    at_most_366 true = omega (arith, months_by_formula true 12 (omega arith))
-    at_most_366 false = omega (arith, months_by_formula false 12 (omega arith))

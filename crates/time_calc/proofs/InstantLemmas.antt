@@ -75,8 +75,3 @@ days_have_times day t h =
     let both = one_day day (int_div_euclid i (pos 86400000)) (since_midnight t) n within (rest_below i) (day_and_rest i) in
     let back = parts_back t.hours t.minutes t.seconds t.milliseconds shown.minutes shown.seconds shown.milliseconds n both.1 in
     record { on_day = both.0; at_time = same_time t (n / 3600000) (n / 60000 % 60) (n / 1000 % 60) (n % 1000) back.0 back.1 back.2 back.3 }
-
--- a million is 64 times 15625
-pub million_by_parts : (z : ℤ) → int_div_euclid (int_div_euclid z (pos 64)) (pos 15625) ≡ int_div_euclid z (pos 1000000)
-million_by_parts (pos n) = let e : n / 64 / 15625 ≡ n / 1000000 = omega arith in ap pos e
-million_by_parts (negsuc n) = let e : n / 64 / 15625 ≡ n / 1000000 = omega arith in ap negsuc e

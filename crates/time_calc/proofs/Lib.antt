@@ -9,5 +9,6 @@ pub mod DatetimeLemmas
 pub mod FormLemmas
 pub mod InstantLemmas
 pub mod LabelLemmas
+pub mod MarchLemmas
 pub mod TimeUnitEnds
 pub mod TimeUnitLemmas

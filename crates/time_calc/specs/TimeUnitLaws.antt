@@ -11,5 +11,9 @@ pub record IsWhole (rule : UnitRule) (instant : ℤ) : Type 0 where
   pub high : start_of rule.kept instant ≤ℤ last_instant
   pub ends : (end : ℤ) × (ends_of rule instant ≡ Some (start_of rule.kept instant, end)) × IsFirstBoundary rule.smallest 1 (start_of rule.kept instant) end
 
+-- a time unit is so at each instant in range
+abbrev pub IsWholeInRange : UnitRule → Type 0
+IsWholeInRange rule = (instant : ℤ) → first_instant ≤ℤ instant → instant ≤ℤ last_instant → IsWhole rule instant
+
 abbrev pub TimeUnitsAreWhole : Type 0
-TimeUnitsAreWhole = (code : ℕ) (rule : UnitRule) → unit_rule code ≡ Some rule → (instant : ℤ) → first_instant ≤ℤ instant → instant ≤ℤ last_instant → IsWhole rule instant
+TimeUnitsAreWhole = (code : ℕ) (rule : UnitRule) → unit_rule code ≡ Some rule → IsWholeInRange rule

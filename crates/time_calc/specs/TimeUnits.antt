@@ -88,7 +88,10 @@ by_month : ends_of (record { kept = part.Month ∷ []; smallest = unit.Month; la
 unfolding start_of next_boundary day_of_instant time_of_instant weekday_of day_count date_of_count greatest days_before_year days_of_months
 by_month = refl
 
-by_yearmonth : ends_of (record { kept = part.Year ∷ part.Month ∷ []; smallest = unit.Month; label = [] }) leap_day_at_13 ≡ Some (pos 1706745600000, pos 1709251200000)
+abbrev yearmonth : UnitRule
+yearmonth = record { kept = part.Year ∷ part.Month ∷ []; smallest = unit.Month; label = [] }
+
+by_yearmonth : ends_of yearmonth leap_day_at_13 ≡ Some (pos 1706745600000, pos 1709251200000)
 unfolding start_of next_boundary day_of_instant time_of_instant weekday_of day_count date_of_count greatest days_before_year days_of_months
 by_yearmonth = refl
 

@@ -11,7 +11,9 @@ use crate::calendar::{
     DAYS_BEFORE_1970, Date, date_of_day, days_before_year, days_of_month, days_of_months, is_leap,
     weekday_of,
 };
-use crate::instants::{FIRST_INSTANT, LAST_INSTANT, day_of_instant, instant_at, number_of};
+use crate::instants::{
+    FIRST_INSTANT, LAST_INSTANT, day_of_instant, instant_at, number_of, rest_of_day,
+};
 use case_table::Unit;
 use fixed_num::Num;
 
@@ -115,8 +117,8 @@ fn boundary_of_clock(side: Side, unit: Unit, n: u32, instant: i64) -> i64
     requires last { instant ≤ℤ last_instant }
     ensures { result ≡ boundary_of_clock side unit n instant }
 {
-    let m = instant.rem_euclid(86_400_000) as u32;
-    day_of_instant(instant) * 86_400_000 + i64::from(boundary_in_day(side, unit, n, m))
+    let boundary = boundary_in_day(side, unit, n, rest_of_day(instant));
+    day_of_instant(instant) * 86_400_000 + i64::from(boundary)
 }
 
 /// The boundary of days, months, quarters or years before or after an instant.

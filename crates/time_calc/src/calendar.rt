@@ -1,7 +1,7 @@
 //! The proleptic Gregorian calendar.
-ghost use Rattle.std.specs.Prelude.{◌≡◌, ◌*◌, ◌/◌, ◌&&◌, nat_le, if◌then◌else◌, ◌≤◌, ◌<◌, ◌-◌, ◌+ℤ◌, ◌<ℤ◌, ◌≤ℤ◌, ℤ, pos, negsuc, neg_ℤ, IsTrue};
-ghost use Rattle.time_calc.specs.inner.Calendar.{missing_days, skipped_days};
-ghost use Rattle.time_calc.specs.Calendar.{is_leap, days_of_month, days_before_year, days_of_months, is_date, day_count, day_of_date, year_of_count, month_of_count, date_of_count, date_of_day, weekday_of};
+ghost use Rattle.std.specs.Prelude.{◌≡◌, ◌+◌, ◌*◌, ◌/◌, ◌&&◌, nat_le, if◌then◌else◌, ◌≤◌, ◌<◌, ◌-◌, ◌+ℤ◌, ◌<ℤ◌, ◌≤ℤ◌, ℤ, pos, negsuc, neg_ℤ, IsTrue};
+ghost use Rattle.time_calc.specs.inner.Calendar.{missing_days, days_before_march, days_from_march};
+ghost use Rattle.time_calc.specs.Calendar.{is_leap, days_of_month, days_before_year, days_of_months, is_date, day_count, day_of_date, date_of_count, date_of_day, weekday_of};
 
 /// A date: the year, the month from 1 to 12, and the day of the month from 1.
 #[derive(Clone, Copy, Debug)]
@@ -18,7 +18,11 @@ pub(crate) const DAYS_BEFORE_1970: i64 = 719_528;
 pub(crate) fn is_leap(year: u32) -> bool
     ensures { result ≡ is_leap year }
 {
-    year % 4 == 0 && (year % 100 != 0 || year % 400 == 0)
+    if year % 100 == 0 {
+        year % 400 == 0
+    } else {
+        year % 4 == 0
+    }
 }
 
 /// The number of days of a month, counted from 1.
@@ -39,7 +43,8 @@ pub(crate) fn days_before_year(year: u32) -> u32
     ensures value { result ≡ days_before_year year }
     ensures bound { result ≤ 366 * year }
 {
-    365 * year + ((year + 3) / 4 - (year + 99) / 100 + (year + 399) / 400)
+    let centuries = (year + 99) / 100;
+    365 * year + ((year + 3) / 4 - centuries + (centuries + 3) / 4)
 }
 
 /// How many days so many months from January on lack, where February had 30 days.
@@ -91,66 +96,78 @@ pub(crate) fn day_of_date(date: Date) -> i64
     i64::from(days) - DAYS_BEFORE_1970
 }
 
-/// The year of a day counted from 1 January of the year 0.
-#[tactic(auto, unfolding(crate::specs::Calendar::greatest))]
-fn year_of_count(count: u32) -> u32
+/// A day by years that begin in March, so that the leap day is the last of its year: such a year, and the day counted from its
+/// 1 March.
+#[derive(Clone, Copy, Debug)]
+struct MarchDay {
+    year: u32,
+    day: u32,
+}
+
+/// The day so many days after 1 March of the year 0, by years that begin in March.
+fn march_day(count: u32) -> MarchDay
     requires { count ≤ 3_652_424 }
-    ensures value { result ≡ year_of_count count }
-    ensures bound { result ≤ count / 365 }
-    ensures started { days_before_year result ≤ count }
+    ensures begun { days_before_march result.year + result.day ≡ count }
+    ensures not_over { count < days_before_march (result.year + 1) }
+    ensures year { result.year ≤ 9_999 }
+    ensures day { result.day ≤ 365 }
 {
-    let mut year = (count + 1) * 400 / 146_097;
-    while days_before_year(year) > count {
-        year -= 1;
-    }
-    year
-}
-
-/// The days by which a day of a year would come later, where February had 30 days.
-fn skipped_days(leap: bool, count: u32) -> u32
-    ensures value { result ≡ skipped_days leap count }
-    ensures bound { result ≤ 2 }
-{
-    if leap {
-        if count < 60 { 0 } else { 1 }
-    } else if count < 59 {
-        0
-    } else {
-        2
+    // in quarters of a day, of which a century has 146,097 on average, and a year of it 1461
+    let quarters = 4 * count + 3;
+    let century = quarters / 146_097;
+    let quarters = quarters % 146_097 / 4 * 4 + 3;
+    MarchDay {
+        year: 100 * century + quarters / 1461,
+        day: quarters % 1461 / 4,
     }
 }
 
-/// The month of a day counted from 1 January of its year.
-#[tactic(auto, using(crate::proofs::CalendarLemmas::month_by_formula))]
-fn month_of_count(leap: bool, count: u32) -> u32
-    requires inside { count < days_of_months leap 12 }
-    requires small { count ≤ 365 }
-    ensures value { result ≡ month_of_count leap count }
-    ensures low { 1 ≤ result }
-    ensures high { result ≤ 12 }
-    ensures started { days_of_months leap (result - 1) ≤ count }
+/// How many days so many months have from March on.
+fn days_from_march(months: u32) -> u32
+    requires { months ≤ 12 }
+    ensures { result ≡ days_from_march months }
 {
-    (12 * (count + skipped_days(leap, count)) + 6) / 367 + 1
+    (153 * months + 2) / 5
+}
+
+/// How many months have gone by before a day counted from 1 March.
+fn months_from_march(day: u32) -> u32
+    requires { day ≤ 365 }
+    ensures begun { days_from_march result ≤ day }
+    ensures not_over { day < days_from_march (result + 1) }
+    ensures bound { result ≤ 11 }
+{
+    (5 * day + 2) / 153
 }
 
 /// The date of a day counted from 1 January of the year 0.
-#[tactic(auto, unfolding(crate::specs::Calendar::date_of_count))]
 fn date_of_count(count: u32) -> Date
-    requires { count ≤ 3_652_424 }
+    requires from_year_1 { 366 ≤ count }
+    requires to_year_9999 { count ≤ 3_652_424 }
     ensures value { result ≡ date_of_count count }
     ensures month { 1 ≤ result.month }
 {
-    let year = year_of_count(count);
-    let leap = is_leap(year);
-    let count = count - days_before_year(year);
-    let month = month_of_count(leap, count);
-    let day = count - days_of_months(leap, month - 1) + 1;
-    Date { year, month, day }
+    let march = march_day(count - 60);
+    let months = months_from_march(march.day);
+    let day = march.day - days_from_march(months) + 1;
+    if march.day < 306 {
+        Date {
+            year: march.year,
+            month: months + 3,
+            day,
+        }
+    } else {
+        Date {
+            year: march.year + 1,
+            month: months - 9,
+            day,
+        }
+    }
 }
 
 /// The date of a day, counted from 1 January 1970.
 pub(crate) fn date_of_day(day: i64) -> Date
-    requires from_year_0 { neg_ℤ (pos 719_528) ≤ℤ day }
+    requires from_year_1 { neg_ℤ (pos 719_162) ≤ℤ day }
     requires to_year_9999 { day ≤ℤ pos 2_932_896 }
     ensures value { result ≡ date_of_day day }
     ensures month { 1 ≤ result.month }
@@ -161,9 +178,11 @@ pub(crate) fn date_of_day(day: i64) -> Date
 /// The day of the week, Sunday 0 and Saturday 6.
 #[tactic(auto, unfolding(crate::specs::Calendar::weekday_of))]
 pub(crate) fn weekday_of(day: i64) -> u32
-    requires { day ≤ℤ pos 2_932_896 }
+    requires from_year_0 { neg_ℤ (pos 719_528) ≤ℤ day }
+    requires to_year_9999 { day ≤ℤ pos 2_932_896 }
     ensures value { result ≡ weekday_of day }
     ensures bound { result ≤ 6 }
 {
-    (day + 4).rem_euclid(7) as u32
+    // 1 January of the year 0 is a Saturday
+    (day + DAYS_BEFORE_1970 + 6) as u32 % 7
 }

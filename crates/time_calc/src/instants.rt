@@ -1,6 +1,7 @@
 //! Instants: whole milliseconds since 1970-01-01T00:00Z.
 ghost use Rattle.std.specs.Prelude.{◌≡◌, ◌≤◌, ◌<◌, ◌≤ℤ◌, ◌*ℤ◌, ◌+ℤ◌, ℤ, pos, neg_ℤ, unsigned_abs, Some, IfSome, IsTrue};
-ghost use Rattle.time_calc.specs.Instants.{instant_number, is_in_range, instant_in_range, instant_at, since_midnight, is_time, day_of_instant, time_of_instant, first_instant, last_instant};
+ghost use Rattle.std.specs.Int.{int_rem_euclid};
+ghost use Rattle.time_calc.specs.Instants.{day_length, instant_number, is_in_range, instant_in_range, instant_at, since_midnight, is_time, day_of_instant, time_of_instant, first_instant, last_instant};
 
 use fixed_num::Num;
 
@@ -24,6 +25,9 @@ pub(crate) const FIRST_INSTANT: i64 = -62_135_596_800_000;
 
 /// 9998-12-31T23:59:59.999Z.
 pub(crate) const LAST_INSTANT: i64 = 253_370_764_799_999;
+
+/// The days from the first instant to 1 January 1970.
+const DAYS_FROM_FIRST: i64 = 719_162;
 
 /// The number of an instant; None exactly where it is out of range.
 pub(crate) fn instant_in_range(instant: i128) -> Option<Num>
@@ -57,7 +61,18 @@ pub(crate) fn instant_at(number: Num) -> Option<i64>
     {
         return None;
     }
-    Some((millionths.div_euclid(64) as i64).div_euclid(15_625))
+    // a million is 64 * 15,625, and the quotient by 64 fits into 64 bits
+    let past_first = (millionths - i128::from(FIRST_INSTANT) * MILLION) as u128;
+    Some(((past_first / 64) as u64 / 15_625) as i64 + FIRST_INSTANT)
+}
+
+/// The milliseconds of an instant since the first one, which begins a day.
+fn since_first(instant: i64) -> u64
+    requires first { first_instant ≤ℤ instant }
+    requires last { instant ≤ℤ last_instant }
+    ensures { (first_instant +ℤ pos result) ≡ instant }
+{
+    (instant - FIRST_INSTANT) as u64
 }
 
 /// The day of an instant, counted from 1 January 1970.
@@ -69,15 +84,27 @@ pub(crate) fn day_of_instant(instant: i64) -> i64
     ensures low { neg_ℤ (pos 719_162) ≤ℤ result }
     ensures high { result ≤ℤ pos 2_932_531 }
 {
-    instant.div_euclid(86_400_000)
+    (since_first(instant) / 86_400_000) as i64 - DAYS_FROM_FIRST
+}
+
+/// The milliseconds of an instant since its midnight.
+pub(crate) fn rest_of_day(instant: i64) -> u32
+    requires first { first_instant ≤ℤ instant }
+    requires last { instant ≤ℤ last_instant }
+    ensures value { result ≡ unsigned_abs (int_rem_euclid instant (pos day_length)) }
+    ensures bound { result < day_length }
+{
+    (since_first(instant) % 86_400_000) as u32
 }
 
 /// The time of day of an instant.
 #[tactic(auto, unfolding(crate::specs::Instants::time_of_instant))]
 pub(crate) fn time_of_instant(instant: i64) -> TimeOfDay
+    requires first { first_instant ≤ℤ instant }
+    requires last { instant ≤ℤ last_instant }
     ensures { result ≡ time_of_instant instant }
 {
-    let milliseconds = instant.rem_euclid(86_400_000) as u32;
+    let milliseconds = rest_of_day(instant);
     TimeOfDay {
         hours: milliseconds / 3_600_000,
         minutes: milliseconds / 60_000 % 60,

@@ -84,6 +84,8 @@ fn start_day(kept: &[PartOf], instant: i64) -> i64
 
 /// The milliseconds since midnight at which a time unit begins.
 fn start_time(kept: &[PartOf], instant: i64) -> u32
+    requires first { first_instant ≤ℤ instant }
+    requires last { instant ≤ℤ last_instant }
     ensures value { result ≡ start_time kept.now instant }
     ensures bound { result ≤ 86_399_999 }
 {
