@@ -1,0 +1,6 @@
+mod ShareLemmas
+mod BetweenLemmas
+mod LineLemmas
+mod BandLemmas
+mod IndexLemmas
+mod FarLemmas

@@ -1,0 +1,13 @@
+pub mod StepLemmas
+pub mod RangeLemmas
+pub mod StepLawLemmas
+pub mod TickLemmas
+pub mod AllLemmas
+pub mod MultipleLemmas
+pub mod LabelLemmas
+pub mod IntervalLemmas
+pub mod PartLemmas
+pub mod TimeTickLemmas
+pub mod TimeLabelLemmas
+pub mod BoundaryLemmas
+pub mod WideningLemmas

@@ -1,0 +1,9 @@
+pub mod Domains
+pub mod Steps
+pub mod StepLaws
+pub mod Ticks
+pub mod Labels
+pub mod Intervals
+pub mod inner
+pub mod TimeTicks
+pub mod TimeLabels
