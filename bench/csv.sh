@@ -20,7 +20,7 @@ fixed_num: itoa
 case_table:
 json_exact: text_kit fixed_num
 cell_value: text_kit fixed_num
-time_calc: fixed_num case_table
+time_calc: text_kit fixed_num case_table
 data_rows: text_kit fixed_num case_table json_exact cell_value time_calc csv
 bench_csv: text_kit cell_value data_rows csv
 EOF

@@ -2,3 +2,6 @@ mod KindLemmas
 mod RecordLemmas
 mod FieldLemmas
 mod StepLemmas
+mod JsonLemmas
+mod HeaderLemmas
+mod FillLemmas

@@ -1,83 +1,19 @@
 -- How rows of CSV go on, field by field and record by record.
-use Rattle.std.proofs.Common.{◌≡◌, ℕ, suc, ◌+◌, ◌<◌, Bool, true, false, ◌&&◌, Option, Some, None, Result, Ok, Err, List, [], ◌∷◌, ◌++◌, drop, length, map, get_or, slice_get, nat_eq, refl, sym, ap, ◌∙◌, add-one, append_assoc, if◌then◌else◌}
+use Rattle.std.proofs.Common.{◌≡◌, ℕ, suc, ◌+◌, Bool, true, false, ◌&&◌, Result, Ok, Err, List, [], ◌∷◌, ◌++◌, length, map, nat_eq, refl, sym, ap, ◌∙◌, add-one, append_assoc, if◌then◌else◌}
 use Rattle.std.specs.Prelude.{IsErrOf}
 use Rattle.std.specs.List.{list_all}
-use Rattle.std.specs.Str.{is_utf8, bytes_eq}
+use Rattle.std.specs.Str.{is_utf8}
 use Rattle.std.specs.Result.{result_map_both}
-use Rattle.std.proofs.lemmas.List.{drop_more}
-use Rattle.cell_value.specs.declared.cell.Cell.{Cell}
-use Rattle.cell_value.specs.Datum.{id_name}
 use Rattle.cell_value.specs.Row.{row_of}
 use Rattle.data_rows.specs.declared.error.RowError.{RowError}
 use Rattle.data_rows.specs.declared.error.RowError.TheVariants.{Fault, Memory}
 use Rattle.data_rows.specs.declared.kinds.ParseKind.{ParseKind}
 use Rattle.data_rows.specs.declared.records.RecordError.{RecordError}
 use Rattle.data_rows.specs.declared.records.RecordError.TheVariants as cause
-use Rattle.data_rows.specs.Outcome.{Bad, RowRead, GivesRows, all_rows, after_row, numbered}
-use Rattle.data_rows.specs.Parse.{kind_of}
-use Rattle.data_rows.specs.CsvRows.{Column, with_field, all_fields, cells_under, columns_of, field_cell, record_row, rows_of_records}
-use Rattle.data_rows.specs.inner.Ahead.{rows_then, cells_then, cell_or_bad, stopped}
+use Rattle.data_rows.specs.Outcome.{Bad, GivesRows, all_rows, after_row, numbered}
+use Rattle.data_rows.specs.CsvRows.{Column, all_fields, cells_under, columns_of, record_row, rows_of_records}
+use Rattle.data_rows.specs.inner.Ahead.{rows_then, stopped}
 use Rattle.data_rows.specs.inner.Records.{IsNoText}
-use Rattle.data_rows.proofs.FieldLemmas.{from_place}
-
--- one column more
-pub one_column : (parse : List (List ℕ × ParseKind)) (names : List (List ℕ)) (i : ℕ) (name : List ℕ) (columns whole : List Column)
-    → slice_get names i ≡ Some name → columns ++ columns_of parse (drop i names) ≡ whole
-    → (columns ++ (name, kind_of parse name) ∷ []) ++ columns_of parse (drop (i + 1) names) ≡ whole
-one_column parse names i name columns whole e h =
-    append_assoc columns ((name, kind_of parse name) ∷ []) (columns_of parse (drop (i + 1) names))
-    ∙ ap (λ l. columns ++ columns_of parse l) (sym (from_place names i name e)) ∙ h
-
-before : (name : List ℕ) (c : Cell) (cells : List (List ℕ × Cell)) (b : Bool) (others : List (List ℕ × Cell))
-    → cells ++ (if b then others else (name, c) ∷ others) ≡ (cells ++ (if b then [] else (name, c) ∷ [])) ++ others
-before name c cells true others = sym (append_assoc cells [] others)
-before name c cells false others = sym (append_assoc cells ((name, c) ∷ []) others)
-
-moved : (name : List ℕ) (c : Cell) (cells : List (List ℕ × Cell)) (r : Result (List (List ℕ × Cell)) (List ℕ))
-    → cells_then cells (result_map_both (with_field name c) (λ bad. bad) r) ≡ cells_then (cells ++ with_field name c []) r
-moved name c cells (Ok others) = ap Ok (before name c cells (bytes_eq name id_name) others)
-moved name c cells (Err bad) = refl
-
-has_cell : (n : ℕ) (name : List ℕ) (o : Option Cell) (c : Cell) → cell_or_bad n name o ≡ Ok c → o ≡ Some c
-has_cell n name (Some d) c e = cc
-has_cell n name None c e = absurd cc
-
-at_column : (columns : List Column) (fields : List (List ℕ)) (i : ℕ) (column : Column) (field : List ℕ)
-    → i < length columns → column ≡ get_or columns i column → slice_get fields i ≡ Some field
-    → cells_under (drop i columns) (drop i fields) ≡ (column.0, field_cell column.1 field) ∷ cells_under (drop (i + 1) columns) (drop (i + 1) fields)
-at_column columns fields i column field lt at e =
-    ap (λ cs. cells_under cs (drop i fields)) (drop_more columns i column lt ∙ ap (λ c. c ∷ drop (i + 1) columns) (sym at))
-    ∙ ap (cells_under (column ∷ drop (i + 1) columns)) (from_place fields i field e)
-
--- one cell more
-pub one_cell : (columns : List Column) (fields : List (List ℕ)) (i n : ℕ) (column : Column) (field : List ℕ) (cells : List (List ℕ × Cell)) (c : Cell)
-    (whole : Result (List (List ℕ × Cell)) (List ℕ))
-    → i < length columns → column ≡ get_or columns i column → slice_get fields i ≡ Some field
-    → cell_or_bad n column.0 (field_cell column.1 field) ≡ Ok c
-    → cells_then cells (all_fields (cells_under (drop i columns) (drop i fields))) ≡ whole
-    → cells_then (cells ++ with_field column.0 c []) (all_fields (cells_under (drop (i + 1) columns) (drop (i + 1) fields))) ≡ whole
-one_cell columns fields i n column field cells c whole lt at e is h =
-    sym (moved column.0 c cells (all_fields (cells_under (drop (i + 1) columns) (drop (i + 1) fields))))
-    ∙ ap (λ o. cells_then cells (all_fields ((column.0, o) ∷ cells_under (drop (i + 1) columns) (drop (i + 1) fields)))) (sym (has_cell n column.0 (field_cell column.1 field) c is))
-    ∙ ap (λ l. cells_then cells (all_fields l)) (sym (at_column columns fields i column field lt at e)) ∙ h
-
-lacks_cell : (n : ℕ) (name : List ℕ) (o : Option Cell) (whole : Result (List (List ℕ × Cell)) (List ℕ)) (error : RowError)
-    → GivesRows {X = Cell} (Err error) (cell_or_bad n name o) → (o ≡ None → whole ≡ Err name) → GivesRows {X = List (List ℕ × Cell)} (Err error) (numbered n whole)
-lacks_cell n name o whole Memory h f = tt
-lacks_cell n name None whole (Fault row field) h f = ap (numbered n) (f refl) ∙ cc
-lacks_cell n name (Some c) whole (Fault row field) h f = absurd cc
-
--- a cell that is lacking
-pub no_cell : (columns : List Column) (fields : List (List ℕ)) (i n : ℕ) (column : Column) (field : List ℕ) (cells : List (List ℕ × Cell)) (error : RowError)
-    (whole : Result (List (List ℕ × Cell)) (List ℕ))
-    → i < length columns → column ≡ get_or columns i column → slice_get fields i ≡ Some field
-    → GivesRows {X = Cell} (Err error) (cell_or_bad n column.0 (field_cell column.1 field))
-    → cells_then cells (all_fields (cells_under (drop i columns) (drop i fields))) ≡ whole
-    → GivesRows {X = List (List ℕ × Cell)} (Err error) (numbered n whole)
-no_cell columns fields i n column field cells error whole lt at e is h =
-    lacks_cell n column.0 (field_cell column.1 field) whole error is (λ none.
-    sym h ∙ ap (λ l. cells_then cells (all_fields l)) (at_column columns fields i column field lt at e)
-    ∙ ap (λ o. cells_then cells (all_fields ((column.0, o) ∷ cells_under (drop (i + 1) columns) (drop (i + 1) fields)))) none)
 
 module _ {X Y : Type 0} (f : X → Result Y (List ℕ)) where
   first_is : (n : ℕ) (x : X) (xs : List X) (row : Y) (r : Result Y (List ℕ)) → f x ≡ r → numbered n r ≡ Ok row

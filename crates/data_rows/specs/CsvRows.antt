@@ -8,7 +8,7 @@ use Rattle.std.specs.Fmt.{digits}
 use Rattle.csv.specs.Machine.{next_record}
 use Rattle.csv.specs.Reading.{records, records_from, default_config, strip_bom}
 use Rattle.fixed_num.specs.Number.{rounded, floor_quotient}
-use Rattle.fixed_num.specs.JsonNumber.{value_of, scaled}
+use Rattle.fixed_num.specs.JsonNumber.{decimal_value, scaled}
 use Rattle.fixed_num.specs.Front.{decimal_at, parts_at, whole_at, fraction_at, exponent_at, signed_at, digits_at, leading_digits, after_digits}
 use Rattle.fixed_num.specs.Decimal.{spelling, size_spelling, fraction_spelling, fraction_digits}
 use Rattle.cell_value.specs.declared.cell.Cell.{Cell}
@@ -75,7 +75,7 @@ rows_of_csv parse bytes = rows_of_records parse (records default_config (strip_b
 two_columns : all_fields (cells_under ((codes "a", None) ∷ (codes "b", Some kind.Boolean) ∷ []) (codes "x" ∷ codes "0" ∷ []))
     ≡ Ok ((codes "a", cell.Text (codes "x")) ∷ (codes "b", cell.Flag false) ∷ [])
 unfolding number_of decimal_at parts_at whole_at fraction_at exponent_at signed_at
-    digits_at leading_digits after_digits value_of scaled rounded floor_quotient spelling size_spelling fraction_spelling fraction_digits digits
+    digits_at leading_digits after_digits decimal_value scaled rounded floor_quotient spelling size_spelling fraction_spelling fraction_digits digits
 two_columns = refl
 
 an_id_is_dropped : all_fields (cells_under ((codes "_vgsid_", None) ∷ []) ([] ∷ [])) ≡ Ok []
@@ -84,7 +84,7 @@ an_id_is_dropped = refl
 the_first_column_out_of_range : all_fields ((codes "a", field_cell None []) ∷ (codes "b", field_cell None (codes "1e16")) ∷ (codes "c", None) ∷ [])
     ≡ Err (codes "b")
 unfolding number_of decimal_at parts_at whole_at fraction_at exponent_at signed_at
-    digits_at leading_digits after_digits value_of scaled rounded floor_quotient
+    digits_at leading_digits after_digits decimal_value scaled rounded floor_quotient
 the_first_column_out_of_range = refl
 
 no_record : rows_of_csv [] (10 ∷ 13 ∷ 10 ∷ []) ≡ Ok []

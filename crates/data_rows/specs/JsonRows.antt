@@ -51,6 +51,16 @@ bad_field_in other = None
 abbrev pub bad_field : Json → Option (List ℕ)
 bad_field tree = bad_field_in (out-Json tree)
 
+-- a bad row, if this is one; else what comes later
+abbrev pub bad_or : ℕ → Option (List ℕ) → Option Bad → Option Bad
+bad_or n (Some field) later = Some (n, field)
+bad_or n None later = later
+
+-- the first row that can't be read, by its number counted from n, with its first such field
+abbrev pub first_bad : ℕ → List Json → Option Bad
+first_bad n [] = None
+first_bad n (tree ∷ trees) = bad_or n (bad_field tree) (first_bad (suc n) trees)
+
 -- each cell parsed as the kind of its name says
 abbrev pub parsed_fields : List (List ℕ × ParseKind) → List (List ℕ × Cell) → List (List ℕ × Cell)
 parsed_fields parse fields = map (λ field. (field.0, parsed_as (kind_of parse field.0) field.1)) fields

@@ -3,7 +3,7 @@ use Rattle.std.specs.Prelude.{◌≡◌, refl, ℕ, not, ◌||◌, ℤ, pos, Opt
 use Rattle.std.specs.Str.{bytes_eq}
 use Rattle.std.specs.Map.{update_all}
 use Rattle.fixed_num.specs.Number.{rounded, floor_quotient}
-use Rattle.fixed_num.specs.JsonNumber.{value_of, scaled}
+use Rattle.fixed_num.specs.JsonNumber.{decimal_value, scaled}
 use Rattle.fixed_num.specs.Front.{Read, decimal_at, parts_at, whole_at, fraction_at, exponent_at, signed_at, digits_at, leading_digits, after_digits}
 use Rattle.fixed_num.specs.Decimal.{spelling, size_spelling, fraction_spelling, fraction_digits}
 use Rattle.std.specs.Fmt.{digits}
@@ -77,7 +77,7 @@ flags_of_texts = refl
 numbers_of_texts : map (text_parsed kind.Number) (codes "1.5" ∷ codes "01" ∷ codes "1e16" ∷ [] ∷ [])
     ≡ cell.Number (pos 1500000) ∷ cell.Null ∷ cell.Null ∷ cell.Null ∷ []
 unfolding number_of decimal_at parts_at whole_at fraction_at exponent_at signed_at
-    digits_at leading_digits after_digits value_of scaled rounded floor_quotient
+    digits_at leading_digits after_digits decimal_value scaled rounded floor_quotient
 numbers_of_texts = refl
 
 a_number_stays : parsed_as (Some kind.Boolean) (cell.Number (pos 0)) ≡ cell.Number (pos 0)

@@ -3,3 +3,4 @@ pub mod Kinds
 pub mod JsonNames
 pub mod Ahead
 pub mod Records
+pub mod Header

@@ -2,7 +2,7 @@
 ghost use Rattle.std.specs.Prelude.{◌≡◌, IfOk};
 ghost use Rattle.cell_value.specs.declared.cell.Cell.TheVariants as cell;
 ghost use Rattle.data_rows.specs.Parse.{number_of, number_or_null, flag_parsed, text_parsed, parsed_as, number_parsed_as};
-ghost use Rattle.data_rows.specs.CsvRows.{field_cell};
+ghost use Rattle.data_rows.specs.inner.Header.{cell_read, text_or_null};
 
 use crate::ParseKind;
 use cell_value::Cell;
@@ -11,9 +11,12 @@ use std::alloc::Global;
 use text_kit::{OutOfMemory, Text};
 use time_calc::read_instant;
 
-// The JSON number that a text is, None within where it is out of range; None where it is none.
+/// What a text is as a number: None where it is none, None within where it is out of range.
+pub(crate) type NumberRead = Option<Option<Num>>;
+
+/// The JSON number that a text is.
 #[tactic(auto, unfolding(crate::specs::Parse::number_of))]
-fn number_of(text: &str) -> Option<Option<Num>>
+pub(crate) fn number_of(text: &str) -> NumberRead
     ensures { result ≡ number_of text.now }
 {
     match Num::read_front(text.as_bytes()) {
@@ -81,20 +84,28 @@ fn number_cell(alloc: Global, kind: Option<ParseKind>, number: Num) -> Result<Ce
     }
 }
 
-/// The cell of a field of CSV, parsed; None where it is a number out of range. An empty field is null.
-pub(crate) fn field_cell(
+// The cell of a field of CSV that is no number: null where it is empty.
+fn text_or_null(alloc: Global, kind: Option<ParseKind>, text: &str) -> Result<Cell, OutOfMemory>
+    ensures { IfOk result (λ cell. cell ≡ text_or_null kind text.now) }
+{
+    if text.is_empty() {
+        return Ok(Cell::Null);
+    }
+    text_cell(alloc, kind, text)
+}
+
+/// The cell of a field of CSV by what it is as a number, parsed; null where it is empty or out of range.
+pub(crate) fn cell_read(
     alloc: Global,
     kind: Option<ParseKind>,
     text: &str,
-) -> Result<Option<Cell>, OutOfMemory>
-    ensures { IfOk result (λ cell. cell ≡ field_cell kind text.now) }
+    number: NumberRead,
+) -> Result<Cell, OutOfMemory>
+    ensures { IfOk result (λ cell. cell ≡ cell_read kind text.now number) }
 {
-    if text.is_empty() {
-        return Ok(Some(Cell::Null));
-    }
-    match number_of(text) {
-        Some(Some(number)) => Ok(Some(number_cell(alloc, kind, number)?)),
-        Some(None) => Ok(None),
-        None => Ok(Some(text_cell(alloc, kind, text)?)),
+    match number {
+        Some(Some(number)) => number_cell(alloc, kind, number),
+        Some(None) => Ok(Cell::Null),
+        None => text_or_null(alloc, kind, text),
     }
 }

@@ -1,27 +1,24 @@
 // Rows that are given as CSV.
-ghost use Rattle.std.specs.Prelude.{◌≡◌, ◌<◌, ◌++◌, [], Some, true, length, map, slice_get, IfOk, OnOk};
+ghost use Rattle.std.specs.Prelude.{◌≡◌, true, length, map, slice_get, unwrap_or, None, [], IfOk, OnOk, option_copied};
 ghost use Rattle.std.specs.List.{list_all};
 ghost use Rattle.std.specs.Str.{is_utf8};
 ghost use Rattle.csv.specs.Records.{fields_of};
-ghost use Rattle.cell_value.specs.Row.{row_of};
 ghost use Rattle.data_rows.specs.Outcome.{GivesRows, all_rows, numbered};
-ghost use Rattle.data_rows.specs.CsvRows.{with_field, all_fields, cells_under, columns_of, field_cell};
+ghost use Rattle.data_rows.specs.Parse.{number_of};
 ghost use Rattle.data_rows.specs.CsvRows.{record_row, rows_of_records, rows_of_csv};
-ghost use Rattle.data_rows.specs.inner.Ahead.{cell_or_bad, stopped};
+ghost use Rattle.data_rows.specs.inner.Ahead.{stopped};
+ghost use Rattle.data_rows.specs.inner.Header.{bad_column, is_out, kept_cell, cells_from};
 ghost use Rattle.data_rows.specs.inner.Records.{left_of, IsReading};
 
-use crate::cells::field_cell;
-use crate::json_rows::ID_NAME;
+use crate::cells::{NumberRead, cell_read, number_of};
+use crate::header::{Column, Header, KeptColumn};
 use crate::kinds::Kinds;
-use crate::records::{RecordError, next_record, records_of};
+use crate::records::{RecordError, field_in, next_record, records_of};
 use crate::{ParseKind, RowError};
 use cell_value::{Cell, Row};
 use csv::{Reader, StringRecord};
 use std::alloc::Global;
 use text_kit::{OutOfMemory, Seq, Text};
-
-// A column: its name, and as what its field is parsed.
-type Column = (Text, Option<ParseKind>);
 
 /// The rows of CSV, of which the texts of some fields are parsed. Its first record is the header, which names the fields of the others;
 /// without one there are no rows. An empty field is null, a JSON number is a number, and any other field a text, before it is parsed; a
@@ -52,8 +49,8 @@ fn rows_of_records(
     let mut record = StringRecord::new(alloc);
     match next_record(reader, &mut record) {
         Ok(true) => {
-            let columns = columns_of(alloc, &record, kinds)?;
-            rows_under(alloc, columns.as_slice(), reader, &mut record)
+            let header = Header::of(alloc, &record, kinds)?;
+            rows_under(alloc, &header, reader, &mut record)
         }
         Ok(false) => Ok(Seq::new(alloc)),
         Err(error) => Err(stop(alloc, 0, error)),
@@ -73,47 +70,21 @@ fn stop(alloc: Global, row: u64, error: RecordError) -> RowError
     }
 }
 
-// The columns of a header.
-fn columns_of(
-    alloc: Global,
-    header: &StringRecord,
-    kinds: &Kinds,
-) -> Result<Seq<Column>, OutOfMemory>
-    ensures { IfOk result (λ columns. columns ≡ columns_of kinds.now.parse.now (fields_of header.now)) }
-{
-    let mut columns = Seq::new(alloc);
-    for i in 0..header.len() {
-        let name = field_in(header, i);
-        columns.push((Text::of(alloc, name)?, kinds.of_field(name)))?;
-    }
-    Ok(columns)
-}
-
-// The field of a record at a place.
-fn field_in(fields: &StringRecord, i: usize) -> &str
-    requires { i < length (fields_of fields.now) }
-    ensures { slice_get (fields_of fields.now) i ≡ Some result.now }
-{
-    match fields.get(i) {
-        Some(field) => field,
-        None => unreachable!(),
-    }
-}
-
 // The rows of the records that are left.
 fn rows_under(
     alloc: Global,
-    columns: &[Column],
+    header: &Header,
     reader: &mut Reader<&[u8]>,
     record: &mut StringRecord,
 ) -> Result<Seq<Row>, RowError>
     requires { IsReading reader.old }
-    ensures { GivesRows result (all_rows 0 (map (record_row columns.now) (left_of reader.old))) }
+    ensures { GivesRows result (all_rows 0 (map (record_row header.now.columns) (left_of reader.old))) }
 {
     let mut rows = Seq::new(alloc);
+    let mut numbers = Seq::new(alloc);
     for number in 0..u64::MAX {
         match next_record(reader, record) {
-            Ok(true) => match record_row(alloc, number, columns, record) {
+            Ok(true) => match record_row(alloc, number, header, record, &mut numbers) {
                 Ok(row) => rows.push(row)?,
                 Err(error) => return Err(error),
             },
@@ -124,84 +95,122 @@ fn rows_under(
     Err(RowError::Memory)
 }
 
-// The row of a record, which has a number.
+// The row of a record, which has a number; `numbers` is room that is used again.
 fn record_row(
     alloc: Global,
     number: u64,
-    columns: &[Column],
+    header: &Header,
     fields: &StringRecord,
+    numbers: &mut Seq<NumberRead>,
 ) -> Result<Row, RowError>
     requires { list_all is_utf8 (fields_of fields.now) ≡ true }
-    ensures { GivesRows result (numbered number (record_row columns.now (fields_of fields.now))) }
+    ensures { GivesRows result (numbered number (record_row header.now.columns (fields_of fields.now))) }
 {
-    if fields.len() != columns.len() {
+    if fields.len() != header.columns.len() {
         return Err(RowError::Fault {
             row: number,
             field: Text::new(alloc),
         });
     }
-    match cells_under(alloc, number, columns, fields) {
-        Ok(cells) => Ok(row_of_cells(alloc, cells)?),
-        Err(error) => Err(error),
-    }
-}
-
-// How many cells are put into a row one after the other, as each may move those behind it; more are sorted.
-const FEW: usize = 32;
-
-// The row of cells: of several under one name the last.
-fn row_of_cells(alloc: Global, cells: Seq<(Text, Cell)>) -> Result<Row, OutOfMemory>
-    ensures { IfOk result (λ row. row ≡ row_of cells) }
-{
-    if cells.len() > FEW {
-        return Row::from_entries(alloc, cells.into_vec());
-    }
-    let mut row = Row::new(alloc);
-    for (name, cell) in cells.into_vec() {
-        row.set(name, cell)?;
-    }
-    Ok(row)
-}
-
-// The cells of a record under the names of their columns.
-fn cells_under(
-    alloc: Global,
-    number: u64,
-    columns: &[Column],
-    fields: &StringRecord,
-) -> Result<Seq<(Text, Cell)>, RowError>
-    requires { length (fields_of fields.now) ≡ length columns.now }
-    ensures { GivesRows result (numbered number (all_fields (cells_under columns.now (fields_of fields.now)))) }
-{
-    let mut cells = Seq::with_capacity(alloc, columns.len())?;
-    for (i, column) in columns.iter().enumerate() {
-        match column_cell(alloc, number, column, field_in(fields, i)) {
-            Ok(cell) => push_cell(&mut cells, &column.0, cell)?,
-            Err(error) => return Err(error),
-        }
-    }
-    Ok(cells)
-}
-
-// The cell of a field in its column.
-fn column_cell(alloc: Global, number: u64, column: &Column, field: &str) -> Result<Cell, RowError>
-    ensures { GivesRows result (cell_or_bad number column.now.0 (field_cell column.now.1 field.now)) }
-{
-    match field_cell(alloc, column.1, field)? {
-        Some(cell) => Ok(cell),
-        None => Err(RowError::Fault {
+    read_numbers(fields, numbers)?;
+    match bad_column(header.columns.as_slice(), numbers.as_slice()) {
+        Some(name) => Err(RowError::Fault {
             row: number,
-            field: column.0.copy()?,
+            field: Text::of(alloc, name)?,
         }),
+        None => Ok(Row::from_sorted(cells_from(
+            alloc,
+            header.kept.as_slice(),
+            numbers.as_slice(),
+            fields,
+        )?)),
     }
 }
 
-// Adds a cell under its name, unless every row has its id there.
-fn push_cell(cells: &mut Seq<(Text, Cell)>, name: &Text, cell: Cell) -> Result<(), OutOfMemory>
-    ensures { OnOk result (cells.new ≡ cells.old ++ with_field name.now cell []) }
+// What fields are as numbers, in place of what `numbers` held.
+fn read_numbers(fields: &StringRecord, numbers: &mut Seq<NumberRead>) -> Result<(), OutOfMemory>
+    ensures { OnOk result (numbers.new ≡ map number_of (fields_of fields.now)) }
 {
-    if name.as_str() != ID_NAME {
-        cells.push((name.copy()?, cell))?;
+    numbers.truncate(0);
+    for i in 0..fields.len() {
+        numbers.push(number_of(field_in(fields, i)))?;
     }
     Ok(())
+}
+
+// Whether a field is a number out of range.
+fn is_out(number: NumberRead) -> bool
+    ensures { result ≡ is_out number }
+{
+    match number {
+        Some(None) => true,
+        Some(Some(_)) | None => false,
+    }
+}
+
+// The name of the first column whose field is a number out of range.
+fn bad_column<'a>(columns: &'a [Column], numbers: &[NumberRead]) -> Option<&'a str>
+    requires { length columns.now ≡ length numbers.now }
+    ensures { option_copied result ≡ bad_column columns.now numbers.now }
+{
+    for (i, column) in columns.iter().enumerate() {
+        if is_out(numbers[i]) {
+            return Some(column.0.as_str());
+        }
+    }
+    None
+}
+
+// The text of a field, empty where there is none at this place.
+fn text_at(fields: &StringRecord, at: usize) -> &str
+    ensures { result.now ≡ unwrap_or (slice_get (fields_of fields.now) at) [] }
+{
+    match fields.get(at) {
+        Some(text) => text,
+        None => "",
+    }
+}
+
+// What a field is as a number, none where there is none at this place.
+fn number_at(numbers: &[NumberRead], at: usize) -> NumberRead
+    ensures { result ≡ unwrap_or (slice_get numbers.now at) None }
+{
+    match numbers.get(at) {
+        Some(number) => *number,
+        None => None,
+    }
+}
+
+// The cell of a kept column in a record.
+fn kept_cell(
+    alloc: Global,
+    column: KeptColumn,
+    numbers: &[NumberRead],
+    fields: &StringRecord,
+) -> Result<Cell, OutOfMemory>
+    ensures { IfOk result (λ cell. cell ≡ kept_cell (fields_of fields.now) numbers.now column) }
+{
+    cell_read(
+        alloc,
+        column.1,
+        text_at(fields, column.0),
+        number_at(numbers, column.0),
+    )
+}
+
+// The cells of kept columns under their names.
+fn cells_from(
+    alloc: Global,
+    kept: &[(Text, KeptColumn)],
+    numbers: &[NumberRead],
+    fields: &StringRecord,
+) -> Result<Vec<(Text, Cell)>, OutOfMemory>
+    ensures { IfOk result (λ cells. cells.items ≡ cells_from (fields_of fields.now) numbers.now kept.now) }
+{
+    let mut cells = Vec::with_capacity(alloc, kept.len())?;
+    for entry in kept {
+        let cell = kept_cell(alloc, entry.1, numbers, fields)?;
+        cells.push((entry.0.copy()?, cell))?;
+    }
+    Ok(cells)
 }

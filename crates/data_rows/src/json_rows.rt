@@ -3,7 +3,7 @@ ghost use Rattle.std.specs.Prelude.{◌≡◌, [], ◌∷◌, codes, find, IfOk,
 ghost use Rattle.json_exact.specs.declared.json.Json.{out-Json};
 ghost use Rattle.cell_value.specs.Row.{row_of};
 ghost use Rattle.data_rows.specs.Outcome.{GivesRows, all_rows, numbered};
-ghost use Rattle.data_rows.specs.JsonRows.{cell_in, is_huge, cells_of, fields_in, bad_field, parsed_fields, json_row, rows_of_json};
+ghost use Rattle.data_rows.specs.JsonRows.{cell_in, is_huge, cells_of, fields_in, row_of_json, bad_field, parsed_fields, json_row, rows_of_json};
 ghost use Rattle.data_rows.specs.Parse.{parsed_as};
 ghost use Rattle.data_rows.specs.inner.JsonNames.{huge_name};
 
@@ -69,6 +69,16 @@ fn json_row(alloc: Global, number: u64, tree: &Json, kinds: &Kinds) -> Result<Ro
     }
 }
 
+/// The row of a JSON value of which nothing is parsed: an object's members are its cells, with lists and objects read as null and a
+/// member `_vgsid_` dropped; any other value stands under `data`. (A value that is bad as a row gives null in the place of what is bad.)
+#[tactic(auto, using(crate::proofs::JsonLemmas::nothing_is_parsed))]
+pub fn row_of_json(alloc: Global, tree: &Json) -> Result<Row, OutOfMemory>
+    ensures { IfOk result (λ row. row ≡ row_of_json tree.now) }
+{
+    let kinds = Kinds::of(alloc, &[])?;
+    Row::from_entries(alloc, fields_of(alloc, tree, &kinds)?)
+}
+
 // The cells of a value under their names, parsed.
 fn fields_of(alloc: Global, tree: &Json, kinds: &Kinds) -> Result<Vec<(Text, Cell)>, OutOfMemory>
     ensures { IfOk result (λ cells. cells.items ≡ parsed_fields kinds.now.parse.now (fields_in (out-Json tree.now))) }
@@ -124,8 +134,9 @@ fn cell_in(alloc: Global, kind: Option<ParseKind>, tree: &Json) -> Result<Cell, 
     }
 }
 
-// The first field of a row that can't be read: a number out of range. A list is no row at all.
-fn bad_field(tree: &Json) -> Option<&str>
+/// The first field of a row that can't be read, None where all can be: a number out of range makes its field bad. A list is no row at
+/// all, which an empty name says; a number out of range that is no member stands under `data`.
+pub fn bad_field(tree: &Json) -> Option<&str>
     ensures { option_copied result ≡ bad_field tree.now }
 {
     match tree {

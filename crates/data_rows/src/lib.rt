@@ -4,11 +4,12 @@
 mod cells;
 mod csv_rows;
 mod error;
+mod header;
 mod json_rows;
 mod kinds;
 mod records;
 
 pub use csv_rows::rows_of_csv;
 pub use error::RowError;
-pub use json_rows::rows_of_json;
+pub use json_rows::{bad_field, row_of_json, rows_of_json};
 pub use kinds::ParseKind;

@@ -1,5 +1,5 @@
 // Records of CSV, one after another.
-ghost use Rattle.std.specs.Prelude.{◌≡◌, IfOk, IsErrOf};
+ghost use Rattle.std.specs.Prelude.{◌≡◌, ◌<◌, Some, length, slice_get, IfOk, IsErrOf};
 ghost use Rattle.csv.specs.Records.{fields_of};
 ghost use Rattle.csv.specs.Reading.{records, default_config, strip_bom};
 ghost use Rattle.data_rows.specs.declared.records.RecordError.TheVariants.{NoText};
@@ -54,5 +54,16 @@ fn cause_of(kind: &ErrorKind) -> RecordError
         | ErrorKind::UnequalLengths { .. }
         | ErrorKind::Serialize(_)
         | ErrorKind::Deserialize { .. } => RecordError::Memory,
+    }
+}
+
+/// The field of a record at a place.
+pub(crate) fn field_in(fields: &StringRecord, i: usize) -> &str
+    requires { i < length (fields_of fields.now) }
+    ensures { slice_get (fields_of fields.now) i ≡ Some result.now }
+{
+    match fields.get(i) {
+        Some(field) => field,
+        None => unreachable!(),
     }
 }

@@ -3,7 +3,7 @@ use Rattle.std.proofs.Common.{◌≡◌, ℤ, ℕ, List, Option, Some, None, ref
 use Rattle.fixed_num.specs.Number.{IsNumber}
 use Rattle.fixed_num.specs.declared.reading.NumFault.{NumFault}
 use Rattle.fixed_num.specs.declared.reading.NumFault.TheVariants.{Shape, Range}
-use Rattle.fixed_num.specs.JsonNumber.{Parts, Reads, IsJsonNumber, value_of}
+use Rattle.fixed_num.specs.JsonNumber.{Parts, Reads, IsJsonNumber, decimal_value}
 use Rattle.expr_syntax.specs.NumberText.{parts_of}
 use Rattle.expr_syntax.proofs.NumberTexts.{parts_found, parts_sound}
 use Rattle.fixed_num.specs.Ranges.{◌>>=◌, in_range}
@@ -11,9 +11,9 @@ use Rattle.expr_eval.specs.Numbers.{number_in_text}
 use Rattle.expr_eval.proofs.RangeLemmas.{in_range_elsewhere, in_range_unless}
 
 pub by_parts : (text : List ℕ) (found : Option Parts) → parts_of text ≡ found
-    → number_in_text text ≡ (found >>= λ parts. in_range (value_of parts))
+    → number_in_text text ≡ (found >>= λ parts. in_range (decimal_value parts))
 unfolding number_in_text
-by_parts text found e = ap (λ (o : Option Parts). o >>= λ parts. in_range (value_of parts)) e
+by_parts text found e = ap (λ (o : Option Parts). o >>= λ parts. in_range (decimal_value parts)) e
 
 pub read_as : (text : List ℕ) (m : ℤ) → Reads text m → number_in_text text ≡ in_range m
 read_as text m reads = by_parts text _ (parts_found text reads.0 reads.1) ∙ ap in_range (sym reads.2)

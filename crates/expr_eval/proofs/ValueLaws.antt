@@ -3,13 +3,13 @@ use Rattle.std.proofs.Common.{◌≡◌, ℕ, ℤ, pos, neg_ℤ, Bool, true, fal
 use Rattle.std.specs.Prelude.{int_lt, if◌then◌else◌}
 use Rattle.std.proofs.lemmas.Int.{ints}
 use Rattle.fixed_num.specs.Number.{IsNumber, limit}
-use Rattle.fixed_num.specs.JsonNumber.{Parts, Reads, value_of}
+use Rattle.fixed_num.specs.JsonNumber.{Parts, Reads, decimal_value}
 use Rattle.expr_syntax.specs.NumberText.{parts_of}
 use Rattle.expr_syntax.proofs.NumberTexts.{parts_sound}
 use Rattle.cell_value.specs.Cell.{truth}
 use Rattle.fixed_num.specs.Ranges.{◌>>=◌, in_range}
 use Rattle.expr_eval.specs.Laws.{SpellsItsNumber, IfOfValues}
-use Rattle.expr_eval.specs.Table.{builtins}
+use Rattle.expr_eval.specs.Table.{builtin_table}
 use Rattle.expr_eval.proofs.NumberTexts.{by_parts, read_as}
 use Rattle.expr_eval.proofs.RangeLemmas.{in_range_at_number}
 
@@ -30,7 +30,7 @@ picked true x y = refl
 picked false x y = refl
 
 from_parts : (text : List ℕ) (found : Option Parts) (m : ℤ) → parts_of text ≡ found
-    → (found >>= λ parts. in_range (value_of parts)) ≡ Some m → Reads text m × IsNumber m
+    → (found >>= λ parts. in_range (decimal_value parts)) ≡ Some m → Reads text m × IsNumber m
 from_parts text None m p e = cc
 from_parts text (Some parts) m p e = let within = is_in_range _ m e in ((parts, parts_sound text parts p, within.0), within.1)
 
@@ -41,7 +41,7 @@ spells_its_number text m = (
 )
 
 pub if_of_values : IfOfValues
-unfolding builtins
+unfolding builtin_table
 if_of_values [] = refl
 if_of_values (a ∷ []) = refl
 if_of_values (a ∷ b ∷ []) = refl

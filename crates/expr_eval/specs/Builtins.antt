@@ -126,11 +126,11 @@ abbrev pub greatest_among : List Cell → Option ℤ
 greatest_among args = numbers_alone args >>= greatest_of
 
 -- `min` and `max`; null where an argument is no number
-abbrev pub least : List Cell → Option Cell
-least args = Some (number_or_null (least_among args))
+abbrev pub least_cell : List Cell → Option Cell
+least_cell args = Some (number_or_null (least_among args))
 
-abbrev pub greatest : List Cell → Option Cell
-greatest args = Some (number_or_null (greatest_among args))
+abbrev pub greatest_cell : List Cell → Option Cell
+greatest_cell args = Some (number_or_null (greatest_among args))
 
 -- three numbers
 abbrev pub three_numbers : List Cell → Option (ℤ × ℤ × ℤ)

@@ -4,7 +4,7 @@ use Rattle.std.specs.Fmt.{digits}
 use Rattle.std.specs.Str.{chars}
 use Rattle.fixed_num.specs.Number.{rounded_ratio, rounded, floored, floor_quotient}
 use Rattle.fixed_num.specs.Decimal.{spelling, size_spelling, fraction_spelling, fraction_digits}
-use Rattle.fixed_num.specs.JsonNumber.{value_of, scaled}
+use Rattle.fixed_num.specs.JsonNumber.{decimal_value, scaled}
 use Rattle.fixed_num.specs.Front.{parts_at, whole_at, fraction_at, exponent_at, digits_at, leading_digits, after_digits}
 use Rattle.expr_syntax.specs.NumberText.{parts_of}
 use Rattle.time_calc.specs.Calendar.{day_count, days_before_year, days_of_months, date_of_count, greatest}
@@ -16,7 +16,7 @@ use Rattle.expr_syntax.specs.declared.expr.BinOp.TheVariants.{And, Like, Add, Di
 use Rattle.fixed_num.specs.Ranges.{◌>>=◌}
 use Rattle.expr_eval.specs.Numbers.{number_in_text}
 use Rattle.expr_eval.specs.Operations.{operated, binary_of}
-use Rattle.expr_eval.specs.Table.{builtin, builtins}
+use Rattle.expr_eval.specs.Table.{builtin, builtin_table}
 
 -- whole numbers from 0 on, and below 0
 abbrev whole : ℕ → Cell
@@ -46,24 +46,24 @@ an_operand_that_is_not_needed : binary_of And (Some (Flag false)) None ≡ Some 
 an_operand_that_is_not_needed = refl
 
 a_text_that_spells_a_number : operated Like (Text (codes "1.0")) (Flag true) ≡ Some (Flag true)
-unfolding number_in_text value_of scaled parts_of parts_at whole_at fraction_at exponent_at digits_at leading_digits after_digits
+unfolding number_in_text decimal_value scaled parts_of parts_at whole_at fraction_at exponent_at digits_at leading_digits after_digits
 a_text_that_spells_a_number = refl
 
 null_and_zero : operated Like Null (whole 0) ≡ Some (Flag false)
 null_and_zero = refl
 
 half_below_zero : builtin 11 (Number (negsuc 499999) ∷ []) ≡ Some (whole 0)
-unfolding builtins floored floor_quotient
+unfolding builtin_table floored floor_quotient
 half_below_zero = refl
 
 a_character_above_the_plane : builtin 17 (Text (240 ∷ 159 ∷ 152 ∷ 128 ∷ []) ∷ []) ≡ Some (whole 2)
-unfolding builtins chars
+unfolding builtin_table chars
 a_character_above_the_plane = refl
 
 a_leap_day : (builtin 38 (whole 2024 ∷ whole 1 ∷ whole 29 ∷ []) >>= λ day. builtin 21 (day ∷ [])) ≡ Some (whole 1)
-unfolding builtins whole_of first_day day_count days_before_year days_of_months day_of_instant date_of_count greatest
+unfolding builtin_table whole_of first_day day_count days_before_year days_of_months day_of_instant date_of_count greatest
 a_leap_day = refl
 
 the_29th_of_February_2023 : builtin 38 (whole 2023 ∷ whole 1 ∷ whole 29 ∷ []) ≡ Some (whole 1677628800000)
-unfolding builtins whole_of first_day day_count days_before_year days_of_months
+unfolding builtin_table whole_of first_day day_count days_before_year days_of_months
 the_29th_of_February_2023 = refl

@@ -1,7 +1,7 @@
 -- The kinds of cells, what cells of a kind hold, and the numbers that cells stand for.
 use Rattle.std.specs.Prelude.{ℤ, pos, ℕ, List, Bool, true, false, Option, Some, None, if◌then◌else◌}
 use Rattle.fixed_num.specs.Number.{million}
-use Rattle.fixed_num.specs.JsonNumber.{value_of}
+use Rattle.fixed_num.specs.JsonNumber.{decimal_value}
 use Rattle.expr_syntax.specs.NumberText.{parts_of}
 use Rattle.cell_value.specs.declared.cell.Cell.{Cell}
 use Rattle.cell_value.specs.declared.cell.Cell.TheVariants.{Null, Flag, Number, Text, Pair}
@@ -77,7 +77,7 @@ number_or_null (Some n) = Number n
 
 -- the number that a text spells: a JSON number in range
 unfoldable pub number_in_text : List ℕ → Option ℤ
-number_in_text text = parts_of text >>= λ parts. in_range (value_of parts)
+number_in_text text = parts_of text >>= λ parts. in_range (decimal_value parts)
 
 -- the number that a cell stands for: a flag for 1 or 0, a number for itself, a text for the one that it spells
 abbrev pub cell_number : Cell → Option ℤ

@@ -9,11 +9,11 @@ use Rattle.cell_value.specs.Cell.{truth}
 use Rattle.fixed_num.specs.Ranges.{◌>>=◌, all_found}
 use Rattle.expr_eval.specs.Numbers.{is_number, is_text, is_flag}
 use Rattle.expr_eval.specs.Builtins.{test_of, is_valid, as_number, as_text, as_date, of_number, size, ceiling, floor, square_root, nearest}
-use Rattle.expr_eval.specs.Builtins.{least, greatest, clamped, choice, within, length_of, space, part_in, instant}
+use Rattle.expr_eval.specs.Builtins.{least_cell, greatest_cell, clamped, choice, within, length_of, space, part_in, instant}
 
 -- what each builtin gives for the values of its arguments, beside its name, in the order of the codes
-unfoldable pub builtins : List (List ℕ × (List Cell → Option Cell))
-builtins =
+unfoldable pub builtin_table : List (List ℕ × (List Cell → Option Cell))
+builtin_table =
     (codes "isValid", test_of is_valid)
     ∷ (codes "isNumber", test_of is_number)
     ∷ (codes "isString", test_of is_text)
@@ -26,8 +26,8 @@ builtins =
     ∷ (codes "floor", of_number floor)
     ∷ (codes "sqrt", of_number square_root)
     ∷ (codes "round", of_number nearest)
-    ∷ (codes "min", least)
-    ∷ (codes "max", greatest)
+    ∷ (codes "min", least_cell)
+    ∷ (codes "max", greatest_cell)
     ∷ (codes "clamp", clamped)
     ∷ (codes "if", choice)
     ∷ (codes "inrange", within)
@@ -56,13 +56,13 @@ builtins =
     ∷ []
 
 -- the names are those of the table of codes
-the_names_of_builtins : map (λ (entry : List ℕ × (List Cell → Option Cell)). entry.0) builtins ≡ names.builtins
-unfolding builtins
+the_names_of_builtins : map (λ (entry : List ℕ × (List Cell → Option Cell)). entry.0) builtin_table ≡ names.builtins
+unfolding builtin_table
 the_names_of_builtins = refl
 
 -- what the builtin of a code gives; null where no builtin has the code
 abbrev pub builtin : ℕ → List Cell → Option Cell
-builtin code args = option_map_or (λ (entry : List ℕ × (List Cell → Option Cell)). entry.1 args) (slice_get builtins code) (Some Null)
+builtin code args = option_map_or (λ (entry : List ℕ × (List Cell → Option Cell)). entry.1 args) (slice_get builtin_table code) (Some Null)
 
 -- the code of `if`, the one builtin that leaves an argument out
 abbrev pub code_of_if : ℕ

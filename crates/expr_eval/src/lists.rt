@@ -2,7 +2,7 @@
 ghost use Rattle.std.specs.Prelude.{◌≡◌, ◌+◌, ◌<◌, ◌^◌, pos, ◌+ℤ◌, ◌-ℤ◌, ◌*ℤ◌, count_by, nat_lt, nat_le};
 ghost use Rattle.std.specs.Str.{chars};
 ghost use Rattle.fixed_num.specs.Bands.{space_of};
-ghost use Rattle.expr_eval.specs.Builtins.{number_at, instant_in, instant, least_among, greatest_among, least, greatest, space};
+ghost use Rattle.expr_eval.specs.Builtins.{number_at, instant_in, instant, least_among, greatest_among, least_cell, greatest_cell, space};
 ghost use Rattle.expr_eval.specs.Builtins.{utf16_length, length_of};
 ghost use Rattle.expr_eval.specs.Answers.{Evaluates};
 
@@ -44,14 +44,14 @@ fn greatest_among(args: &[Cell]) -> Option<Num>
 
 /// `min`
 pub(crate) fn min(args: &[Cell]) -> Result<Cell, EvalError>
-    ensures { Evaluates result (least args.now) }
+    ensures { Evaluates result (least_cell args.now) }
 {
     Ok(number_or_null(least_among(args)))
 }
 
 /// `max`
 pub(crate) fn max(args: &[Cell]) -> Result<Cell, EvalError>
-    ensures { Evaluates result (greatest args.now) }
+    ensures { Evaluates result (greatest_cell args.now) }
 {
     Ok(number_or_null(greatest_among(args)))
 }

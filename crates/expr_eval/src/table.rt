@@ -17,7 +17,7 @@ use time_calc::PartOf;
 pub(crate) const CODE_OF_IF: u16 = 15;
 
 /// What the builtin of a code gives for the values of its arguments. `Overflow` exactly where the result is out of range.
-#[tactic(auto, unfolding(crate::specs::Table::builtins))]
+#[tactic(auto, unfolding(crate::specs::Table::builtin_table))]
 pub(crate) fn call(alloc: Global, code: u16, args: &[Cell]) -> Result<Cell, EvalError>
     requires { code ≢ code_of_if }
     ensures { Evaluates result (builtin code args.now) }

@@ -18,7 +18,7 @@ use Rattle.fixed_num.specs.declared.reading.NumFault.{NumFault}
 use Rattle.fixed_num.specs.declared.reading.NumFault.TheVariants.{Shape, Range}
 use Rattle.fixed_num.specs.Number.{IsNumber}
 use Rattle.expr_syntax.specs.NumberText.{parts_of}
-use Rattle.fixed_num.specs.JsonNumber.{IsJsonNumber, Reads, value_of, Parts, Spells, IsWhole, IsExponent, AreDigits, IsSign, fraction_text}
+use Rattle.fixed_num.specs.JsonNumber.{IsJsonNumber, Reads, decimal_value, Parts, Spells, IsWhole, IsExponent, AreDigits, IsSign, fraction_text}
 use Rattle.expr_syntax.specs.Tokens.{is_name_byte, BeginsWithout}
 use Rattle.fixed_num.specs.Ranges.{◌>>=◌, in_range}
 use Rattle.fixed_num.specs.Front.{first}
@@ -212,17 +212,17 @@ pub record Stands (word rest : List ℕ) (x : Token × List ℕ) : Type 0 where
 
 -- the number of some parts, if it is in range
 abbrev valued : Option Parts → Option ℤ
-valued parts = parts >>= λ p. in_range (value_of p)
+valued parts = parts >>= λ p. in_range (decimal_value p)
 
 none_here : (rest : List ℕ) (x : Token × List ℕ) → number_with None rest ≡ Ok x → ⊥
 none_here rest x e = absurd cc
 
 number_with-ok : (o : Option Parts) (rest : List ℕ) (x : Token × List ℕ) → number_with (valued o) rest ≡ Ok x
-    → (p : Parts) × (o ≡ Some p) × IsNumber (value_of p) × ((Number (value_of p), rest) ≡ x)
+    → (p : Parts) × (o ≡ Some p) × IsNumber (decimal_value p) × ((Number (decimal_value p), rest) ≡ x)
 number_with-ok None rest x e = absurd cc
-number_with-ok (Some p) rest x e = elim (is_number_or_not (value_of p)) [
-  | inl k ↦ (p, refl, k, ok_is (Number (value_of p), rest) x (sym (ap (λ o. number_with o rest) (in_range_at_number (value_of p) k)) ∙ e))
-  | inr out ↦ absurd (none_here rest x (sym (ap (λ o. number_with o rest) (in_range_elsewhere (value_of p) out)) ∙ e))
+number_with-ok (Some p) rest x e = elim (is_number_or_not (decimal_value p)) [
+  | inl k ↦ (p, refl, k, ok_is (Number (decimal_value p), rest) x (sym (ap (λ o. number_with o rest) (in_range_at_number (decimal_value p) k)) ∙ e))
+  | inr out ↦ absurd (none_here rest x (sym (ap (λ o. number_with o rest) (in_range_elsewhere (decimal_value p) out)) ∙ e))
 ]
 
 pub number_sound : (bytes : List ℕ) (x : Token × List ℕ) → number_at bytes ≡ Ok x
@@ -231,7 +231,7 @@ unfolding number_at
 number_sound bytes x e =
     let a = number_with-ok (parts_of (take (number_len false bytes) bytes)) (drop (number_len false bytes) bytes) x e in
     record {
-      number = value_of a.0;
+      number = decimal_value a.0;
       token = sym a.3;
       reads = (a.0, parts_sound (take (number_len false bytes) bytes) a.0 a.1, refl);
       fits = a.2;
@@ -244,7 +244,7 @@ unfolding number_at
 number_here bytes word rest m w r n k =
     ap (λ (t : List ℕ). number_with (number_in t) (drop (number_len false bytes) bytes)) w
     ∙ ap (λ (o : Option Parts). number_with (valued o) (drop (number_len false bytes) bytes)) (parts_found word n.0 n.1)
-    ∙ ap (number_with (in_range (value_of n.0))) r
+    ∙ ap (number_with (in_range (decimal_value n.0))) r
     ∙ ap (λ (o : Option ℤ). number_with o rest) (ap in_range (sym n.2) ∙ in_range_at_number m k)
 
 pub number_again : (word rest : List ℕ) (m : ℤ) → Reads word m → IsNumber m → get_or word 0 0 ≢ 45 → BeginsWithout adheres rest
@@ -259,17 +259,17 @@ pub word_ok : (bytes : List ℕ) (m : ℤ) → Reads (take (number_len false byt
     → number_at bytes ≡ done (Number m, drop (number_len false bytes) bytes)
 word_ok bytes m n k = number_here bytes _ _ m refl refl n k
 
-no_parts : (o : Option Parts) (rest : List ℕ) → ((p : Parts) → o ≡ Some p → IsNumber (value_of p) → ⊥)
+no_parts : (o : Option Parts) (rest : List ℕ) → ((p : Parts) → o ≡ Some p → IsNumber (decimal_value p) → ⊥)
     → number_with (valued o) rest ≡ Err tt
 no_parts None rest h = refl
-no_parts (Some p) rest h = ap (λ (o : Option ℤ). number_with o rest) (in_range_elsewhere (value_of p) (h p refl))
+no_parts (Some p) rest h = ap (λ (o : Option ℤ). number_with o rest) (in_range_elsewhere (decimal_value p) (h p refl))
 
 -- a word that is no number in range
 pub word_fault : (bytes : List ℕ) → ((m : ℤ) → Reads (take (number_len false bytes) bytes) m → IsNumber m → ⊥) → number_at bytes ≡ Err tt
 unfolding number_at
 word_fault bytes h =
     no_parts (parts_of (take (number_len false bytes) bytes)) (drop (number_len false bytes) bytes)
-    (λ p e k. h (value_of p) (p, parts_sound _ p e, refl) k)
+    (λ p e k. h (decimal_value p) (p, parts_sound _ p e, refl) k)
 
 -- a word of a number that begins with a digit begins so
 pub first_of_number : (bytes : List ℕ) → is_ascii_digit (first bytes) ≡ true

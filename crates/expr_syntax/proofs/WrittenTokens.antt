@@ -5,7 +5,7 @@ use Rattle.std.specs.Prelude.{◌≤ℤ◌, ◌+ℤ◌, ◌-ℤ◌, flat_map}
 use Rattle.std.proofs.lemmas.Int.{ints}
 use Rattle.std.proofs.lemmas.Bool.{false≢true}
 use Rattle.fixed_num.specs.Number.{signed, rounded, floor_quotient}
-use Rattle.fixed_num.specs.JsonNumber.{Parts, Reads, scaled, value_of, number_of}
+use Rattle.fixed_num.specs.JsonNumber.{Parts, Reads, scaled, decimal_value, number_of}
 use Rattle.fixed_num.specs.Decimal.{spelling}
 use Rattle.fixed_num.proofs.RoundTripLemmas.{written_is_read}
 use Rattle.expr_syntax.specs.declared.token.Token.{Token}
@@ -98,8 +98,8 @@ unfolding scaled rounded floor_quotient
 scaled_up n (pos k) = from_zero _
 scaled_up n (negsuc k) = from_zero _
 
-value_up : (p : Parts) → p.minus ≡ false → pos 0 ≤ℤ value_of p
-unfolding value_of
+value_up : (p : Parts) → p.minus ≡ false → pos 0 ≤ℤ decimal_value p
+unfolding decimal_value
 value_up p e =
     let n = number_of (p.whole ++ p.fraction) in
     subst (λ (b : Bool). pos 0 ≤ℤ scaled (signed b n) (p.exponent -ℤ pos (length p.fraction) +ℤ pos 6)) (sym e)

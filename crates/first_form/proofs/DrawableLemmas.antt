@@ -19,8 +19,8 @@ use Rattle.scene_tree.specs.declared.scene.Scene.{Scene}
 use Rattle.scene_tree.specs.Outcome.{Outcome, Drawn, ◌>>=◌, outcome_map, in_reach, all_drawn}
 use Rattle.svg_text.specs.SceneText.{svg_of}
 use Rattle.fixed_num.specs.Ranges.{in_range}
-use Rattle.vega_meaning.specs.Domains.{placed_in, ascending, least, greatest, extent_of, with_zero}
-use Rattle.vega_meaning.specs.Steps.{nice_of}
+use Rattle.tick_kit.specs.Domains.{placed_in, ascending, least, greatest, extent_of, with_zero}
+use Rattle.tick_kit.specs.Steps.{nice_of}
 use Rattle.vega_meaning.specs.Scales.{place_of_number, band_place, place_of_entry}
 use Rattle.first_form.specs.declared.form.Value.{Value}
 use Rattle.first_form.specs.Bars.{with_ids, Reading, reading_of, readings_of, amounts_of, categories_of, plot_height, x_scale, y_scale}

@@ -1,7 +1,7 @@
 -- Why the nice domain from 0 to at most a thousand million stays in range.
 use Rattle.std.proofs.Common.{◌≡◌, ℕ, zero, suc, ◌+◌, ◌*◌, ◌^◌, ◌<◌, ◌≤◌, ℤ, pos, Bool, true, false, ◌&&◌, nat_le, nat_lt, if◌then◌else◌}
 use Rattle.std.proofs.Common.{List, [], ◌∷◌, ◌++◌, Option, Some, None, unsigned_abs, int_lt, arith, refl, sym, ap, ◌∙◌}
-use Rattle.std.specs.Option.{option_or}
+use Rattle.std.specs.Option.{option_map, option_or}
 use Rattle.std.specs.List.{find, list_all}
 use Rattle.std.proofs.lemmas.Int.{ints}
 use Rattle.std.proofs.lemmas.Bool.{false≢true}
@@ -10,7 +10,7 @@ use Rattle.std.proofs.lemmas.Option.{same_Some}
 use Rattle.std.proofs.lemmas.List.Folds.{find-append}
 use Rattle.fixed_num.specs.Number.{limit, million, IsNumber, floored, ceiled}
 use Rattle.fixed_num.specs.Ranges.{◌>>=◌, in_range}
-use Rattle.vega_meaning.specs.Steps.{steps_at, steps_below, step_of, span_of, widened, widened_times, nice_of}
+use Rattle.tick_kit.specs.Steps.{steps_at, steps_below, step_of, spaced, span_of, widened, widened_times, nice_of}
 use Rattle.first_form.proofs.RangeLemmas.{in_range_at_number, size_of_above, ceiled_near, floored_zero}
 
 -- what is found passes what all pass
@@ -51,10 +51,11 @@ all_small : list_all is_small small_steps ≡ true
 all_small = refl
 
 step_found : (span : ℕ) (s : ℕ × ℕ) → find (is_taken span) (steps_below 23) ≡ Some s → s.0 ≤ 10 ^ 19 → step_of span 10 ≡ Some s.0
-unfolding step_of
+unfolding step_of spaced
 step_found span s found small =
     let yes : nat_le s.0 limit ≡ true = grind (arith, nat_tests) in
-    ap (λ o. o >>= (λ (step : ℕ × ℕ). if nat_le step.0 limit then Some step.0 else None)) found ∙ ap (λ b. if b then Some s.0 else None) yes
+    ap (λ o. option_map (λ (step : ℕ × ℕ). step.0) o >>= (λ step. if nat_le step limit then Some step else None)) found
+    ∙ ap (λ b. if b then Some s.0 else None) yes
 
 -- the step of ten ticks over at most 10^20 millionths: the last small one is taken, where none before it is
 small_step : (span : ℕ) → span ≤ 10 ^ 20 → (s : ℕ) × (step_of span 10 ≡ Some s) × (0 < s) × (s ≤ 10 ^ 19)

@@ -19,7 +19,7 @@ use Rattle.cell_value.specs.State.{Dataset}
 use Rattle.cell_value.proofs.LawLemmas.{what_is_set_is_read, other_names_stay}
 use Rattle.scene_tree.specs.Outcome.{Outcome, Drawn, Overflow, Panels, ◌>>=◌, outcome_map, all_drawn}
 use Rattle.svg_text.specs.SceneText.{svg_of}
-use Rattle.vega_meaning.specs.Domains.{ascending}
+use Rattle.tick_kit.specs.Domains.{ascending}
 use Rattle.vega_meaning.specs.Scales.{Linear, place_of_number, Band, band_place, band_width}
 use Rattle.vega_meaning.specs.Frames.{scene_around}
 use Rattle.vega_meaning.specs.Bars as vega

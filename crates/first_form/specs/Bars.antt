@@ -17,8 +17,8 @@ use Rattle.svg_text.specs.SceneText.{svg_of}
 use Rattle.fixed_num.specs.Ranges.{in_range}
 use Rattle.fixed_num.specs.Bands.{space_of}
 use Rattle.vega_meaning.specs.Pixels.{pixels}
-use Rattle.vega_meaning.specs.Domains.{ascending, extent_of, with_zero}
-use Rattle.vega_meaning.specs.Steps.{nice_of}
+use Rattle.tick_kit.specs.Domains.{ascending, extent_of, with_zero}
+use Rattle.tick_kit.specs.Steps.{nice_of}
 use Rattle.vega_meaning.specs.Scales.{Linear, place_of_number, Band, band_place, band_width}
 use Rattle.vega_meaning.specs.Frames.{scene_around}
 use Rattle.first_form.specs.declared.form.FirstForm.{FirstForm}

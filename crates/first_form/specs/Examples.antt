@@ -7,7 +7,7 @@ use Rattle.std.specs.Str.{chars}
 use lib.Utf8.{encode}
 use Rattle.first_form.specs.declared.form.Value.{Value}
 use Rattle.vega_meaning.specs.Pixels.{pixels}
-use Rattle.vega_meaning.specs.Steps.{step_of}
+use Rattle.tick_kit.specs.Steps.{step_of, spaced}
 use Rattle.scene_tree.specs.Outcome.{Outcome, Drawn}
 use Rattle.first_form.specs.Bars.{chart_of}
 
@@ -44,28 +44,28 @@ bars_of_three =
     ++ bar (codes "41") (codes "43.636364") (codes "156.363636")
 
 three_bars : picture (codes "a") (codes "b") three ≡ Drawn (svg (codes "70") bars_of_three)
-unfolding step_of rounded floored ceiled floor_quotient spelling size_spelling fraction_spelling fraction_digits digits chars encode
+unfolding step_of spaced rounded floored ceiled floor_quotient spelling size_spelling fraction_spelling fraction_digits digits chars encode
 three_bars = refl
 
 no_values : picture (codes "a") (codes "b") [] ≡ Drawn (svg (codes "10") [])
-unfolding step_of rounded floored ceiled floor_quotient spelling size_spelling fraction_spelling fraction_digits digits chars encode
+unfolding step_of spaced rounded floored ceiled floor_quotient spelling size_spelling fraction_spelling fraction_digits digits chars encode
 no_values = refl
 
 three_zeros : picture (codes "a") (codes "b") (value (codes "A") 0 ∷ value (codes "B") 0 ∷ value (codes "C") 0 ∷ [])
     ≡ Drawn (svg (codes "70") (
     bar (codes "1") (codes "100") (codes "0") ++ bar (codes "21") (codes "100") (codes "0") ++ bar (codes "41") (codes "100") (codes "0")))
-unfolding step_of rounded floored ceiled floor_quotient spelling size_spelling fraction_spelling fraction_digits digits chars encode
+unfolding step_of spaced rounded floored ceiled floor_quotient spelling size_spelling fraction_spelling fraction_digits digits chars encode
 three_zeros = refl
 
 -- a field `_vgsid_` along x gives each value a band of its own, by its id, whatever its category
 ids_along_x : picture (codes "_vgsid_") (codes "b") (value (codes "C") 28 ∷ value (codes "A") 55 ∷ value (codes "A") 43 ∷ [])
     ≡ Drawn (svg (codes "70") bars_of_three)
-unfolding step_of rounded floored ceiled floor_quotient spelling size_spelling fraction_spelling fraction_digits digits chars encode
+unfolding step_of spaced rounded floored ceiled floor_quotient spelling size_spelling fraction_spelling fraction_digits digits chars encode
 ids_along_x = refl
 
 -- upward it draws the ids 1, 2 and 3 over the domain from 0 to 3, whatever the amounts
 ids_upward : picture (codes "a") (codes "_vgsid_") three ≡ Drawn (svg (codes "70") (
     bar (codes "1") (codes "133.333333") (codes "66.666667") ++ bar (codes "21") (codes "66.666667") (codes "133.333333")
     ++ bar (codes "41") (codes "0") (codes "200")))
-unfolding step_of rounded floored ceiled floor_quotient spelling size_spelling fraction_spelling fraction_digits digits chars encode
+unfolding step_of spaced rounded floored ceiled floor_quotient spelling size_spelling fraction_spelling fraction_digits digits chars encode
 ids_upward = refl

@@ -14,7 +14,7 @@ use Rattle.std.proofs.lemmas.List.{append-nil}
 use Rattle.std.proofs.lemmas.Option.{none-some, same_Some}
 use Rattle.fixed_num.specs.Number.{signed, IsNumber}
 use Rattle.fixed_num.specs.JsonNumber.{Parts, Spells, IsWhole, AreDigits, fraction_text, IsSign, IsExponent, IsJsonNumber, number_of}
-use Rattle.fixed_num.specs.JsonNumber.{value_of, Reads}
+use Rattle.fixed_num.specs.JsonNumber.{decimal_value, Reads}
 use Rattle.fixed_num.specs.Laws.{IsAtFront}
 use Rattle.fixed_num.specs.Ranges.{in_range}
 use Rattle.fixed_num.specs.Steps.{◌>>=◌}
@@ -358,11 +358,11 @@ parts_sound bytes x e =
 
 -- what was read is a number at the front
 pub decimal_parts : (bytes rest : List ℕ) (v : Option ℤ) → decimal_at bytes ≡ Ok (v, rest)
-    → (p : Parts) × (parts_at bytes ≡ Ok (p, rest)) × (in_range (value_of p) ≡ v)
+    → (p : Parts) × (parts_at bytes ≡ Ok (p, rest)) × (in_range (decimal_value p) ≡ v)
 unfolding decimal_at
 decimal_parts bytes rest v e =
-    let b = bind_ok (parts_at bytes) (λ x. Ok (in_range (value_of x.0), x.1)) (v, rest) e in
-    let same = ok_is (in_range (value_of b.0.0), b.0.1) (v, rest) b.2 in
+    let b = bind_ok (parts_at bytes) (λ x. Ok (in_range (decimal_value x.0), x.1)) (v, rest) e in
+    let same = ok_is (in_range (decimal_value b.0.0), b.0.1) (v, rest) b.2 in
     let left : (Option ℤ × List ℕ) → List ℕ = λ x. x.1 in
     let right : (Option ℤ × List ℕ) → Option ℤ = λ x. x.0 in
     (b.0.0, b.1 ∙ same_ok _ _ _ _ refl (ap left same), ap right same)
@@ -371,7 +371,7 @@ pub front_is_spelled : (bytes rest : List ℕ) (v : Option ℤ) → decimal_at b
 front_is_spelled bytes rest v e =
     let d = decimal_parts bytes rest v e in
     let t = parts_sound bytes (d.0, rest) d.1 in
-    record { word = t.word; value = value_of d.0; joined = t.parts; spelled = (d.0, t.is, refl); number = sym d.2 }
+    record { word = t.word; value = decimal_value d.0; joined = t.parts; spelled = (d.0, t.is, refl); number = sym d.2 }
 
 pub spelled_is_front : (word rest : List ℕ) (m : ℤ) → Reads word m → ends_number (first rest) ≡ true
     → decimal_at (word ++ rest) ≡ Ok (in_range m, rest)
@@ -389,7 +389,7 @@ one_number word p q s t =
 
 -- bytes are one number at most
 pub reads_one : (bytes : List ℕ) (m n : ℤ) → Reads bytes m → Reads bytes n → m ≡ n
-reads_one bytes m n x y = x.2 ∙ ap value_of (one_number bytes x.0 y.0 x.1 y.1) ∙ sym y.2
+reads_one bytes m n x y = x.2 ∙ ap decimal_value (one_number bytes x.0 y.0 x.1 y.1) ∙ sym y.2
 
 -- what the reader answers
 
@@ -397,9 +397,9 @@ pub front_parts : (bytes rest : List ℕ) (p : Parts) → Ok (p, rest) ≡ parts
 front_parts bytes rest p e = parts_sound bytes (p, rest) (sym e)
 
 pub front_value : (bytes rest : List ℕ) (p : Parts) (v : Option ℤ) → Ok (p, rest) ≡ parts_at bytes
-    → SomeIff v (IsNumber (value_of p)) (value_of p) → Ok (v, rest) ≡ decimal_at bytes
+    → SomeIff v (IsNumber (decimal_value p)) (decimal_value p) → Ok (v, rest) ≡ decimal_at bytes
 unfolding decimal_at
-front_value bytes rest p v e k = rw (sym e, in_range_from_exact v (value_of p) k) refl
+front_value bytes rest p v e k = rw (sym e, in_range_from_exact v (decimal_value p) k) refl
 
 pub front_stop : (bytes : List ℕ) (left : ℕ) → Err left ≡ parts_at bytes → Err left ≡ decimal_at bytes
 unfolding decimal_at
@@ -422,14 +422,14 @@ whole_number bytes rest v e h =
     record { value = f.value; spelled = subst (λ (w : List ℕ). Reads w f.value) (sym same) f.spelled; number = f.number }
 
 -- a number is found whole
-whole_found : (bytes : List ℕ) (p : Parts) → Spells bytes p → decimal_at bytes ≡ Ok (in_range (value_of p), [])
-whole_found bytes p s = ap decimal_at (sym (append-nil bytes)) ∙ spelled_is_front bytes [] (value_of p) (p, s, refl) refl
+whole_found : (bytes : List ℕ) (p : Parts) → Spells bytes p → decimal_at bytes ≡ Ok (in_range (decimal_value p), [])
+whole_found bytes p s = ap decimal_at (sym (append-nil bytes)) ∙ spelled_is_front bytes [] (decimal_value p) (p, s, refl) refl
 
 -- bytes of which more is left, or where nothing goes on, are no number
 pub more_left : (bytes rest : List ℕ) (v : Option ℤ) → Ok (v, rest) ≡ decimal_at bytes → 1 ≤ length rest → IsJsonNumber bytes → ⊥
 more_left bytes rest v e some n =
     let left : (Option ℤ × List ℕ) → List ℕ = λ x. x.1 in
-    let none : rest ≡ [] = ap left (ok_is (v, rest) (in_range (value_of n.0), []) (e ∙ whole_found bytes n.0 n.1)) in
+    let none : rest ≡ [] = ap left (ok_is (v, rest) (in_range (decimal_value n.0), []) (e ∙ whole_found bytes n.0 n.1)) in
     absurd (omega (arith, ap length none))
 
 pub stopped : (bytes : List ℕ) (left : ℕ) → Err left ≡ decimal_at bytes → IsJsonNumber bytes → ⊥

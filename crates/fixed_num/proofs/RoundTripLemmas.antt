@@ -15,7 +15,7 @@ use Rattle.fixed_num.proofs.ScaleLemmas.{scaled_to_right}
 use Rattle.fixed_num.proofs.SpellingLemmas.{first_below_ten, first_place, fraction_digits_none}
 use Rattle.fixed_num.specs.Number.{limit, million, IsNumber, signed}
 use Rattle.fixed_num.specs.Decimal.{fraction_digits, fraction_spelling, size_spelling, spelling}
-use Rattle.fixed_num.specs.JsonNumber.{Parts, Spells, IsWhole, AreDigits, Reads, number_of, value_of, fraction_text}
+use Rattle.fixed_num.specs.JsonNumber.{Parts, Spells, IsWhole, AreDigits, Reads, number_of, decimal_value, fraction_text}
 
 zero_or_more : (n : ℕ) → (n ≡ 0) ⊎ (0 < n)
 zero_or_more zero = inl refl
@@ -98,8 +98,8 @@ number_spelled minus n h =
           ∙ sym (append-nil (sign_text minus ++ decimal (n / million) ++ fraction_text (fraction_digits 6 (n % million))));
     }
 
-number_value : (minus : Bool) (n : ℕ) → n ≤ limit → signed minus n ≡ value_of (number_parts minus n)
-unfolding value_of
+number_value : (minus : Bool) (n : ℕ) → n ≤ limit → signed minus n ≡ decimal_value (number_parts minus n)
+unfolding decimal_value
 number_value minus n h =
     let small : n / million < 2 ^ 64 = omega arith in
     let below : n % million < million = omega arith in

@@ -7,7 +7,7 @@ use Rattle.std.proofs.lemmas.List.{append-nil, length-append}
 use Rattle.fixed_num.proofs.RoundingLemmas.{rounded_down, rounded_toward, size_below, size_in_range}
 use Rattle.fixed_num.proofs.DigitLemmas.{ten_pos, number_below}
 use Rattle.fixed_num.specs.Number.{limit, IsNumber, signed, rounded}
-use Rattle.fixed_num.specs.JsonNumber.{Parts, AreDigits, number_of, scaled, value_of}
+use Rattle.fixed_num.specs.JsonNumber.{Parts, AreDigits, number_of, scaled, decimal_value}
 use Rattle.fixed_num.specs.inner.Digits.{rounded_at}
 
 size_of_signed : (minus : Bool) (n : ℕ) → unsigned_abs (signed minus n) ≡ n
@@ -87,24 +87,24 @@ scaled_to_right minus n (negsuc j) places e = absurd (omega (arith, ints, e))
 
 -- an exponent past every number leaves nothing below zero, and above it too much of anything
 pub value_far_left : (p : Parts) (n : ℕ) → AreDigits (p.whole ++ p.fraction) → p.exponent ≡ neg_ℤ (pos n) → length p.whole + 7 ≤ n
-    → pos 0 ≡ value_of p
-unfolding value_of
+    → pos 0 ≡ decimal_value p
+unfolding decimal_value
 value_far_left p n a e far =
     let places = n + length p.fraction - 6 in
     rounded_to_nothing p.minus _ (length (p.whole ++ p.fraction)) places (number_below (p.whole ++ p.fraction) a)
     (omega (arith, length-append p.whole p.fraction)) ∙ scaled_to_left _ _ places (omega arith) (omega (arith, ints, e))
 
 pub value_far_zeros : (p : Parts) (n : ℕ) → number_of (p.whole ++ p.fraction) ≡ 0 → p.exponent ≡ pos n → length p.fraction ≤ n
-    → pos 0 ≡ value_of p
-unfolding value_of
+    → pos 0 ≡ decimal_value p
+unfolding decimal_value
 value_far_zeros p n z e far =
     let places = n + 6 - length p.fraction in
     sym (signed_nothing p.minus (number_of (p.whole ++ p.fraction) * 10 ^ places) (ap (λ x. x * 10 ^ places) z ∙ zero-mul (10 ^ places)))
     ∙ scaled_to_right p.minus _ _ places (omega (arith, ints, e))
 
 pub value_far_right : (p : Parts) (n : ℕ) → 0 < number_of (p.whole ++ p.fraction) → p.exponent ≡ pos n → length p.fraction + 16 ≤ n
-    → IsNumber (value_of p) → ⊥
-unfolding value_of
+    → IsNumber (decimal_value p) → ⊥
+unfolding decimal_value
 value_far_right p n some e far h =
     let places = n + 6 - length p.fraction in
     too_many_places p.minus (number_of (p.whole ++ p.fraction)) places (λ z. omega (arith, z, some)) (omega arith)

@@ -5,7 +5,7 @@ use Rattle.std.specs.Char.{is_ascii_digit}
 use Rattle.fixed_num.specs.Number.{signed, rounded, floor_quotient}
 use Rattle.fixed_num.specs.Ranges.{in_range}
 use Rattle.fixed_num.specs.Steps.{◌>>=◌}
-use Rattle.fixed_num.specs.JsonNumber.{Parts, number_of, scaled, value_of}
+use Rattle.fixed_num.specs.JsonNumber.{Parts, number_of, scaled, decimal_value}
 
 -- what is found at the front, and the bytes after it; or how many bytes are left where nothing goes on
 abbrev pub Read : Type 0 → Type 0
@@ -73,7 +73,7 @@ parts_at bytes = do
 
 -- a JSON number by its value, None where that is out of range
 unfoldable pub decimal_at : List ℕ → Read (Option ℤ)
-decimal_at bytes = parts_at bytes >>= λ x. Ok (in_range (value_of x.0), x.1)
+decimal_at bytes = parts_at bytes >>= λ x. Ok (in_range (decimal_value x.0), x.1)
 
 -- what may stand after a number: no digit, no point and no mark of an exponent
 abbrev pub ends_number : ℕ → Bool
@@ -81,20 +81,20 @@ ends_number b = not (is_ascii_digit b) && not (b == 46) && not (is_mark b)
 
 a_number_before_a_comma : decimal_at (codes "-1.5e1,2") ≡ Ok (Some (negsuc 14999999), codes ",2")
 unfolding decimal_at parts_at whole_at fraction_at exponent_at signed_at
-    digits_at leading_digits after_digits value_of scaled rounded floor_quotient
+    digits_at leading_digits after_digits decimal_value scaled rounded floor_quotient
 a_number_before_a_comma = refl
 
 a_zero_before_a_digit : decimal_at (codes "01") ≡ Ok (Some (pos 0), codes "1")
 unfolding decimal_at parts_at whole_at fraction_at exponent_at signed_at
-    digits_at leading_digits after_digits value_of scaled rounded floor_quotient
+    digits_at leading_digits after_digits decimal_value scaled rounded floor_quotient
 a_zero_before_a_digit = refl
 
 a_number_out_of_range : decimal_at (codes "1e16") ≡ Ok (None, [])
 unfolding decimal_at parts_at whole_at fraction_at exponent_at signed_at
-    digits_at leading_digits after_digits value_of scaled rounded floor_quotient
+    digits_at leading_digits after_digits decimal_value scaled rounded floor_quotient
 a_number_out_of_range = refl
 
 a_point_before_no_digit : decimal_at (codes "1.x") ≡ Err 1
 unfolding decimal_at parts_at whole_at fraction_at exponent_at signed_at
-    digits_at leading_digits after_digits value_of scaled rounded floor_quotient
+    digits_at leading_digits after_digits decimal_value scaled rounded floor_quotient
 a_point_before_no_digit = refl

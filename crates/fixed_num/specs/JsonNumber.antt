@@ -69,8 +69,8 @@ scaled m (pos k) = m *ℤ pos (10 ^ k)
 scaled m (negsuc k) = rounded m (10 ^ suc k)
 
 -- the exact value in millionths, rounded: the digits without the point, times a power of ten
-unfoldable pub value_of : Parts → ℤ
-value_of p = scaled (signed p.minus (number_of (p.whole ++ p.fraction))) (p.exponent -ℤ pos (length p.fraction) +ℤ pos 6)
+unfoldable pub decimal_value : Parts → ℤ
+decimal_value p = scaled (signed p.minus (number_of (p.whole ++ p.fraction))) (p.exponent -ℤ pos (length p.fraction) +ℤ pos 6)
 
 -- the bytes are a JSON number
 abbrev pub IsJsonNumber : List ℕ → Type 0
@@ -78,21 +78,21 @@ IsJsonNumber bytes = (p : Parts) × Spells bytes p
 
 -- the bytes are a JSON number of so many millionths
 abbrev pub Reads : List ℕ → ℤ → Type 0
-Reads bytes m = (p : Parts) × Spells bytes p × (m ≡ value_of p)
+Reads bytes m = (p : Parts) × Spells bytes p × (m ≡ decimal_value p)
 
-half_a_millionth : value_of (record { minus = false; whole = codes "0"; fraction = codes "0000005"; exponent = pos 0 }) ≡ pos 1
-unfolding value_of scaled rounded floor_quotient
+half_a_millionth : decimal_value (record { minus = false; whole = codes "0"; fraction = codes "0000005"; exponent = pos 0 }) ≡ pos 1
+unfolding decimal_value scaled rounded floor_quotient
 half_a_millionth = refl
 
 minus_one_and_a_half_millionths :
-    value_of (record { minus = true; whole = codes "0"; fraction = codes "0000015"; exponent = pos 0 }) ≡ negsuc 0
-unfolding value_of scaled rounded floor_quotient
+    decimal_value (record { minus = true; whole = codes "0"; fraction = codes "0000015"; exponent = pos 0 }) ≡ negsuc 0
+unfolding decimal_value scaled rounded floor_quotient
 minus_one_and_a_half_millionths = refl
 
-the_greatest_number : value_of (record { minus = false; whole = codes "1"; fraction = []; exponent = pos 15 }) ≡ pos limit
-unfolding value_of scaled rounded floor_quotient
+the_greatest_number : decimal_value (record { minus = false; whole = codes "1"; fraction = []; exponent = pos 15 }) ≡ pos limit
+unfolding decimal_value scaled rounded floor_quotient
 the_greatest_number = refl
 
-a_tenth_of_a_millionth : value_of (record { minus = false; whole = codes "1"; fraction = []; exponent = negsuc 6 }) ≡ pos 0
-unfolding value_of scaled rounded floor_quotient
+a_tenth_of_a_millionth : decimal_value (record { minus = false; whole = codes "1"; fraction = []; exponent = negsuc 6 }) ≡ pos 0
+unfolding decimal_value scaled rounded floor_quotient
 a_tenth_of_a_millionth = refl

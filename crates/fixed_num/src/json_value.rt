@@ -3,7 +3,7 @@ ghost use Rattle.std.specs.Prelude.{◌≡◌, ◌+◌, ◌*◌, ◌^◌, ◌<�
 ghost use Rattle.std.specs.Option.{SomeIff};
 ghost use Rattle.std.specs.List.{list_all};
 ghost use Rattle.fixed_num.specs.Number.{limit, IsNumber, signed, rounded};
-ghost use Rattle.fixed_num.specs.JsonNumber.{number_of, AreDigits, value_of};
+ghost use Rattle.fixed_num.specs.JsonNumber.{number_of, AreDigits, decimal_value};
 ghost use Rattle.fixed_num.specs.inner.Digits.{number_after, rounds_away, rounded_at};
 ghost use Rattle.fixed_num.specs.inner.View.{parts};
 
@@ -160,7 +160,7 @@ impl JsonNumber<'_> {
         requires whole { AreDigits self.whole.now }
         requires fraction { AreDigits self.fraction.now }
         requires far { limit < number_of self.exponent.digits.now }
-        ensures { SomeIff result (IsNumber (value_of (parts self.entry))) (value_of (parts self.entry)) }
+        ensures { SomeIff result (IsNumber (decimal_value (parts self.entry))) (decimal_value (parts self.entry)) }
     {
         if self.exponent.minus {
             return of_size(false, 0);
@@ -176,7 +176,7 @@ impl JsonNumber<'_> {
         requires whole { AreDigits self.whole.now }
         requires fraction { AreDigits self.fraction.now }
         requires exponent { AreDigits self.exponent.digits.now }
-        ensures { SomeIff result (IsNumber (value_of (parts self.entry))) (value_of (parts self.entry)) }
+        ensures { SomeIff result (IsNumber (decimal_value (parts self.entry))) (decimal_value (parts self.entry)) }
     {
         let Some(size) = read_digits(0, self.exponent.digits) else {
             return self.far_value();

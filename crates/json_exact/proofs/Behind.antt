@@ -8,7 +8,7 @@ use Rattle.std.proofs.lemmas.Bool.{cases_Bool, cond-true, cond-false, eqb-true, 
 use Rattle.std.proofs.lemmas.Bool.Decides.{nat_tests}
 use Rattle.std.proofs.lemmas.List.{length-append}
 use Rattle.fixed_num.specs.Number.{signed}
-use Rattle.fixed_num.specs.JsonNumber.{Parts, number_of, value_of}
+use Rattle.fixed_num.specs.JsonNumber.{Parts, number_of, decimal_value}
 use Rattle.json_exact.specs.declared.json.Json.{Json}
 use Rattle.json_exact.specs.declared.json.Json.TheVariants as json
 use Rattle.json_exact.specs.declared.json.Member.{Member}
@@ -147,10 +147,10 @@ by_minus bytes = elim (cases_Bool (eqb (first bytes) 45)) [
 
 number : Causal number_at
 unfolding number_at
-number = binds parts_at (λ p rest. Ok (number_tree (value_of p), rest))
+number = binds parts_at (λ p rest. Ok (number_tree (decimal_value p), rest))
     (same_reader (λ bytes. cond (eqb (first bytes) 45) (body true (drop 1 bytes)) (body false bytes)) parts_at by_minus
     (takes (λ b. eqb b 45) (λ b rest. body true rest) (body false) refl (λ b. body_is true) (body_is false)))
-    (λ p. finds (number_tree (value_of p)))
+    (λ p. finds (number_tree (decimal_value p)))
 
 -- ---- white space
 

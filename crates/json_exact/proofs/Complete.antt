@@ -3,7 +3,7 @@ use Rattle.std.proofs.Common.{◌≡◌, ℕ, zero, suc, ◌<◌, ◌≤◌, tru
 use Rattle.std.proofs.Common.{append_assoc, arith, inl, inr, ◌⊎◌, ◌||◌}
 use Rattle.std.specs.Prelude.{codes, AllPairs}
 use Rattle.fixed_num.specs.JsonNumber as numbers
-use Rattle.fixed_num.specs.JsonNumber.{value_of}
+use Rattle.fixed_num.specs.JsonNumber.{decimal_value}
 use Rattle.fixed_num.specs.Number.{IsNumber}
 use Rattle.std.specs.Char.{is_ascii_digit}
 use Rattle.std.specs.List.{list_any}
@@ -96,7 +96,7 @@ number_read : (word rest : List ℕ) (m : ℤ) (tree : Json) → numbers.Reads w
     → number_at (word ++ rest) ≡ Ok (tree, rest)
 unfolding number_at
 number_read word rest m tree r t e =
-    let value : number_tree (value_of r.0) ≡ tree = ap number_tree (sym r.2) ∙ t in
+    let value : number_tree (decimal_value r.0) ≡ tree = ap number_tree (sym r.2) ∙ t in
     rw (parts_again word rest r.0 r.1 e, value) refl
 
 number_again : (word rest : List ℕ) (m : ℤ) → numbers.Reads word m → IsNumber m → ends_number (first rest) ≡ true

@@ -9,7 +9,7 @@ use Rattle.std.proofs.lemmas.Bool.{eqb-true}
 use Rattle.std.proofs.lemmas.List.{append-nil}
 use Rattle.fixed_num.specs.Number.{signed}
 use Rattle.fixed_num.specs.JsonNumber as numbers
-use Rattle.fixed_num.specs.JsonNumber.{Parts, IsWhole, AreDigits, IsExponent, fraction_text, number_of, value_of}
+use Rattle.fixed_num.specs.JsonNumber.{Parts, IsWhole, AreDigits, IsExponent, fraction_text, number_of, decimal_value}
 use Rattle.json_exact.specs.declared.json.Json.{Json}
 use Rattle.json_exact.specs.declared.json.Json.TheVariants as json
 use Rattle.json_exact.specs.declared.json.Member.{Member}
@@ -187,10 +187,10 @@ word_value level word tree bytes k some v e = elim (bind_err (after_word word by
 
 number_opens : (level : ℕ) (bytes : List ℕ) (k : ℕ) → number_at bytes ≡ Err k → Opens (SomeValue level) bytes k
 unfolding number_at
-number_opens level bytes k e = elim (bind_err (parts_at bytes) (λ x. Ok (number_tree (value_of x.0), x.1)) k e) [
+number_opens level bytes k e = elim (bind_err (parts_at bytes) (λ x. Ok (number_tree (decimal_value x.0), x.1)) k e) [
   | inl f ↦ renamed IsNumeral (SomeValue level) bytes k (numeral_opens bytes k f)
-      (λ w s. (number_tree (value_of s.0), number_value level s.0 w s.1))
-  | inr x ↦ absurd (no_err (number_tree (value_of x.0.0), x.0.1) k x.2)
+      (λ w s. (number_tree (decimal_value s.0), number_value level s.0 w s.1))
+  | inr x ↦ absurd (no_err (number_tree (decimal_value x.0.0), x.0.1) k x.2)
 ]
 
 flat_opens : (level : ℕ) (bytes : List ℕ) (k : ℕ) → flat_at bytes ≡ Err k → Opens (SomeValue level) bytes k

@@ -128,8 +128,8 @@ huge_spelled = record {
   joined = refl;
 }
 
-huge_value : pos (10 ^ 105) ≡ numbers.value_of huge_parts
-unfolding numbers.value_of numbers.scaled
+huge_value : pos (10 ^ 105) ≡ numbers.decimal_value huge_parts
+unfolding numbers.decimal_value numbers.scaled
 huge_value = refl
 
 huge_past : IsNumber (pos (10 ^ 105)) → ⊥

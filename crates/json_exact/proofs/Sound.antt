@@ -8,7 +8,7 @@ use Rattle.std.proofs.lemmas.Bool.{eqb-true, cases_Bool, cond-true, cond-false}
 use Rattle.std.proofs.lemmas.List.{append-nil, nil_from_length}
 use Rattle.std.proofs.Math.Nat.{max-le}
 use Rattle.fixed_num.specs.JsonNumber as numbers
-use Rattle.fixed_num.specs.JsonNumber.{Parts, value_of}
+use Rattle.fixed_num.specs.JsonNumber.{Parts, decimal_value}
 use Rattle.json_exact.specs.declared.json.Json.{Json}
 use Rattle.json_exact.specs.declared.json.Json.TheVariants as json
 use Rattle.json_exact.specs.declared.json.Member.{Member}
@@ -368,10 +368,10 @@ some_true = (omega arith, (omega arith, (omega arith, (omega arith, tt))))
 pub some_false : AllByRecursion (λ b. 0 < b) (codes "false")
 some_false = (omega arith, (omega arith, (omega arith, (omega arith, (omega arith, tt)))))
 
-pub number_value : (level : ℕ) (p : Parts) (word : List ℕ) → numbers.Spells word p → Value level (number_tree (value_of p)) word
-number_value level p word s = elim (is_number_or_not (value_of p)) [
-  | inl k ↦ rw (in_range_at_number (value_of p) k) (number (value_of p) word (p, s, refl) k, omega arith)
-  | inr none ↦ rw (in_range_elsewhere (value_of p) none) (huge (value_of p) word (p, s, refl) none, omega arith)
+pub number_value : (level : ℕ) (p : Parts) (word : List ℕ) → numbers.Spells word p → Value level (number_tree (decimal_value p)) word
+number_value level p word s = elim (is_number_or_not (decimal_value p)) [
+  | inl k ↦ rw (in_range_at_number (decimal_value p) k) (number (decimal_value p) word (p, s, refl) k, omega arith)
+  | inr none ↦ rw (in_range_elsewhere (decimal_value p) none) (huge (decimal_value p) word (p, s, refl) none, omega arith)
 ]
 
 flat_sound : (level : ℕ) → Sound (Value level) flat_at
@@ -386,7 +386,7 @@ flat_sound level bytes x e =
           | inl v ↦ word_value level (codes "true") (json.Flag true) some_true bytes x v.1 (yes, omega arith)
           | inr v ↦ elim (chosen (eqb (first bytes) 102) (word_at (codes "false") (json.Flag false) bytes) _ (Ok x) v.1) [
             | inl u ↦ word_value level (codes "false") (json.Flag false) some_false bytes x u.1 (no, omega arith)
-            | inr u ↦ flat_value level NumberIs (λ p. number_tree (value_of p)) parts_at parts_sound (number_value level) bytes x u.1
+            | inr u ↦ flat_value level NumberIs (λ p. number_tree (decimal_value p)) parts_at parts_sound (number_value level) bytes x u.1
           ]
         ]
       ]

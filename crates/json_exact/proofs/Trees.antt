@@ -1,6 +1,6 @@
 -- The trees of numbers at the front.
 use Rattle.std.proofs.Common.{◌≡◌, ℕ, List, Ok, Err, ℤ, Option, Some, None, refl, ap, sym}
-use Rattle.fixed_num.specs.JsonNumber.{Parts, value_of}
+use Rattle.fixed_num.specs.JsonNumber.{Parts, decimal_value}
 use Rattle.fixed_num.specs.Ranges.{in_range}
 use Rattle.fixed_num.specs.Steps.{◌>>=◌}
 use Rattle.fixed_num.specs.Front.{Read, parts_at, decimal_at}
@@ -12,7 +12,7 @@ read_tree : (bytes rest : List ℕ) (v : Option ℤ) → Ok (v, rest) ≡ decima
 unfolding number_at
 read_tree bytes rest v e =
     let d = decimal_parts bytes rest v (sym e) in
-    let tree : number_tree (value_of d.0) ≡ tree_of v = ap tree_of d.2 in
+    let tree : number_tree (decimal_value d.0) ≡ tree_of v = ap tree_of d.2 in
     rw (d.1, tree) refl
 
 pub number_read : (bytes rest : List ℕ) (m : ℤ) → Ok (Some m, rest) ≡ decimal_at bytes → number_at bytes ≡ Ok (json.Number m, rest)
@@ -22,7 +22,7 @@ pub huge_read : (bytes rest : List ℕ) → Ok (None, rest) ≡ decimal_at bytes
 huge_read bytes rest e = read_tree bytes rest None e
 
 abbrev valued : Parts × List ℕ → Read (Option ℤ)
-valued x = Ok (in_range (value_of x.0), x.1)
+valued x = Ok (in_range (decimal_value x.0), x.1)
 
 stopped : (r : Read Parts) (left : ℕ) → (r >>= valued) ≡ Err left → r ≡ Err left
 stopped (Ok x) left e = absurd cc

@@ -1,4 +1,3 @@
-pub mod Rows
 pub mod Semantics
 pub mod Change
 pub mod Machine

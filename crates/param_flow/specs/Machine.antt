@@ -23,7 +23,7 @@ use Rattle.param_flow.specs.declared.command.Command.TheVariants.{Change, Set, E
 use Rattle.param_flow.specs.declared.reply.Reply.{Reply}
 use Rattle.param_flow.specs.declared.reply.Reply.TheVariants.{Done, Refused}
 use Rattle.param_flow.specs.declared.reply.Cause.TheVariants as cause
-use Rattle.param_flow.specs.Rows.{row_of_json, first_bad}
+use Rattle.data_rows.specs.JsonRows.{row_of_json, first_bad}
 use Rattle.param_flow.specs.Change.{names_of_change, rows_after, count_staying}
 use Rattle.param_flow.specs.Semantics.{Semantics, ParamOf, has_source, has_param, has_settable}
 use Rattle.param_flow.specs.Semantics as kind

@@ -15,7 +15,7 @@ use Rattle.fixed_num.specs.Number.{million}
 use Rattle.cell_value.specs.declared.cell.Cell.{Cell}
 use Rattle.vega_meaning.specs.Bars.{numbers_in}
 use Rattle.plain_engine.specs.inner.Columns.{cells_of}
-use Rattle.vega_meaning.specs.Domains.{placed_in, ascending, least, greatest, extent_of, with_zero}
+use Rattle.tick_kit.specs.Domains.{placed_in, ascending, least, greatest, extent_of, with_zero}
 
 ordering_cases : {P : Type 0} (o : Ordering) → (o ≡ Less → P) → (o ≡ Equal → P) → (o ≡ Greater → P) → P
 ordering_cases Less less same more = less refl

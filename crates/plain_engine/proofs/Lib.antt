@@ -1,5 +1,4 @@
 pub mod RangeLemmas
-pub mod StepLemmas
 pub mod IndexLemmas
 pub mod Outcomes
 pub mod DomainLemmas

@@ -14,7 +14,7 @@ use Rattle.cell_value.specs.declared.state.Keyed.{Keyed}
 use Rattle.cell_value.specs.declared.state.StoreOf.{StoreOf}
 use Rattle.cell_value.specs.Datum.{Datum, datum_of}
 use Rattle.cell_value.specs.State.{Dataset, State, all_rows, ids_of, most_rows, greatest_id, ReadsItsId}
-use Rattle.param_flow.specs.Rows.{row_of_json}
+use Rattle.data_rows.specs.JsonRows.{row_of_json}
 use Rattle.param_flow.specs.Machine.{new_rows}
 use Rattle.bar_spec.specs.declared.spec.BarSpec.{BarSpec}
 use Rattle.vega_meaning.specs.Bars.{rows_of, scene_of_rows, vega_scene_of}

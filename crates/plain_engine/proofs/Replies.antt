@@ -11,7 +11,7 @@ use Rattle.param_flow.specs.declared.command.Command.TheVariants.{Change}
 use Rattle.param_flow.specs.declared.reply.Reply.{Reply}
 use Rattle.param_flow.specs.declared.reply.Reply.TheVariants.{Refused}
 use Rattle.param_flow.specs.declared.reply.Cause.TheVariants as cause
-use Rattle.param_flow.specs.Rows.{first_bad}
+use Rattle.data_rows.specs.JsonRows.{first_bad}
 use Rattle.param_flow.specs.Semantics.{Semantics}
 use Rattle.param_flow.specs.Machine.{is_past_limit, has_names, reply_to_state, reply_to_change, state_changed, state_if, reply_of}
 use Rattle.param_flow.specs.Machine.{state_after}

@@ -10,9 +10,9 @@ use crate::domains::amounts_with_zero;
 use crate::pixels::pixels;
 use crate::places::place_of_number;
 use crate::scales::{Band, Linear, Overflow, space_of};
-use crate::steps::nice_of;
 use cell_value::Cell;
 use fixed_num::Num;
+use tick_kit::nice;
 
 /// The padding between bands, in millionths of a step.
 const INNER: u32 = 100_000;
@@ -55,7 +55,7 @@ pub fn y_scale(cells: &[&Cell]) -> Result<Linear, Overflow>
     ensures { outcome_map linear_of (outcome_of result) ≡ y_scale (cells_of cells.now) }
 {
     let (low, high) = amounts_with_zero(cells);
-    match nice_of(low, high, 10) {
+    match nice(low, high, 10) {
         Some((d0, d1)) => Ok(Linear {
             d0,
             d1,

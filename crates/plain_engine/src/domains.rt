@@ -3,7 +3,7 @@ ghost use Rattle.std.specs.Prelude.{◌≡◌, ◌≤◌, ◌≤ℤ◌, length, 
 ghost use Rattle.std.specs.Int.{int_min, int_max};
 ghost use Rattle.std.specs.List.{flat_map};
 ghost use Rattle.vega_meaning.specs.Bars.{x_domain, numbers_in};
-ghost use Rattle.vega_meaning.specs.Domains.{extent_of, with_zero};
+ghost use Rattle.tick_kit.specs.Domains.{extent_of, with_zero};
 ghost use Rattle.plain_engine.specs.inner.Columns.{cells_of, AreAscending};
 
 use crate::pixels::pixels;

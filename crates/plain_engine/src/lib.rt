@@ -13,6 +13,5 @@ mod places;
 mod scales;
 mod scene;
 mod sources;
-mod steps;
 
 pub use engine::PlainEngine;

@@ -51,7 +51,7 @@ pub kept_are_rows : (test : Keyed → Option Bool) (rows : List Keyed) → AreRo
 kept_are_rows test rows are (Ok ys) e = subst AreRows (kept_passes test rows ys e) (filter_are_rows (λ x. unwrap_or (test x) false) rows are)
 kept_are_rows test rows are (Err e) h = tt
 
-first_and_rest : {Y : Type 0} (o : Option Y) (os : Option (List Y)) (ys : List Y) → (o >>= λ y. os >>= λ zs. Some (y ∷ zs)) ≡ Some ys → (y : Y) × (zs : List Y) × (o ≡ Some y) × (os ≡ Some zs) × (ys ≡ y ∷ zs)
+pub first_and_rest : {Y : Type 0} (o : Option Y) (os : Option (List Y)) (ys : List Y) → (o >>= λ y. os >>= λ zs. Some (y ∷ zs)) ≡ Some ys → (y : Y) × (zs : List Y) × (o ≡ Some y) × (os ≡ Some zs) × (ys ≡ y ∷ zs)
 first_and_rest None os ys e = absurd cc
 first_and_rest (Some y) None ys e = absurd cc
 first_and_rest (Some y) (Some zs) ys e = (y, zs, refl, refl, cc)

@@ -1,6 +1,6 @@
-mod Lists
-mod Keys
-mod Readings
+pub mod Lists
+pub mod Keys
+pub mod Readings
 mod UnitLemmas
 pub mod FoldLemmas
-mod LookupLemmas
+pub mod LookupLemmas

@@ -9,7 +9,7 @@ use Rattle.expr_eval.proofs.Several.{none_behind, all_more}
 use Rattle.plain_rows.specs.Filters.{kept}
 
 -- a list that was seen twice
-seen_twice : {X Y Z : Type 0} (f : Y → Z) (see : X → Y) (xs : List X) → map f (map see xs) ≡ map (λ x. f (see x)) xs
+pub seen_twice : {X Y Z : Type 0} (f : Y → Z) (see : X → Y) (xs : List X) → map f (map see xs) ≡ map (λ x. f (see x)) xs
 seen_twice f see [] = refl
 seen_twice f see (x ∷ xs) = ap (λ l. f (see x) ∷ l) (seen_twice f see xs)
 
@@ -17,7 +17,7 @@ seen_either : {X Y : Type 0} (see : X → Y) (b : Bool) (x : X) (l : List X) →
 seen_either see true x l = refl
 seen_either see false x l = refl
 
-filter_seen : {X Y : Type 0} (p : Y → Bool) (see : X → Y) (xs : List X) → filter p (map see xs) ≡ map see (filter (λ x. p (see x)) xs)
+pub filter_seen : {X Y : Type 0} (p : Y → Bool) (see : X → Y) (xs : List X) → filter p (map see xs) ≡ map see (filter (λ x. p (see x)) xs)
 filter_seen p see [] = refl
 filter_seen p see (x ∷ xs) = ap (λ l. cond (p (see x)) (see x ∷ l) l) (filter_seen p see xs) ∙ seen_either see (p (see x)) x (filter (λ x. p (see x)) xs)
 

@@ -77,7 +77,7 @@ pub id_of_place : (places : tree.BTreeMap Cell ℕ) (rows : List Keyed) (c : Cel
 id_of_place places rows c row = found_at rows (tree.get cell_cmp places c) row
 
 -- keys of rows that take cells
-key_stays : (cells : List (List ℕ × Cell)) (keyed : Keyed) → (with_cells keyed cells).key ≡ keyed.key
+pub key_stays : (cells : List (List ℕ × Cell)) (keyed : Keyed) → (with_cells keyed cells).key ≡ keyed.key
 key_stays [] keyed = refl
 key_stays (cell ∷ cells) keyed = key_stays cells (with_cell cell.0 cell.1 keyed)
 
@@ -91,7 +91,7 @@ looked_up_are_rows how other rows are (Ok out) e = subst AreRows (sym e) (subst 
 looked_up_are_rows how other rows are (Err e) h = tt
 
 -- what is read of rows that take cells
-reads_cells : (cells : List (List ℕ × Cell)) (keyed : Keyed) → datum_of (with_cells keyed cells) ≡ data_with_cells (datum_of keyed) cells
+pub reads_cells : (cells : List (List ℕ × Cell)) (keyed : Keyed) → datum_of (with_cells keyed cells) ≡ data_with_cells (datum_of keyed) cells
 reads_cells [] keyed = refl
 reads_cells (cell ∷ cells) keyed = reads_cells cells (with_cell cell.0 cell.1 keyed) ∙ ap (λ datum. data_with_cells datum cells) (sym (reads_with cell.0 cell.1 keyed))
 

@@ -21,7 +21,7 @@ use Rattle.plain_rows.specs.Calculations.{calculated, data_calculated, with_cell
 use Rattle.plain_rows.proofs.Lists.{kept_seen, all_seen}
 
 -- an answer reads as what the rows of the definition read as
-reads_so : (result : Result (List Keyed) EvalError) (given : Option (List Keyed)) (read : Option (List Datum)) → read ≡ option_map (map datum_of) given → Evaluates result given → GivesRows result read
+pub reads_so : (result : Result (List Keyed) EvalError) (given : Option (List Keyed)) (read : Option (List Datum)) → read ≡ option_map (map datum_of) given → Evaluates result given → GivesRows result read
 reads_so (Ok rows) given read same e = same ∙ ap (option_map (map datum_of)) e
 reads_so (Err Overflow) given read same e = same ∙ ap (option_map (map datum_of)) e
 reads_so (Err Memory) given read same e = tt

@@ -49,10 +49,14 @@ two_fields = record { fields = codes "a" ∷ codes "b" ∷ []; out_key = codes "
 abbrev null_datum : Datum
 null_datum = record { key = record { id = 7; branch = 3 }; cell = null_row }
 
-branches_count_on : map (λ (datum : Datum). datum.key.branch) (data_folded two_fields (null_datum ∷ [])) ≡ 6 ∷ 7 ∷ []
+-- a null row, folded
+abbrev folded_null : List Datum
+folded_null = data_folded two_fields (null_datum ∷ [])
+
+branches_count_on : map (λ (datum : Datum). datum.key.branch) folded_null ≡ 6 ∷ 7 ∷ []
 branches_count_on = refl
 
-the_names_of_the_fields : map (λ (datum : Datum). datum.cell (codes "key")) (data_folded two_fields (null_datum ∷ [])) ≡ Text (codes "a") ∷ Text (codes "b") ∷ []
+the_names_of_the_fields : map (λ (datum : Datum). datum.cell (codes "key")) folded_null ≡ Text (codes "a") ∷ Text (codes "b") ∷ []
 the_names_of_the_fields = refl
 
 -- both names are one

@@ -20,7 +20,7 @@ fn id_number(id: u64) -> Num
 }
 
 /// The cell that a row reads under a name: the id under `_vgsid_`, and null under an absent name.
-pub(crate) fn cell_of(keyed: &Keyed, name: &str) -> Result<Cell, OutOfMemory>
+pub fn cell_of(keyed: &Keyed, name: &str) -> Result<Cell, OutOfMemory>
     requires { keyed.now.key.id ≤ greatest_id }
     ensures { IfOk result (λ cell. cell ≡ cell_at keyed.now name.now) }
 {

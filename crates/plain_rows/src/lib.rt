@@ -11,10 +11,11 @@ mod time_units;
 mod transforms;
 
 pub use calculations::calculate;
+pub use cells::cell_of;
 pub use evaluation::{eval_row, eval_test};
 pub use filters::filter;
 pub use folds::fold;
-pub use lookups::lookup;
+pub use lookups::{lookup, with_cells};
 pub use time_units::time_unit;
 pub use transforms::{
     BinOf, FoldOf, GroupOf, LookupOf, Offset, OpOf, SortBy, StackOf, TimeOf, WindowOf,

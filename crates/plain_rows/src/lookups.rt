@@ -17,9 +17,9 @@ use text_kit::{OutOfMemory, Seq, Text};
 
 /// The rows, in order, each with cells of the last row of `other` whose cell of `key_there` is the same as the row's cell of
 /// `key_here`: the cell of each of `fields`, null where that row lacks it, under the name in its place in `outs`. Where no row of
-/// `other` has the key, each of these is `otherwise`; null is a key like others. Of equal names in `outs` the last holds. There are as many `outs` as `fields`; of
-/// both lists the keys rise, the ids are at most 10^15, and there are at most 1,600,000 rows. It takes one map of the rows of `other` and
-/// no search for each row.
+/// `other` has the key, each of these is `otherwise`; null is a key like others. Of equal names in `outs` the last holds. There are
+/// as many `outs` as `fields`; of both lists the keys rise, the ids are at most 10^15, and there are at most 1,600,000 rows. It takes
+/// one map of the rows of `other` and no search for each row.
 #[tactic(auto, using(crate::proofs::LookupLemmas::looked_up_are_rows, crate::proofs::LookupLemmas::lookup_reads))]
 pub fn lookup(alloc: Global, rows: &Rows, other: &Rows, how: &LookupOf) -> Result<Rows, OutOfMemory>
     requires rows { AreRows rows.now }
@@ -121,8 +121,8 @@ fn defaults_of(alloc: Global, how: &LookupOf) -> Result<Seq<(Text, Cell)>, OutOf
     Ok(cells)
 }
 
-// A copy of a row with cells put in one after the other.
-fn with_cells(row: &Keyed, cells: Seq<(Text, Cell)>) -> Result<Keyed, OutOfMemory>
+/// A copy of a row with cells put in one after the other, so that of several under one name the last holds.
+pub fn with_cells(row: &Keyed, cells: Seq<(Text, Cell)>) -> Result<Keyed, OutOfMemory>
     ensures { IfOk result (λ made. made ≡ with_cells row.now cells) }
 {
     let mut made = row.copy()?;

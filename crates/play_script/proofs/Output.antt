@@ -17,7 +17,7 @@ use Rattle.param_flow.specs.Commands.{IsCommand, command_of}
 use Rattle.param_flow.specs.Semantics.{Semantics, has_settable}
 use Rattle.param_flow.specs.Machine.{reply_to_chart, reply_to_rows, reply_to_state, reply_to_change, reply_to_set, reply_of, has_names}
 use Rattle.param_flow.specs.Machine.{state_if, state_after, state_changed, state_set, is_past_limit}
-use Rattle.param_flow.specs.Rows.{first_bad}
+use Rattle.data_rows.specs.JsonRows.{first_bad}
 use Rattle.param_flow.specs.Playing.{IsReply, reply_text, refused, printed, told}
 use Rattle.param_flow.specs.Script.{IsLine, IsOutput, is_silent, most_line_bytes, refused_line, silent, too_long, replied, no_line}
 use Rattle.param_flow.specs.Script.{one_line}

@@ -18,7 +18,7 @@ use Rattle.spec_schema.specs.declared.form.Form.{Form}
 use Rattle.spec_schema.specs.declared.layout.Layout.{Layout}
 use Rattle.spec_schema.specs.declared.layout.Rule.{Rule}
 use Rattle.spec_schema.specs.Layouts.{has_name}
-use Rattle.spec_schema.specs.Forms.{form_of, items_shape, layout_of}
+use Rattle.spec_schema.specs.Forms.{taken_form, items_shape, layout_of}
 use Rattle.spec_schema.specs.Faults.{Judged, faults_in, judged_items, judged_row, judged_members, unless_wrong, list_faults, object_faults}
 use Rattle.spec_schema.specs.Faults.{members_of, member_faults, is_missing, missing_fault, member_names, first}
 
@@ -35,19 +35,19 @@ members-are schema n (more_of-Member name value others) =
 
 -- what a list is judged by
 pub faults_in-List : (schema : Schema) (items : List Json) (shape : ℕ)
-    → faults_in schema (json.List items) shape ≡ unless_wrong (form_of schema shape (out-Json (json.List items)))
+    → faults_in schema (json.List items) shape ≡ unless_wrong (taken_form schema shape (out-Json (json.List items)))
     (λ form. list_faults (items_shape form) (map (faults_in schema) items))
 faults_in-List schema items shape =
-    ap (λ (judged : List Judged). unless_wrong (form_of schema shape (out-Json (json.List items)))
+    ap (λ (judged : List Judged). unless_wrong (taken_form schema shape (out-Json (json.List items)))
     (λ form. list_faults (items_shape form) judged)) (items-are schema _ (hidden-the_row-Json-0 items)
     ∙ ap (map (faults_in schema)) (items_hidden-the_row-Json-0 items))
 
 -- what an object is judged by
 pub faults_in-Object : (schema : Schema) (members : List Member) (shape : ℕ)
-    → faults_in schema (json.Object members) shape ≡ unless_wrong (form_of schema shape (out-Json (json.Object members)))
+    → faults_in schema (json.Object members) shape ≡ unless_wrong (taken_form schema shape (out-Json (json.Object members)))
     (λ form. object_faults (layout_of schema form (members_of (out-Json (json.Object members)))) (judged_members schema members))
 faults_in-Object schema members shape =
-    ap (λ (judged : List (List ℕ × Judged)). unless_wrong (form_of schema shape (out-Json (json.Object members)))
+    ap (λ (judged : List (List ℕ × Judged)). unless_wrong (taken_form schema shape (out-Json (json.Object members)))
     (λ form. object_faults (layout_of schema form (members_of (out-Json (json.Object members)))) judged))
     (members-are schema _ (hidden-the_row-Member-1 members) ∙ ap (judged_members schema) (items_hidden-the_row-Member-1 members))
 
@@ -73,21 +73,21 @@ first-map-some f (y ∷ xs) x some = let e : y ≡ x = cc in ap (λ (z : Fault).
 -- ---- what the search finds
 
 pub in_list : (schema : Schema) (tree : Json) (shape : ℕ) (form : Form) (items slice : List Json) (asked : Option ℕ) →
-    tree ≡ json.List items → Some form ≡ form_of schema shape (out-Json tree) → slice ≡ items → asked ≡ items_shape form →
+    tree ≡ json.List items → Some form ≡ taken_form schema shape (out-Json tree) → slice ≡ items → asked ≡ items_shape form →
     first (list_faults asked (map (faults_in schema) slice)) ≡ first (faults_in schema tree shape)
 in_list schema tree shape form items slice asked is some same asks =
     let inside : Form → List Fault = λ f. list_faults (items_shape f) (map (faults_in schema) items) in
-    let known : Some form ≡ form_of schema shape (out-Json (json.List items)) = some ∙ ap (λ t. form_of schema shape (out-Json t)) is in
+    let known : Some form ≡ taken_form schema shape (out-Json (json.List items)) = some ∙ ap (λ t. taken_form schema shape (out-Json t)) is in
     let front : list_faults asked (map (faults_in schema) slice) ≡ inside form = rw (same, asks) refl in
     ap first (front ∙ ap (λ o. unless_wrong o inside) known ∙ sym (faults_in-List schema items shape)
     ∙ ap (λ t. faults_in schema t shape) (sym is))
 
 pub in_object : (schema : Schema) (tree : Json) (shape : ℕ) (form : Form) (members slice : List Member) →
-    tree ≡ json.Object members → Some form ≡ form_of schema shape (out-Json tree) → slice ≡ members →
+    tree ≡ json.Object members → Some form ≡ taken_form schema shape (out-Json tree) → slice ≡ members →
     first (object_faults (layout_of schema form slice) (judged_members schema slice)) ≡ first (faults_in schema tree shape)
 in_object schema tree shape form members slice is some same =
     let inside : List Member → Form → List Fault = λ ms f. object_faults (layout_of schema f ms) (judged_members schema members) in
-    let known : Some form ≡ form_of schema shape (out-Json (json.Object members)) = some ∙ ap (λ t. form_of schema shape (out-Json t)) is in
+    let known : Some form ≡ taken_form schema shape (out-Json (json.Object members)) = some ∙ ap (λ t. taken_form schema shape (out-Json t)) is in
     let front : object_faults (layout_of schema form slice) (judged_members schema slice) ≡ inside members form = rw same refl in
     let opened : members ≡ members_of (out-Json (json.Object members)) =
     sym (ap members_of (ap out-Json (sym (rolls-Object members)) ∙ out-roll-Json (level.Object members))) in

@@ -14,7 +14,7 @@ use Rattle.spec_schema.specs.declared.form.Form.{Form}
 use Rattle.spec_schema.specs.declared.layout.Layout.{Layout}
 use Rattle.spec_schema.specs.declared.layout.Rule.{Rule}
 use Rattle.spec_schema.specs.declared.schema.Schema.{Schema}
-use Rattle.spec_schema.specs.Forms.{form_of, items_shape, layout_of}
+use Rattle.spec_schema.specs.Forms.{taken_form, items_shape, layout_of}
 use Rattle.spec_schema.specs.Layouts.{shape_in}
 use Rattle.spec_schema.specs.Faults.{Judged, here, below, faults_by, is_missing, missing_fault, missing_faults, list_faults, object_faults}
 use Rattle.spec_schema.specs.Faults.{unless_wrong, members_of, faults_in, judged_items, judged_row}
@@ -204,17 +204,17 @@ by_ordered (Some c) value h = h c
 
 mutual
   pub ordered : (schema : Schema) (tree : Json) (shape : ℕ) → in_order (faults_in schema tree shape) ≡ true
-  ordered schema Null shape = unless_ordered (form_of schema shape (out-Json Null)) (λ form. []) (λ form. refl)
-  ordered schema (Flag b) shape = unless_ordered (form_of schema shape (out-Json (Flag b))) (λ form. []) (λ form. refl)
-  ordered schema (Number n) shape = unless_ordered (form_of schema shape (out-Json (Number n))) (λ form. []) (λ form. refl)
-  ordered schema Huge shape = unless_ordered (form_of schema shape (out-Json Huge)) (λ form. []) (λ form. refl)
-  ordered schema (Text t) shape = unless_ordered (form_of schema shape (out-Json (Text t))) (λ form. []) (λ form. refl)
+  ordered schema Null shape = unless_ordered (taken_form schema shape (out-Json Null)) (λ form. []) (λ form. refl)
+  ordered schema (Flag b) shape = unless_ordered (taken_form schema shape (out-Json (Flag b))) (λ form. []) (λ form. refl)
+  ordered schema (Number n) shape = unless_ordered (taken_form schema shape (out-Json (Number n))) (λ form. []) (λ form. refl)
+  ordered schema Huge shape = unless_ordered (taken_form schema shape (out-Json Huge)) (λ form. []) (λ form. refl)
+  ordered schema (Text t) shape = unless_ordered (taken_form schema shape (out-Json (Text t))) (λ form. []) (λ form. refl)
   ordered schema (List' size items) shape =
-      unless_ordered (form_of schema shape (out-Json (List' size items)))
+      unless_ordered (taken_form schema shape (out-Json (List' size items)))
       (λ form. list_faults (items_shape form) (judged_items schema items))
       (λ form. list_ordered (items_shape form) (judged_items schema items) (items_ordered schema items))
   ordered schema (Object' size members) shape =
-      unless_ordered (form_of schema shape (out-Json (Object' size members)))
+      unless_ordered (taken_form schema shape (out-Json (Object' size members)))
       (λ form. object_faults (layout_of schema form (members_of (out-Json (Object' size members)))) (judged_row schema members))
       (λ form. object_ordered (layout_of schema form (members_of (out-Json (Object' size members)))) (judged_row schema members)
       (members_ordered schema members))

@@ -17,7 +17,7 @@ use Rattle.spec_schema.specs.declared.layout.Layout.{Layout}
 use Rattle.spec_schema.specs.declared.schema.Schema.{Schema}
 use Rattle.spec_schema.specs.Values.{Opened}
 use Rattle.spec_schema.specs.Layouts.{shape_in}
-use Rattle.spec_schema.specs.Forms.{form_of, items_shape, layout_of}
+use Rattle.spec_schema.specs.Forms.{taken_form, items_shape, layout_of}
 
 -- a fault at the value itself
 abbrev pub here : SpecKind → Fault
@@ -88,14 +88,14 @@ members_of other = []
 abbrev mutual
   -- the faults of a value by its shape
   pub faults_in : Schema → Json → Judged
-  faults_in schema Null = λ shape. unless_wrong (form_of schema shape (out-Json Null)) (λ form. [])
-  faults_in schema (Flag b) = λ shape. unless_wrong (form_of schema shape (out-Json (Flag b))) (λ form. [])
-  faults_in schema (Number n) = λ shape. unless_wrong (form_of schema shape (out-Json (Number n))) (λ form. [])
-  faults_in schema Huge = λ shape. unless_wrong (form_of schema shape (out-Json Huge)) (λ form. [])
-  faults_in schema (Text t) = λ shape. unless_wrong (form_of schema shape (out-Json (Text t))) (λ form. [])
-  faults_in schema (List' size items) = λ shape. unless_wrong (form_of schema shape (out-Json (List' size items)))
+  faults_in schema Null = λ shape. unless_wrong (taken_form schema shape (out-Json Null)) (λ form. [])
+  faults_in schema (Flag b) = λ shape. unless_wrong (taken_form schema shape (out-Json (Flag b))) (λ form. [])
+  faults_in schema (Number n) = λ shape. unless_wrong (taken_form schema shape (out-Json (Number n))) (λ form. [])
+  faults_in schema Huge = λ shape. unless_wrong (taken_form schema shape (out-Json Huge)) (λ form. [])
+  faults_in schema (Text t) = λ shape. unless_wrong (taken_form schema shape (out-Json (Text t))) (λ form. [])
+  faults_in schema (List' size items) = λ shape. unless_wrong (taken_form schema shape (out-Json (List' size items)))
       (λ form. list_faults (items_shape form) (judged_items schema items))
-  faults_in schema (Object' size members) = λ shape. unless_wrong (form_of schema shape (out-Json (Object' size members)))
+  faults_in schema (Object' size members) = λ shape. unless_wrong (taken_form schema shape (out-Json (Object' size members)))
       (λ form. object_faults (layout_of schema form (members_of (out-Json (Object' size members)))) (judged_row schema members))
 
   -- each item of a list

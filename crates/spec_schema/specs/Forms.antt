@@ -36,8 +36,8 @@ abbrev pub takes : Schema → ℕ → Opened → Shape → Bool
 takes schema shape tree entry = entry.code == shape && fits schema entry.form tree
 
 -- the first form of the shape that the value has
-abbrev pub form_of : Schema → ℕ → Opened → Option Form
-form_of schema shape tree = option_map (λ (s : Shape). s.form) (find (takes schema shape tree) schema.shapes)
+abbrev pub taken_form : Schema → ℕ → Opened → Option Form
+taken_form schema shape tree = option_map (λ (s : Shape). s.form) (find (takes schema shape tree) schema.shapes)
 
 -- the shape of the items, where the form is that of a list
 abbrev pub items_shape : Form → Option ℕ

@@ -2,7 +2,7 @@
 ghost use Rattle.std.specs.Prelude.{◌≡◌};
 ghost use Rattle.std.specs.Option.{option_copied, is_some};
 ghost use Rattle.json_exact.specs.declared.json.Json.{out-Json};
-ghost use Rattle.spec_schema.specs.Forms.{form_of, takes, fits, names_of, layout_of};
+ghost use Rattle.spec_schema.specs.Forms.{taken_form, takes, fits, names_of, layout_of};
 ghost use Rattle.spec_schema.specs.Values.{object_passes};
 ghost use Rattle.spec_schema.specs.Layouts.{layout_in};
 
@@ -92,7 +92,7 @@ fn takes(schema: &Schema, shape: u16, entry: Shape, tree: &Json) -> bool
 
 /// The first form of the shape that the value has; None exactly where it has none.
 pub fn form_of(schema: &Schema, shape: u16, tree: &Json) -> Option<Form>
-    ensures { result ≡ form_of schema.now shape (out-Json tree.now) }
+    ensures { result ≡ taken_form schema.now shape (out-Json tree.now) }
 {
     for entry in schema.shapes.as_slice() {
         if takes(schema, shape, *entry, tree) {

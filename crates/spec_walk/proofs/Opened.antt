@@ -11,7 +11,7 @@ use Rattle.json_exact.specs.declared.json.Json.TheOpen as level
 use Rattle.json_exact.specs.declared.json.Member.{Member}
 use Rattle.spec_schema.specs.declared.schema.Schema.{Schema}
 use Rattle.spec_schema.specs.declared.form.Form.{Form}
-use Rattle.spec_schema.specs.Forms.{form_of, items_shape, layout_of}
+use Rattle.spec_schema.specs.Forms.{taken_form, items_shape, layout_of}
 use Rattle.spec_schema.specs.Faults.{members_of}
 use Rattle.spec_walk.specs.Walk.{Noting, Visiting, Seen, seen_in, seen_items, seen_row, seen_members, where_formed, list_parts, object_parts}
 use Rattle.spec_walk.specs.inner.Inside.{inside}
@@ -55,7 +55,7 @@ inside-Object {A} {P} schema noted visit members form trail =
 -- ---- a value
 
 opened : {A P : Type 0} (schema : Schema) (noted : Noting A) (visit : Visiting A P) (tree : Json) (number shape : ℕ) (round : List A) →
-    seen_in schema noted visit tree number shape round ≡ where_formed (form_of schema shape (out-Json tree))
+    seen_in schema noted visit tree number shape round ≡ where_formed (taken_form schema shape (out-Json tree))
     (λ form. visit (noted number shape tree ∷ round) tree ++ inside schema noted visit tree form (noted number shape tree ∷ round))
 opened schema noted visit Null number shape round = refl
 opened schema noted visit (Flag b) number shape round = refl
@@ -67,7 +67,7 @@ opened schema noted visit (Object' size members) number shape round = refl
 
 -- a value that was visited, and then what stands inside it
 pub walked : {A P : Type 0} (schema : Schema) (noted : Noting A) (visit : Visiting A P) (tree : Json) (number shape : ℕ) (form : Form)
-    (round trail : List A) (before entered after left : List P) → Some form ≡ form_of schema shape (out-Json tree) →
+    (round trail : List A) (before entered after left : List P) → Some form ≡ taken_form schema shape (out-Json tree) →
     trail ≡ noted number shape tree ∷ round → entered ≡ before ++ visit trail tree →
     after ≡ entered ++ inside schema noted visit tree form trail → left ≡ after →
     left ≡ before ++ seen_in schema noted visit tree number shape round

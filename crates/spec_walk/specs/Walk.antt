@@ -8,7 +8,7 @@ use Rattle.spec_schema.specs.declared.form.Form.{Form}
 use Rattle.spec_schema.specs.declared.layout.Layout.{Layout}
 use Rattle.spec_schema.specs.declared.schema.Schema.{Schema}
 use Rattle.spec_schema.specs.Layouts.{shape_in}
-use Rattle.spec_schema.specs.Forms.{form_of, items_shape, layout_of}
+use Rattle.spec_schema.specs.Forms.{taken_form, items_shape, layout_of}
 use Rattle.spec_schema.specs.Faults.{members_of}
 
 -- what is noted of a value: by its number among its parent's children, its shape and itself
@@ -44,7 +44,7 @@ where_formed (Some form) inside = inside form
 
 -- a value that has a form of its shape is visited, and then what stands inside it, which gives the rest
 abbrev pub visited : {A P : Type 0} → Schema → Noting A → Visiting A P → Json → (Form → List A → List P) → Seen A P
-visited schema noted visit tree inside number shape round = where_formed (form_of schema shape (out-Json tree))
+visited schema noted visit tree inside number shape round = where_formed (taken_form schema shape (out-Json tree))
     (λ form. visit (noted number shape tree ∷ round) tree ++ inside form (noted number shape tree ∷ round))
 
 abbrev mutual

@@ -20,8 +20,8 @@ use Rattle.bar_spec.specs.declared.spec.BarSpec.{BarSpec}
 use Rattle.fixed_num.specs.Ranges.{in_range}
 use Rattle.fixed_num.specs.Bands.{space_of}
 use Rattle.vega_meaning.specs.Pixels.{pixels}
-use Rattle.vega_meaning.specs.Domains.{ascending, extent_of, with_zero}
-use Rattle.vega_meaning.specs.Steps.{nice_of}
+use Rattle.tick_kit.specs.Domains.{ascending, extent_of, with_zero}
+use Rattle.tick_kit.specs.Steps.{nice_of}
 use Rattle.vega_meaning.specs.Scales.{Linear, place_of_number, linear_place, Band, band_place, band_width}
 use Rattle.vega_meaning.specs.Frames.{scene_around}
 

@@ -12,7 +12,7 @@ use Rattle.cell_value.specs.Datum.{Datum}
 use Rattle.scene_tree.specs.Outcome.{Outcome, Drawn, outcome_map}
 use Rattle.svg_text.specs.SceneText.{svg_of}
 use Rattle.vega_meaning.specs.Pixels.{pixels}
-use Rattle.vega_meaning.specs.Steps.{step_of}
+use Rattle.tick_kit.specs.Steps.{step_of, spaced}
 use Rattle.vega_meaning.specs.Bars.{scene_of_rows}
 
 -- a row that reads so under `x` and `y`
@@ -40,7 +40,7 @@ three_bars : picture ((Text (codes "A"), Number (pixels 28)) ∷ (Text (codes "B
     ++ line (codes "<rect x=\"41\" y=\"43.636364\" width=\"18\" height=\"156.363636\" fill=\"#4c78a8\"/>")
     ++ line (codes "</g>")
     ++ line (codes "</svg>"))
-unfolding step_of rounded floored ceiled floor_quotient spelling size_spelling fraction_spelling fraction_digits digits chars encode
+unfolding step_of spaced rounded floored ceiled floor_quotient spelling size_spelling fraction_spelling fraction_digits digits chars encode
 three_bars = refl
 
 -- a row whose amount is no number widens the plot, has no bar, and no part in the height of the others
@@ -51,7 +51,7 @@ no_amount : picture ((Text (codes "A"), Number (pixels 55)) ∷ (Text (codes "D"
     ++ line (codes "<rect x=\"1\" y=\"0\" width=\"18\" height=\"200\" fill=\"#4c78a8\"/>")
     ++ line (codes "</g>")
     ++ line (codes "</svg>"))
-unfolding step_of rounded floored ceiled floor_quotient spelling size_spelling fraction_spelling fraction_digits digits chars encode
+unfolding step_of spaced rounded floored ceiled floor_quotient spelling size_spelling fraction_spelling fraction_digits digits chars encode
 no_amount = refl
 
 -- null comes before all texts; a bar of a number below zero hangs down from the place of zero
@@ -62,5 +62,5 @@ below_zero : picture ((Text (codes "A"), Number (pixels 3)) ∷ (Null, Number (n
     ++ line (codes "<rect x=\"1\" y=\"120\" width=\"18\" height=\"80\" fill=\"#4c78a8\"/>")
     ++ line (codes "</g>")
     ++ line (codes "</svg>"))
-unfolding step_of rounded floored ceiled floor_quotient spelling size_spelling fraction_spelling fraction_digits digits chars encode
+unfolding step_of spaced rounded floored ceiled floor_quotient spelling size_spelling fraction_spelling fraction_digits digits chars encode
 below_zero = refl

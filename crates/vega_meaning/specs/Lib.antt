@@ -1,6 +1,4 @@
 pub mod Pixels
-pub mod Domains
-pub mod Steps
 pub mod Scales
 pub mod Frames
 pub mod Bars

@@ -6,8 +6,8 @@ use Rattle.vega_schema.specs.declared.codes.TheConstants.{CELL, CHANNEL, CHANNEL
 use Rattle.vega_schema.specs.declared.codes.TheConstants.{WORDS_CHANNEL, WORDS_VALUE}
 
 -- an encode set
-unfoldable pub channels : Layout
-channels = record {
+unfoldable pub channel_members : Layout
+channel_members = record {
   object = CHANNELS;
   when = [];
   rules =
@@ -49,4 +49,4 @@ words_value = record {
 
 -- all of these
 abbrev pub all_channels : List Layout
-all_channels = channels ∷ value ∷ words_value ∷ []
+all_channels = channel_members ∷ value ∷ words_value ∷ []

@@ -1,6 +1,6 @@
 //! The members of objects: channels.
 ghost use Rattle.std.specs.Prelude.{◌≡◌, ◌++◌, IfOk, OnOk};
-ghost use Rattle.vega_schema.specs.Channels.{channels, value, words_value, all_channels};
+ghost use Rattle.vega_schema.specs.Channels.{channel_members, value, words_value, all_channels};
 
 use crate::codes::{
     CELL, CHANNEL, CHANNELS, EXPRESSION, FREE, LABEL_FORMAT, NUMBER, TEXT, VALUE, WORDS_CHANNEL,
@@ -11,9 +11,9 @@ use std::alloc::Global;
 use text_kit::{OutOfMemory, Seq};
 
 // An encode set.
-#[tactic(auto, unfolding(crate::specs::Channels::channels))]
+#[tactic(auto, unfolding(crate::specs::Channels::channel_members))]
 fn channels(alloc: Global) -> Result<Layout, OutOfMemory>
-    ensures { IfOk result (λ l. l ≡ channels) }
+    ensures { IfOk result (λ l. l ≡ channel_members) }
 {
     layout_by(
         alloc,

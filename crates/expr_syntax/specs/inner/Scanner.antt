@@ -3,7 +3,7 @@ use Rattle.std.specs.Prelude.{ℕ, ◌+◌, List, [], ◌∷◌, length, take, d
 use Rattle.std.specs.Prelude.{if◌then◌else◌, Result, Ok, Err, Option, Some, None}
 use Rattle.std.specs.List.{prefix_len}
 use Rattle.std.specs.Char.{is_ascii_digit}
-use Rattle.fixed_num.specs.JsonNumber.{value_of}
+use Rattle.fixed_num.specs.JsonNumber.{decimal_value}
 use Rattle.fixed_num.specs.Ranges.{◌>>=◌, in_range}
 use Rattle.fixed_num.specs.Front.{first}
 use Rattle.expr_syntax.specs.NumberText.{parts_of}
@@ -77,7 +77,7 @@ number_len behind (byte ∷ others) = if belongs behind byte then 1 + number_len
 
 -- the number that a text is, if it is in range
 abbrev pub number_in : List ℕ → Option ℤ
-number_in text = parts_of text >>= λ parts. in_range (value_of parts)
+number_in text = parts_of text >>= λ parts. in_range (decimal_value parts)
 
 -- a number before the rest
 abbrev pub number_with : Option ℤ → List ℕ → Read Token

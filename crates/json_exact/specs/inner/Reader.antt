@@ -4,7 +4,7 @@ use Rattle.std.specs.Prelude.{nat_lt, nat_le, if◌then◌else◌, Result, Ok, O
 use Rattle.std.specs.List.{list_any}
 use Rattle.std.specs.Char.{is_ascii_hexdigit}
 use Rattle.std.specs.Str.{bytes_eq}
-use Rattle.fixed_num.specs.JsonNumber.{value_of}
+use Rattle.fixed_num.specs.JsonNumber.{decimal_value}
 use Rattle.fixed_num.specs.Ranges.{in_range}
 use Rattle.fixed_num.specs.Steps.{◌>>=◌}
 use Rattle.fixed_num.specs.Front.{Read, first, stop, parts_at}
@@ -145,7 +145,7 @@ abbrev pub number_tree : ℤ → Json
 number_tree m = tree_of (in_range m)
 
 unfoldable pub number_at : List ℕ → Read Json
-number_at bytes = parts_at bytes >>= λ x. Ok (number_tree (value_of x.0), x.1)
+number_at bytes = parts_at bytes >>= λ x. Ok (number_tree (decimal_value x.0), x.1)
 
 -- ---- lists and objects
 

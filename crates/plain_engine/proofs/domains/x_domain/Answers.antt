@@ -4,7 +4,7 @@ use Rattle.std.proofs.lemmas.Iterator.Consumers.{YieldsList-end}
 use Rattle.std.proofs.lemmas.List.{reverse-append, length-map}
 use Rattle.cell_value.specs.declared.cell.Cell.{Cell}
 use Rattle.cell_value.specs.Cell.{cell_cmp}
-use Rattle.vega_meaning.specs.Domains.{ascending, placed_in}
+use Rattle.tick_kit.specs.Domains.{ascending, placed_in}
 use Rattle.plain_engine.specs.inner.Columns.{cells_of}
 use Rattle.plain_engine.proofs.DomainLemmas.{insert_key-now, map_of_turned, length-ascending}
 use Rattle.plain_engine.proofs.domains.x_domain.Goals as goal

@@ -1,7 +1,7 @@
 use Rattle.std.proofs.Common.{◌≡◌, Bor, map, reverse}
 use Rattle.cell_value.specs.declared.cell.Cell.{Cell}
 use Rattle.cell_value.specs.Cell.{cell_cmp}
-use Rattle.vega_meaning.specs.Domains.{ascending}
+use Rattle.tick_kit.specs.Domains.{ascending}
 use Rattle.plain_engine.specs.inner.Columns.{cells_of}
 use Rattle.plain_engine.proofs.domains.x_domain.Given as goal
 

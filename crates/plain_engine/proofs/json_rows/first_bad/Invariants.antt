@@ -1,5 +1,5 @@
 use Rattle.std.proofs.Common.{◌≡◌, drop}
-use Rattle.param_flow.specs.Rows.{first_bad}
+use Rattle.data_rows.specs.JsonRows.{first_bad}
 use Rattle.plain_engine.proofs.json_rows.first_bad.Given as goal
 
 abbrev pub invariant-loop-row : goal.invariant-loop-row
