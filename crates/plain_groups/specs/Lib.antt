@@ -1,0 +1,4 @@
+pub mod Groups
+pub mod Aggregates
+pub mod GroupRows
+pub mod inner

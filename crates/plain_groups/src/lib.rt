@@ -1,0 +1,11 @@
+//! Rows in groups: what operations give over the rows that have the same cells in some fields.
+#![tactic(auto)]
+
+mod aggregates;
+mod group_rows;
+mod joins;
+mod numbers;
+mod places;
+
+pub use group_rows::aggregate;
+pub use joins::join_aggregate;
