@@ -1,0 +1,3 @@
+mod HalfLemmas
+mod ItemLemmas
+mod RectLemmas

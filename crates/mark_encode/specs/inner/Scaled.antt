@@ -1,0 +1,26 @@
+-- Values with their scales in the program.
+use Rattle.std.specs.Prelude.{Option, List, map, Result, Ok, Err}
+use Rattle.std.specs.Option.{option_map}
+use Rattle.std.specs.Borrow.{Bor}
+use Rattle.expr_eval.specs.declared.error.EvalError.{EvalError}
+use Rattle.mark_encode.specs.declared.channels.Scaled.{Scaled}
+use Rattle.mark_encode.specs.declared.spans.Along.{Along}
+use Rattle.mark_encode.specs.Channels.{ScaledValue}
+use Rattle.mark_encode.specs.Spans.{AlongValues}
+
+-- a value with its scale
+abbrev pub scaled_of : Scaled → ScaledValue
+scaled_of s = record { value = s.value.now; scale = s.scale }
+
+-- values with their scales
+abbrev pub scaled_all : List Scaled → List ScaledValue
+scaled_all = map scaled_of
+
+-- the value that was found
+abbrev pub first_of : Result (Option (Bor Scaled)) EvalError → Result (Option ScaledValue) EvalError
+first_of (Ok found) = Ok (option_map (λ s. scaled_of s.now) found)
+first_of (Err e) = Err e
+
+-- the values in the channels of one direction
+abbrev pub along_values : Along → AlongValues
+along_values a = record { near = scaled_all a.near; far = scaled_all a.far; middle = scaled_all a.middle; size = scaled_all a.size }

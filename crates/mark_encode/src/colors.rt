@@ -1,0 +1,88 @@
+// The colours that channels show.
+ghost use Rattle.std.specs.Prelude.{◌≡◌, ◌≤◌, IfOk};
+ghost use Rattle.cell_value.specs.Datum.{cell_at};
+ghost use Rattle.cell_value.specs.State.{greatest_id};
+ghost use Rattle.expr_eval.specs.Answers.{Evaluates};
+ghost use Rattle.mark_encode.specs.Values.{color_on, text_of_cell, color_at, color_for, color_shown};
+ghost use Rattle.mark_encode.specs.inner.Scaled.{scaled_of, scaled_all};
+
+use crate::channels::Scaled;
+use crate::shown::{Shown, shown_color};
+use crate::values::{cell_for, first_met};
+use cell_value::{Cell, Keyed};
+use expr_eval::{EvalError, ParamReader};
+use fixed_num::Num;
+use scale_kit::{Indexed, paint};
+use std::alloc::Global;
+use text_kit::{OutOfMemory, Text};
+
+// The colour on a scale; so much of a band is none.
+fn color_on(
+    alloc: Global,
+    s: &Indexed,
+    cell: &Option<Cell>,
+    band: Option<Num>,
+) -> Result<Option<Text>, OutOfMemory>
+    ensures { IfOk result (λ color. color ≡ color_on s.now cell.now band) }
+{
+    match (cell, band) {
+        (Some(cell), _) => s.paint(alloc, cell),
+        (None, Some(_)) => Ok(None),
+        (None, None) => paint(alloc, s.scale(), &Cell::Null),
+    }
+}
+
+// The text of a cell, if there is one.
+fn text_of_cell(cell: Option<Cell>) -> Option<Text>
+    ensures { result ≡ text_of_cell cell }
+{
+    match cell {
+        Some(Cell::Text(text)) => Some(text),
+        _ => None,
+    }
+}
+
+// The colour of a value with this cell: on its scale, or the cell's own.
+fn color_at(
+    alloc: Global,
+    scale: &Option<Indexed>,
+    band: Option<Num>,
+    cell: Option<Cell>,
+) -> Result<Option<Text>, OutOfMemory>
+    ensures { IfOk result (λ color. color ≡ color_at scale.now band cell) }
+{
+    match scale {
+        Some(s) => color_on(alloc, s, &cell, band),
+        None => Ok(text_of_cell(cell)),
+    }
+}
+
+// The colour of a value for a row.
+fn color_for<P: ParamReader>(
+    alloc: Global,
+    scaled: &Scaled,
+    row: &Keyed,
+    params: &P,
+) -> Result<Option<Text>, EvalError>
+    requires { row.now.key.id ≤ greatest_id }
+    ensures { Evaluates result (color_for (cell_at row.now) (P.values params.now) (scaled_of scaled.now)) }
+{
+    let cell = cell_for(alloc, scaled.value, row, params)?;
+    Ok(color_at(alloc, &scaled.scale, scaled.value.band, cell)?)
+}
+
+/// The colour that a channel shows of a row.
+pub fn color_shown<P: ParamReader>(
+    alloc: Global,
+    values: &[Scaled],
+    row: &Keyed,
+    params: &P,
+) -> Result<Shown<Text>, EvalError>
+    requires { row.now.key.id ≤ greatest_id }
+    ensures { Evaluates result (color_shown (cell_at row.now) (P.values params.now) (scaled_all values.now)) }
+{
+    let Some(scaled) = first_met(alloc, values, row, params)? else {
+        return Ok(Shown::Absent);
+    };
+    Ok(shown_color(color_for(alloc, scaled, row, params)?))
+}

@@ -1,0 +1,13 @@
+//! The items of a mark: what its channels show of each row, on the scales that they name, as shapes with their colours.
+#![tactic(auto)]
+
+mod channels;
+mod colors;
+mod items;
+mod looks;
+mod numbers;
+mod shown;
+mod spans;
+mod values;
+
+pub use items::items_of;

@@ -1,0 +1,113 @@
+// How items are painted.
+ghost use Rattle.std.specs.Prelude.{◌≡◌, ◌≤◌, ◌*◌, pos};
+ghost use Rattle.fixed_num.specs.Number.{million};
+ghost use Rattle.cell_value.specs.Datum.{cell_at};
+ghost use Rattle.cell_value.specs.State.{greatest_id};
+ghost use Rattle.expr_eval.specs.Answers.{Evaluates};
+ghost use Rattle.mark_encode.specs.Items.{color_or_none, default_stroke_width, look_of, look_for};
+ghost use Rattle.mark_encode.specs.inner.Rects.{look_values};
+
+use crate::channels::Scaled;
+use crate::colors::color_shown;
+use crate::numbers::number_shown;
+use crate::shown::{Shown, or_default};
+use cell_value::Keyed;
+use expr_eval::{EvalError, ParamReader};
+use fixed_num::Num;
+use std::alloc::Global;
+use text_kit::{Seq, Text};
+use vega_spec::MarkType;
+
+/// How an item is painted.
+#[derive(Debug, Drop)]
+pub struct Look {
+    /// The colour inside.
+    pub fill: Option<Text>,
+    /// The colour of the line.
+    pub stroke: Option<Text>,
+    /// The width of the line, in pixels.
+    pub stroke_width: Num,
+    /// How opaque it is.
+    pub opacity: Num,
+}
+
+/// The values in the channels that say how items are painted.
+#[derive(Drop)]
+pub struct LookChannels<'a> {
+    pub fill: Seq<Scaled<'a>>,
+    pub stroke: Seq<Scaled<'a>>,
+    pub stroke_width: Seq<Scaled<'a>>,
+    pub opacity: Seq<Scaled<'a>>,
+}
+
+// So many pixels.
+fn pixels(n: u8) -> Num
+    ensures { result ≡ pos (n * million) }
+{
+    match Num::of_millionths(i128::from(n) * 1_000_000) {
+        Some(number) => number,
+        None => unreachable!(),
+    }
+}
+
+/// The width of a mark's line where none is encoded, in pixels.
+pub fn default_stroke_width(type_: MarkType) -> u8
+    ensures { result ≡ default_stroke_width type_ }
+{
+    match type_ {
+        MarkType::Rect => 1,
+        MarkType::Symbol => 2,
+        MarkType::Line => 2,
+        MarkType::Area => 1,
+        MarkType::Rule => 1,
+        MarkType::Text => 1,
+        MarkType::Group => 1,
+    }
+}
+
+// A colour that may be absent; None where it is encoded and lacks.
+fn color_or_none(color: Shown<Text>) -> Option<Option<Text>>
+    ensures { result ≡ color_or_none color }
+{
+    match color {
+        Shown::Absent => Some(None),
+        Shown::Lacking => None,
+        Shown::Given(color) => Some(Some(color)),
+    }
+}
+
+// How an item is painted; None where a colour or a number lacks.
+fn look_of(
+    default: u8,
+    fill: Shown<Text>,
+    stroke: Shown<Text>,
+    stroke_width: Shown<Num>,
+    opacity: Shown<Num>,
+) -> Option<Look>
+    ensures { result ≡ look_of default fill stroke stroke_width opacity }
+{
+    Some(Look {
+        fill: color_or_none(fill)?,
+        stroke: color_or_none(stroke)?,
+        stroke_width: or_default(pixels(default), stroke_width)?,
+        opacity: or_default(pixels(1), opacity)?,
+    })
+}
+
+/// How the item of a row is painted; None where it lacks a colour or a number.
+pub fn look_for<P: ParamReader>(
+    alloc: Global,
+    default: u8,
+    channels: &LookChannels,
+    row: &Keyed,
+    params: &P,
+) -> Result<Option<Look>, EvalError>
+    requires { row.now.key.id ≤ greatest_id }
+    ensures { Evaluates result (look_for default (cell_at row.now) (P.values params.now) (look_values channels.now)) }
+{
+    let fill = color_shown(alloc, channels.fill.as_slice(), row, params)?;
+    let stroke = color_shown(alloc, channels.stroke.as_slice(), row, params)?;
+    let stroke_width = number_shown(alloc, false, channels.stroke_width.as_slice(), row, params)?;
+    let opacity = number_shown(alloc, false, channels.opacity.as_slice(), row, params)?;
+    Ok(look_of(default, fill, stroke, stroke_width, opacity))
+}

@@ -1,0 +1,70 @@
+// The value of a channel that counts for a row.
+ghost use Rattle.std.specs.Prelude.{◌≡◌, ◌≤◌, option_map, IfOk};
+ghost use Rattle.cell_value.specs.Datum.{cell_at};
+ghost use Rattle.cell_value.specs.State.{greatest_id};
+ghost use Rattle.expr_eval.specs.Answers.{Evaluates};
+ghost use Rattle.mark_encode.specs.Values.{is_met, first_met, cell_for};
+ghost use Rattle.mark_encode.specs.inner.Scaled.{scaled_all, first_of};
+
+use crate::channels::Scaled;
+use cell_value::{Cell, Keyed};
+use expr_eval::{EvalError, ParamReader};
+use plain_rows::{cell_of, eval_row, eval_test};
+use std::alloc::Global;
+use text_kit::Copies;
+use vega_spec::ChannelValue;
+
+// Whether a value counts for a row: its test is met, or it has none.
+fn is_met<P: ParamReader>(
+    alloc: Global,
+    value: &ChannelValue,
+    row: &Keyed,
+    params: &P,
+) -> Result<bool, EvalError>
+    requires { row.now.key.id ≤ greatest_id }
+    ensures { Evaluates result (is_met (cell_at row.now) (P.values params.now) value.now) }
+{
+    match &value.test {
+        Some(test) => eval_test(alloc, test, row, params),
+        None => Ok(true),
+    }
+}
+
+/// The first value that counts for a row, if one does.
+pub fn first_met<'a, 'b, P: ParamReader>(
+    alloc: Global,
+    values: &'b [Scaled<'a>],
+    row: &Keyed,
+    params: &P,
+) -> Result<Option<&'b Scaled<'a>>, EvalError>
+    requires { row.now.key.id ≤ greatest_id }
+    ensures { Evaluates (first_of result) (first_met (cell_at row.now) (P.values params.now) (scaled_all values.now)) }
+{
+    for value in values {
+        match is_met(alloc, value.value, row, params) {
+            Ok(true) => return Ok(Some(value)),
+            Ok(false) => {}
+            Err(error) => return Err(error),
+        }
+    }
+    Ok(None)
+}
+
+/// The cell that a value has for a row: of its signal, else of its field, else its own.
+pub fn cell_for<P: ParamReader>(
+    alloc: Global,
+    value: &ChannelValue,
+    row: &Keyed,
+    params: &P,
+) -> Result<Option<Cell>, EvalError>
+    requires { row.now.key.id ≤ greatest_id }
+    ensures { Evaluates result (cell_for (cell_at row.now) (P.values params.now) value.now) }
+{
+    if let Some(signal) = &value.signal {
+        return Ok(Some(eval_row(alloc, signal, row, params)?));
+    }
+    if let Some(field) = &value.field {
+        return Ok(Some(cell_of(row, field.as_str())?));
+    }
+    Ok(Copies::copied(&value.value, alloc)?)
+}

@@ -1,0 +1,2 @@
+mod TestRows
+mod TestScales

@@ -1,0 +1,230 @@
+// Named lists over a source `t` of three rows without cells, whose ids are 1, 2 and 3. A line has data sets, each with its name, the name
+// of its source, if it has one, and its transforms: an expression alone is a filter, one under a name a formula, and `look N` a lookup of `a` in
+// the list N, whose rows have the same `k`. Behind the data sets stand a name and the ids of its rows, which were found apart.
+ghost use Rattle.std.specs.Prelude.{◌≡◌, All, IfOk, length};
+ghost use Rattle.vega_lists.specs.Held.{AreSources};
+ghost use Rattle.vega_list_tests.specs.Plain.{IsPlain, IsPlainSet};
+
+use cell_value::{Cell, Key, Keyed, Named, Row, Rows};
+use expr_eval::{EvalError, NoParams};
+use expr_syntax::{Expr, ExprError, read};
+use std::alloc::Global;
+use std::test::Fail;
+use text_kit::{OutOfMemory, Seq, Text};
+use vega_lists::lists_of;
+use vega_spec::{DataSet, Filter, Formula, Lookup, Transform};
+
+const LINES: &str = "\
+t -> t 1 2 3\n\
+u -> u\n\
+t -> u\n\
+t | u of t -> u 1 2 3\n\
+t | u of t: datum._vgsid_ > 1 -> u 2 3\n\
+t | u of t: datum._vgsid_ > 1 -> t 1 2 3\n\
+t: datum._vgsid_ > 1; a = datum._vgsid_ * 2; datum.a == 6 -> t 3\n\
+t: a = datum._vgsid_ * 2; datum._vgsid_ > 1; datum.a == 2 -> t\n\
+t | u of t: k = datum._vgsid_ - 1; a = 'x' | v of t: k = datum._vgsid_; look u; datum.a == 'x' -> v 1 2\n\
+t | u of t: k = datum._vgsid_ - 1; a = 'x' | v of t: k = datum._vgsid_; look u; datum.a == null -> v 3\n\
+t | v of t: a = 1; look w; datum.a == null -> v 1 2 3\n\
+t: datum._vgsid_ > 1 | t of t: datum._vgsid_ < 3 -> t 2\n\
+t | u of t: a = 1000000000000000 + datum._vgsid_ -> t overflow\n\
+t | u of t: datum._vgsid_ > 3; a = 1000000000000000 + datum._vgsid_ -> t 1 2 3\n";
+
+fn bare(alloc: Global, id: u64) -> Keyed
+    ensures { result.key ≡ record { id = id; branch = 0 } }
+{
+    Keyed {
+        key: Key { id, branch: 0 },
+        row: Row::new(alloc),
+    }
+}
+
+/// A source `t` of three rows.
+#[tactic(auto, using(crate::proofs::TestSources::three_are_sources))]
+pub(crate) fn sources(alloc: Global) -> Result<Seq<Named>, OutOfMemory>
+    ensures { IfOk result AreSources }
+{
+    let mut rows = Seq::new(alloc);
+    rows.push(bare(alloc, 1))?;
+    rows.push(bare(alloc, 2))?;
+    rows.push(bare(alloc, 3))?;
+    let mut sources = Seq::new(alloc);
+    let name = Text::of(alloc, "t")?;
+    sources.push(Named { name, rows })?;
+    Ok(sources)
+}
+
+// Why a line has no answer.
+enum Stop {
+    Shape,
+    Overflow,
+    Memory,
+}
+
+impl From<OutOfMemory> for Stop {
+    fn from(_: OutOfMemory) -> Stop {
+        Stop::Memory
+    }
+}
+
+impl From<EvalError> for Stop {
+    fn from(e: EvalError) -> Stop {
+        match e {
+            EvalError::Overflow => Stop::Overflow,
+            EvalError::Memory => Stop::Memory,
+        }
+    }
+}
+
+impl From<ExprError> for Stop {
+    fn from(e: ExprError) -> Stop {
+        match e {
+            ExprError::Shape => Stop::Shape,
+            ExprError::Memory => Stop::Memory,
+        }
+    }
+}
+
+fn expression(alloc: Global, text: &str) -> Result<Expr, Stop> {
+    Ok(read(alloc, text)?)
+}
+
+fn one(alloc: Global, text: &str) -> Result<Seq<Text>, OutOfMemory>
+    ensures { IfOk result (λ texts. length texts ≡ 1) }
+{
+    let mut texts = Seq::new(alloc);
+    texts.push(Text::of(alloc, text)?)?;
+    Ok(texts)
+}
+
+fn lookup_in(alloc: Global, from: &str) -> Result<Transform, OutOfMemory>
+    ensures { IfOk result IsPlain }
+{
+    Ok(Transform::Lookup(Lookup {
+        from: Text::of(alloc, from)?,
+        key: Text::of(alloc, "k")?,
+        fields: one(alloc, "k")?,
+        values: one(alloc, "a")?,
+        as_: Some(one(alloc, "a")?),
+        default: Some(Cell::Null),
+    }))
+}
+
+fn formula_of(alloc: Global, name: &str, text: &str) -> Result<Transform, Stop>
+    ensures { IfOk result IsPlain }
+{
+    Ok(Transform::Formula(Formula {
+        expr: expression(alloc, text)?,
+        as_: Text::of(alloc, name)?,
+    }))
+}
+
+fn filter_of(alloc: Global, text: &str) -> Result<Transform, Stop>
+    ensures { IfOk result IsPlain }
+{
+    Ok(Transform::Filter(Filter {
+        expr: expression(alloc, text)?,
+    }))
+}
+
+fn transform_of(alloc: Global, step: &str) -> Result<Transform, Stop>
+    ensures { IfOk result IsPlain }
+{
+    if let Some(from) = step.strip_prefix("look ") {
+        return Ok(lookup_in(alloc, from)?);
+    }
+    match step.split_once(" = ") {
+        Some((name, text)) => formula_of(alloc, name, text),
+        None => filter_of(alloc, step),
+    }
+}
+
+fn transforms_of(alloc: Global, steps: &str) -> Result<Seq<Transform>, Stop>
+    ensures { IfOk result (All IsPlain) }
+{
+    let mut transforms = Seq::new(alloc);
+    if steps.is_empty() {
+        return Ok(transforms);
+    }
+    for step in steps.split("; ") {
+        transforms.push(transform_of(alloc, step)?)?;
+    }
+    Ok(transforms)
+}
+
+fn set_of(alloc: Global, words: &str) -> Result<DataSet, Stop>
+    ensures { IfOk result IsPlainSet }
+{
+    let (head, steps) = words.split_once(": ").unwrap_or((words, ""));
+    let transforms = transforms_of(alloc, steps)?;
+    let (name, source) = match head.split_once(" of ") {
+        Some((name, source)) => (name, Some(Text::of(alloc, source)?)),
+        None => (head, None),
+    };
+    Ok(DataSet {
+        name: Text::of(alloc, name)?,
+        values: None,
+        url: None,
+        format: None,
+        source,
+        transform: Some(transforms),
+    })
+}
+
+fn sets_of(alloc: Global, line: &str) -> Result<Seq<DataSet>, Stop>
+    ensures { IfOk result (All IsPlainSet) }
+{
+    let mut sets = Seq::new(alloc);
+    for words in line.split(" | ") {
+        sets.push(set_of(alloc, words)?)?;
+    }
+    Ok(sets)
+}
+
+/// The ids of rows, each behind a blank.
+fn ids(alloc: Global, rows: &[Keyed]) -> Result<Text, OutOfMemory> {
+    let mut out = Text::new(alloc);
+    for row in rows {
+        out.push_str(format!(in alloc; " {}", row.key.id)?.as_str())?;
+    }
+    Ok(out)
+}
+
+fn ids_found(alloc: Global, rows: Option<&Rows>) -> Result<Text, OutOfMemory> {
+    match rows {
+        Some(rows) => ids(alloc, rows.as_slice()),
+        None => Ok(Text::new(alloc)),
+    }
+}
+
+// The ids of the list of a name.
+#[tactic(auto, using(crate::proofs::TestSources::plain_built, crate::proofs::TestSources::plain_named, crate::proofs::TestSources::plain_folds))]
+fn answered(alloc: Global, line: &str, name: &str) -> Result<Text, Stop> {
+    let sources = sources(alloc)?;
+    let sets = sets_of(alloc, line)?;
+    let lists = lists_of(alloc, sources.as_slice(), sets.as_slice(), &NoParams)?;
+    Ok(ids_found(alloc, lists.find(sources.as_slice(), name))?)
+}
+
+fn word_of(alloc: Global, answer: Result<Text, Stop>) -> Result<Text, OutOfMemory> {
+    match answer {
+        Ok(ids) => Ok(ids),
+        Err(Stop::Shape) => Text::of(alloc, " unread"),
+        Err(Stop::Overflow) => Text::of(alloc, " overflow"),
+        Err(Stop::Memory) => Err(OutOfMemory),
+    }
+}
+
+#[test]
+fn names_stand_for_the_rows_of_data_sets(rt: HostRuntime) -> Result<(), Fail> {
+    for line in LINES.lines() {
+        let (sets, wanted) = line.split_once(" -> ").ok_or("a line without an answer")?;
+        let (name, _) = wanted.split_once(' ').unwrap_or((wanted, ""));
+        let word = word_of(rt.alloc(), answered(rt.alloc(), sets, name))?;
+        let Some(want) = wanted.strip_prefix(name) else {
+            return Err("a line without an answer".into());
+        };
+        assert_eq!(rt; word.as_str(), want, "{line}");
+    }
+    Ok(())
+}

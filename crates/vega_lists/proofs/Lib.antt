@@ -1,0 +1,6 @@
+mod KeyLemmas
+mod HeldLemmas
+mod StepLemmas
+mod PlaceLemmas
+mod ListLemmas
+pub mod StateLemmas

@@ -1,0 +1,15 @@
+//! The named lists of rows of a Vega specification, by its data sets and their transforms.
+#![tactic(auto)]
+
+mod held;
+mod laws;
+mod lists;
+mod settings;
+mod steps;
+mod transforms;
+
+pub use held::Lists;
+pub(crate) use held::RowsIn;
+pub use laws::laws_of_lists;
+pub use lists::lists_of;
+pub use transforms::transformed;

@@ -1,0 +1,38 @@
+-- How the cells of rows are gathered.
+use Rattle.std.proofs.Common.{◌≡◌, ℕ, ◌+◌, ◌<◌, ◌≤◌, ◌++◌, List, [], ◌∷◌, map, length, drop, get_or, refl, sym, ap, ◌∙◌, subst, arith}
+use Rattle.std.proofs.lemmas.List.{append_assoc, append-nil, drop_all, drop_more, get_or-map, length-map}
+use Rattle.cell_value.specs.declared.cell.Cell.{Cell}
+use Rattle.cell_value.specs.declared.state.Key.{Key}
+use Rattle.cell_value.specs.declared.state.Keyed.{Keyed}
+use Rattle.cell_value.specs.State.{greatest_id}
+use Rattle.cell_value.specs.Datum.{datum_of, cell_at}
+use Rattle.plain_rows.specs.Rows.{AreRows}
+use Rattle.vega_scales.specs.Domains.{column_of}
+
+abbrev key_of : Keyed → Key
+key_of keyed = keyed.key
+
+-- the id of each row is one that a row may have
+pub small_id : (rows : List Keyed) (i : ℕ) (row : Keyed) → AreRows rows → i < length rows → row ≡ get_or rows i row
+    → row.key.id ≤ greatest_id
+small_id rows i row are l at =
+    let within : i < length (map key_of rows) = omega (arith, length-map rows key_of) in
+    subst (λ (keyed : Keyed). keyed.key.id ≤ greatest_id) (sym at)
+    (subst (λ (key : Key). key.id ≤ greatest_id) (get_or-map key_of rows i row (key_of row) l) (are.small_ids i (key_of row) within))
+
+-- one cell more
+pub column_more : (name : List ℕ) (rows : List Keyed) (i : ℕ) (row : Keyed) (cell : Cell) (out now whole : List Cell)
+    → i < length rows → row ≡ get_or rows i row → cell ≡ cell_at row name → now ≡ out ++ cell ∷ []
+    → out ++ column_of name (map datum_of (drop i rows)) ≡ whole → now ++ column_of name (map datum_of (drop (i + 1) rows)) ≡ whole
+column_more name rows i row cell out now whole l at is pushed so_far =
+    let rest : drop i rows ≡ row ∷ drop (i + 1) rows = drop_more rows i row l ∙ ap (λ x. x ∷ drop (i + 1) rows) (sym at) in
+    ap (λ l. l ++ column_of name (map datum_of (drop (i + 1) rows))) (pushed ∙ ap (λ x. out ++ x ∷ []) is)
+    ∙ append_assoc out (cell_at row name ∷ []) (column_of name (map datum_of (drop (i + 1) rows)))
+    ∙ ap (λ d. out ++ column_of name (map datum_of d)) (sym rest)
+    ∙ so_far
+
+-- at the end all cells are there
+pub column_all : (name : List ℕ) (rows : List Keyed) (i : ℕ) (out whole : List Cell) → length rows ≤ i
+    → out ++ column_of name (map datum_of (drop i rows)) ≡ whole → out ≡ whole
+column_all name rows i out whole past so_far =
+    sym (append-nil out) ∙ ap (λ d. out ++ column_of name (map datum_of d)) (sym (drop_all i rows past)) ∙ so_far

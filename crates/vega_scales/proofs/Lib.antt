@@ -1,0 +1,4 @@
+mod CellLemmas
+mod NumberLemmas
+mod ColumnLemmas
+mod ScaleLemmas

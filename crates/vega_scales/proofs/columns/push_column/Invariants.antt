@@ -1,0 +1,8 @@
+use Rattle.std.proofs.Common.{◌≡◌, ◌++◌, map, drop}
+use Rattle.cell_value.specs.Datum.{datum_of}
+use Rattle.vega_scales.specs.Domains.{column_of}
+use Rattle.vega_scales.proofs.columns.push_column.Given as goal
+
+abbrev pub invariant-loop-row : goal.invariant-loop-row
+invariant-loop-row l =
+    l.out ++ column_of l.name (map datum_of (drop l.row-index l.rows)) ≡ l.fn.out ++ column_of l.name (map datum_of l.rows)

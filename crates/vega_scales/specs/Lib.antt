@@ -1,0 +1,5 @@
+pub mod Cells
+pub mod Domains
+pub mod Ranges
+pub mod Scales
+pub mod inner

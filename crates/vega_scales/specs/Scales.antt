@@ -1,0 +1,160 @@
+-- The scales of a Vega specification, from its lists of rows.
+use Rattle.std.specs.Prelude.{◌≡◌, refl, ℕ, ◌*◌, ◌==◌, ◌&&◌, ◌||◌, Bool, true, false, ℤ, pos, Option, Some, None, List, [], ◌∷◌, length, unwrap_or, is_some, IfSome, codes, if◌then◌else◌}
+use Rattle.std.specs.Option.{option_map}
+use Rattle.fixed_num.specs.Number.{million, floored, ceiled, floor_quotient}
+use Rattle.case_table.specs.Names.{index_of, scale_kinds}
+use Rattle.cell_value.specs.declared.cell.Cell.{Cell}
+use Rattle.cell_value.specs.declared.cell.Cell.TheVariants.{Null, Number}
+use Rattle.expr_eval.specs.Values.{Values}
+use Rattle.vega_spec.specs.declared.domains.Domain.{Domain}
+use Rattle.vega_spec.specs.declared.domains.Domain.TheVariants as domain
+use Rattle.vega_spec.specs.declared.domains.DomainOrder.{DomainOrder}
+use Rattle.vega_spec.specs.declared.domains.DomainOrder.TheVariants as order
+use Rattle.vega_spec.specs.declared.scales.Range.{Range}
+use Rattle.vega_spec.specs.declared.scales.Range.TheVariants as range
+use Rattle.vega_spec.specs.declared.scales.Scale.{Scale as VegaScale}
+use Rattle.vega_lists.specs.Scopes.{Scope, no_lists}
+use Rattle.tick_kit.specs.Steps.{step_of, spaced}
+use Rattle.scale_kit.specs.declared.scale.Scale.{Scale}
+use Rattle.scale_kit.specs.declared.scale.Scale.TheVariants.{Linear, Band, Point}
+use Rattle.scale_kit.specs.Scale.{IsPadding, IsRange}
+use Rattle.vega_scales.specs.Domains.{discrete_domain, continuous_domain}
+use Rattle.vega_scales.specs.Ranges.{two_numbers, ends_in, turned, padding_of}
+
+-- the codes of the kinds of scales
+abbrev pub linear : ℕ
+linear = 0
+
+abbrev pub band : ℕ
+band = 2
+
+abbrev pub point : ℕ
+point = 3
+
+abbrev pub ordinal : ℕ
+ordinal = 4
+
+-- a discrete scale has a domain of cells; others have one from a number to another
+abbrev pub is_discrete : VegaScale → Bool
+is_discrete s = s.type_ == band || (s.type_ == point || s.type_ == ordinal)
+
+-- a flag that is absent is false
+abbrev pub is_set : Option Bool → Bool
+is_set flag = unwrap_or flag false
+
+-- the ends of a scale's range in a plot of this width and height; 0 and 0 for a range that has none
+abbrev pub ends_of : VegaScale → ℤ → ℤ → ℤ × ℤ
+ends_of s width height = turned (is_set s.reverse) (unwrap_or (ends_in (is_discrete s) width height s.range) (pos 0, pos 0))
+
+-- the cells of a discrete scale; its raw domain does nothing
+abbrev pub cells_of_scale : Values → Scope → VegaScale → Option (List Cell)
+cells_of_scale values scope s = discrete_domain values scope s.domain
+
+-- the numbers between which the domain of a continuous scale runs
+abbrev pub numbers_of_scale : Values → Scope → VegaScale → Option (ℤ × ℤ)
+numbers_of_scale values scope s = continuous_domain values scope s.domain_raw (is_set s.zero) (is_set s.nice) s.domain
+
+-- a band or a point for each cell
+abbrev pub over_cells : VegaScale → ℤ × ℤ → List Cell → Scale
+over_cells s ends cells =
+    if s.type_ == band then Band cells (padding_of s.padding_inner s.padding) (padding_of s.padding_outer s.padding) ends.0 ends.1
+    else Point cells (padding_of s.padding_outer s.padding) ends.0 ends.1
+
+-- the numbers of a domain, laid over a range
+abbrev pub over_numbers : ℤ × ℤ → ℤ × ℤ → Scale
+over_numbers ends numbers = Linear numbers.0 numbers.1 ends.0 ends.1
+
+-- the scale in a plot of this width and height; None where its domain overflows
+abbrev pub scale_of : Values → Scope → ℤ → ℤ → VegaScale → Option Scale
+scale_of values scope width height s =
+    let ends = ends_of s width height in
+    if is_discrete s then option_map (over_cells s ends) (cells_of_scale values scope s)
+    else option_map (over_numbers ends) (numbers_of_scale values scope s)
+
+-- how long the domain of a scale is: as many cells as a discrete one has, and 2 otherwise; None where the cells overflow
+abbrev pub domain_length : Values → Scope → VegaScale → Option ℕ
+domain_length values scope s = if is_discrete s then option_map length (cells_of_scale values scope s) else Some 2
+
+-- an order by an operation isn't built
+abbrev pub is_order_built : Option DomainOrder → Bool
+is_order_built None = true
+is_order_built (Some order.True) = true
+is_order_built (Some (order.Cells direction)) = true
+is_order_built (Some (order.Operation direction op field)) = false
+
+abbrev pub is_domain_built : Domain → Bool
+is_domain_built (domain.Cells cells) = true
+is_domain_built (domain.Signal e) = true
+is_domain_built (domain.Field f) = is_order_built f.sort
+is_domain_built (domain.Fields f) = is_order_built f.sort
+
+-- a range of places: the width, the height or two numbers
+abbrev pub has_ends : Range → Bool
+has_ends range = is_some (ends_in true (pos 0) (pos 0) range)
+
+-- What is built: linear, band and point scales over a range of places, the latter two with no order by an operation.
+abbrev pub is_built : VegaScale → Bool
+is_built s = (s.type_ == linear || ((s.type_ == band || s.type_ == point) && is_domain_built s.domain)) && has_ends s.range
+
+-- the ends that a range gives
+abbrev pub given_ends : Range → Option (ℤ × ℤ)
+given_ends (range.Cells cells) = two_numbers cells
+given_ends range.Width = None
+given_ends range.Height = None
+given_ends range.Category = None
+given_ends range.Ramp = None
+given_ends range.Symbol = None
+
+-- the numbers that a scale gives are those that specifications may have: paddings from 0 to 1, ends of a range from 0 to 10^11
+pub record KeepsBounds (s : VegaScale) : Type 0 where
+  pub both : IfSome s.padding IsPadding
+  pub inner : IfSome s.padding_inner IsPadding
+  pub outer : IfSome s.padding_outer IsPadding
+  pub ends : IfSome (given_ends s.range) IsRange
+
+-- The rules at work.
+
+the_codes_of_the_kinds : (index_of scale_kinds (codes "linear") ≡ Some linear) × (index_of scale_kinds (codes "band") ≡ Some band)
+    × (index_of scale_kinds (codes "point") ≡ Some point) × (index_of scale_kinds (codes "ordinal") ≡ Some ordinal)
+the_codes_of_the_kinds = (refl, refl, refl, refl)
+
+-- a whole number, in millionths
+abbrev whole : ℕ → ℤ
+whole n = pos (n * million)
+
+-- a scale of a kind over null and a number
+abbrev a_scale : ℕ → Range → Option Bool → VegaScale
+a_scale kind range reverse = record {
+  name = codes "s";
+  type_ = kind;
+  domain = domain.Cells (Null ∷ Number (whole 43) ∷ []);
+  domain_raw = None;
+  range = range;
+  zero = Some true;
+  nice = Some true;
+  reverse = reverse;
+  padding = Some (pos 100000);
+  padding_inner = None;
+  padding_outer = Some (pos 50000);
+}
+
+-- the scale in a plot of 60 by 200
+abbrev in_a_plot : Values → VegaScale → Option Scale
+in_a_plot values s = scale_of values no_lists (whole 60) (whole 200) s
+
+a_linear_scale : (values : Values) → in_a_plot values (a_scale linear range.Height None)
+    ≡ Some (Linear (whole 0) (whole 45) (whole 200) (whole 0))
+unfolding step_of spaced floored ceiled floor_quotient
+a_linear_scale values = refl
+
+a_band_scale : (values : Values) → in_a_plot values (a_scale band range.Height (Some true))
+    ≡ Some (Band (Null ∷ Number (whole 43) ∷ []) (pos 100000) (pos 50000) (whole 200) (whole 0))
+a_band_scale values = refl
+
+a_point_scale : (values : Values) → in_a_plot values (a_scale point range.Width None)
+    ≡ Some (Point (Null ∷ Number (whole 43) ∷ []) (pos 50000) (whole 0) (whole 60))
+a_point_scale values = refl
+
+the_lengths_of_domains : (values : Values) → (domain_length values no_lists (a_scale band range.Width None) ≡ Some 2)
+    × (domain_length values no_lists (a_scale linear range.Width None) ≡ Some 2)
+the_lengths_of_domains values = (refl, refl)
