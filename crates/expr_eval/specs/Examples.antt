@@ -7,7 +7,7 @@ use Rattle.fixed_num.specs.Decimal.{spelling, size_spelling, fraction_spelling, 
 use Rattle.fixed_num.specs.JsonNumber.{decimal_value, scaled}
 use Rattle.fixed_num.specs.Front.{parts_at, whole_at, fraction_at, exponent_at, digits_at, leading_digits, after_digits}
 use Rattle.expr_syntax.specs.NumberText.{parts_of}
-use Rattle.time_calc.specs.Calendar.{day_count, days_before_year, days_of_months, date_of_count, greatest}
+use Rattle.time_calc.specs.Calendar.{day_count, days_before_year, days_of_months, date_of_count, greatest_passing}
 use Rattle.time_calc.specs.Datetime.{whole_of, first_day}
 use Rattle.time_calc.specs.Instants.{day_of_instant}
 use Rattle.cell_value.specs.declared.cell.Cell.{Cell}
@@ -61,7 +61,7 @@ unfolding builtin_table chars
 a_character_above_the_plane = refl
 
 a_leap_day : (builtin 38 (whole 2024 ∷ whole 1 ∷ whole 29 ∷ []) >>= λ day. builtin 21 (day ∷ [])) ≡ Some (whole 1)
-unfolding builtin_table whole_of first_day day_count days_before_year days_of_months day_of_instant date_of_count greatest
+unfolding builtin_table whole_of first_day day_count days_before_year days_of_months day_of_instant date_of_count greatest_passing
 a_leap_day = refl
 
 the_29th_of_February_2023 : builtin 38 (whole 2023 ∷ whole 1 ∷ whole 29 ∷ []) ≡ Some (whole 1677628800000)

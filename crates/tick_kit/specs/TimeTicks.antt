@@ -6,7 +6,7 @@ use Rattle.fixed_num.specs.Number.{million}
 use Rattle.case_table.specs.declared.unit.Unit.{Unit}
 use Rattle.time_calc.specs.Instants.{instant_at, instant_number, stands_for_instant, day_of_instant, time_of_instant}
 pub use Rattle.time_calc.specs.Datetime.{is_whole}
-use Rattle.time_calc.specs.Calendar.{date_of_count, greatest, days_before_year, days_of_months, weekday_of}
+use Rattle.time_calc.specs.Calendar.{date_of_count, greatest_passing, days_before_year, days_of_months, weekday_of}
 use Rattle.time_calc.specs.Boundaries.{is_boundary}
 use Rattle.time_calc.specs.NextBoundary.{next_boundary}
 use Rattle.tick_kit.specs.Steps.{span_of, spaced}
@@ -71,7 +71,7 @@ months_from_february_to_may : time_ticks_of 5 (instant_number (pos 1706745600000
     ≡ instant_number (pos 1706745600000) ∷ instant_number (pos 1709251200000) ∷ instant_number (pos 1711929600000)
     ∷ instant_number (pos 1714521600000) ∷ []
 unfolding time_ticks_of boundaries_in boundaries_after is_boundary_number following interval_of spaced is_boundary next_boundary day_of_instant
-    time_of_instant date_of_count greatest days_before_year days_of_months weekday_of
+    time_of_instant date_of_count greatest_passing days_before_year days_of_months weekday_of
 months_from_february_to_may = refl
 
 fifths_of_a_second : time_ticks_of 5 (pos 0, instant_number (pos 1000))

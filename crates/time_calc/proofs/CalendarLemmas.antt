@@ -4,33 +4,33 @@ use Rattle.std.proofs.lemmas.Bool.{leb-true, leb-false, le-leb, lt-leb, true≢f
 use Rattle.std.proofs.lemmas.Bool.Decides.{nat_tests}
 use Rattle.std.proofs.lemmas.Int.{ints}
 use Rattle.time_calc.specs.declared.calendar.Date.{Date}
-use Rattle.time_calc.specs.Calendar.{is_leap, days_of_month, days_before_year, days_of_months, is_date, day_count, days_before_1970, greatest, year_of_count, month_of_count, date_in_year, date_of_count, date_of_day}
+use Rattle.time_calc.specs.Calendar.{is_leap, days_of_month, days_before_year, days_of_months, is_date, day_count, days_before_1970, greatest_passing, year_of_count, month_of_count, date_in_year, date_of_count, date_of_day}
 use Rattle.time_calc.specs.inner.Calendar.{missing_days}
 use Rattle.time_calc.specs.CalendarLaws.{YearsFollow, MonthsMakeTheYear, DateOfItsDay, DaysHaveDates, DayOfItsDate}
 
 -- ---- the greatest number that passes
 
 -- it passes, where 0 does
-greatest_passes : (p : ℕ → Bool) (n : ℕ) → p 0 ≡ true → p (greatest p n) ≡ true
-unfolding greatest
+greatest_passes : (p : ℕ → Bool) (n : ℕ) → p 0 ≡ true → p (greatest_passing p n) ≡ true
+unfolding greatest_passing
 greatest_passes p zero h = h
 greatest_passes p (suc n) h =
-    elim (p (suc n)) as (λ b. p (suc n) ≡ b → p (cond b (suc n) (greatest p n)) ≡ true)
+    elim (p (suc n)) as (λ b. p (suc n) ≡ b → p (cond b (suc n) (greatest_passing p n)) ≡ true)
     [ true ↦ λ e. e | false ↦ λ e. greatest_passes p n h ] refl
 
-greatest_bounded : (p : ℕ → Bool) (n : ℕ) → greatest p n ≤ n
-unfolding greatest
+greatest_bounded : (p : ℕ → Bool) (n : ℕ) → greatest_passing p n ≤ n
+unfolding greatest_passing
 greatest_bounded p zero = omega arith
 greatest_bounded p (suc n) =
-    elim (p (suc n)) as (λ b. cond b (suc n) (greatest p n) ≤ suc n)
+    elim (p (suc n)) as (λ b. cond b (suc n) (greatest_passing p n) ≤ suc n)
     [ true ↦ omega arith | false ↦ omega (arith, greatest_bounded p n) ]
 
 -- no number above it passes, up to the bound
-greatest_above : (p : ℕ → Bool) (n k : ℕ) → greatest p n < k → k ≤ n → p k ≡ false
-unfolding greatest
+greatest_above : (p : ℕ → Bool) (n k : ℕ) → greatest_passing p n < k → k ≤ n → p k ≡ false
+unfolding greatest_passing
 greatest_above p zero k above below = absurd (omega (arith, above, below))
 greatest_above p (suc n) k above below =
-    elim (p (suc n)) as (λ b. p (suc n) ≡ b → cond b (suc n) (greatest p n) < k → p k ≡ false) [
+    elim (p (suc n)) as (λ b. p (suc n) ≡ b → cond b (suc n) (greatest_passing p n) < k → p k ≡ false) [
       | true ↦ λ e over. absurd (omega (arith, over, below))
       | false ↦ λ e over.
           elim (cases_lt k (suc n)) as (λ w. p k ≡ false) [
@@ -40,12 +40,12 @@ greatest_above p (suc n) k above below =
     ] refl above
 
 -- a number that passes, above which none does up to the bound, is the greatest
-greatest_is : (p : ℕ → Bool) (n g : ℕ) → p 0 ≡ true → p g ≡ true → g ≤ n → ((k : ℕ) → g < k → p k ≡ false) → greatest p n ≡ g
+greatest_is : (p : ℕ → Bool) (n g : ℕ) → p 0 ≡ true → p g ≡ true → g ≤ n → ((k : ℕ) → g < k → p k ≡ false) → greatest_passing p n ≡ g
 greatest_is p n g first passes bounded above =
-    let top : p (greatest p n) ≡ true = greatest_passes p n first in
-    elim (cases_lt g (greatest p n)) as (λ w. greatest p n ≡ g) [
-      | inl lt ↦ absurd (true≢false (sym top ∙ above (greatest p n) lt))
-      | inr ge ↦ elim (cases_lt (greatest p n) g) as (λ w. greatest p n ≡ g) [
+    let top : p (greatest_passing p n) ≡ true = greatest_passes p n first in
+    elim (cases_lt g (greatest_passing p n)) as (λ w. greatest_passing p n ≡ g) [
+      | inl lt ↦ absurd (true≢false (sym top ∙ above (greatest_passing p n) lt))
+      | inr ge ↦ elim (cases_lt (greatest_passing p n) g) as (λ w. greatest_passing p n ≡ g) [
         | inl lt ↦ absurd (true≢false (sym passes ∙ greatest_above p n g lt bounded))
         | inr le ↦ omega arith
       ]

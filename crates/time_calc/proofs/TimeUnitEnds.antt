@@ -6,7 +6,7 @@ use Rattle.std.proofs.lemmas.Int.{ints}
 use Rattle.case_table.specs.declared.unit.Unit.{Unit}
 use Rattle.case_table.specs.declared.unit.Unit.TheVariants.{Millisecond, Second, Minute, Hour, Day, Week, Month, Quarter, Year}
 use Rattle.case_table.specs.TimeUnits.{UnitRule, unit_rule, unit_rules}
-use Rattle.time_calc.specs.Calendar.{date_of_count, greatest, days_before_year, days_of_months}
+use Rattle.time_calc.specs.Calendar.{date_of_count, greatest_passing, days_before_year, days_of_months}
 use Rattle.time_calc.specs.Instants.{first_instant, last_instant, instant_number, day_of_instant, time_of_instant}
 use Rattle.time_calc.specs.Boundaries.{is_boundary, last_boundary, IsFirstBoundary, Follows}
 use Rattle.time_calc.specs.NextBoundary.{next_boundary}
@@ -22,7 +22,7 @@ no_week _ = true
 
 -- 9999 begins with a boundary of every unit but the week
 begins_9999 : (unit : Unit) → no_week unit ≡ true → is_boundary unit 1 last_boundary ≡ true
-unfolding is_boundary no_week day_of_instant time_of_instant date_of_count greatest days_before_year days_of_months
+unfolding is_boundary no_week day_of_instant time_of_instant date_of_count greatest_passing days_before_year days_of_months
 begins_9999 Millisecond h = refl
 begins_9999 Second h = refl
 begins_9999 Minute h = refl

@@ -5,7 +5,7 @@ use Rattle.case_table.specs.declared.unit.Unit.{Unit}
 use Rattle.case_table.specs.declared.unit.Unit.TheVariants.{Millisecond, Second, Minute, Hour, Day, Week, Month, Quarter, Year}
 use Rattle.time_calc.specs.declared.calendar.Date.{Date}
 use Rattle.time_calc.specs.declared.instants.TimeOfDay.{TimeOfDay}
-use Rattle.time_calc.specs.Calendar.{is_leap, days_of_month, days_before_year, days_of_months, days_before_1970, date_of_day, date_of_count, greatest, weekday_of, day_count}
+use Rattle.time_calc.specs.Calendar.{is_leap, days_of_month, days_before_year, days_of_months, days_before_1970, date_of_day, date_of_count, greatest_passing, weekday_of, day_count}
 use Rattle.time_calc.specs.Instants.{day_length, first_instant, last_instant, instant_number, day_of_instant, time_of_instant}
 
 -- the date of an instant
@@ -100,7 +100,7 @@ abbrev leap_day : ℤ
 leap_day = pos 1709164800000
 
 the_leap_day_of_2024 : (is_boundary Day 2 leap_day ≡ true) × (is_boundary Day 5 leap_day ≡ false) × (is_boundary Month 1 leap_day ≡ false)
-unfolding is_boundary day_of_instant time_of_instant date_of_count greatest days_before_year days_of_months
+unfolding is_boundary day_of_instant time_of_instant date_of_count greatest_passing days_before_year days_of_months
 the_leap_day_of_2024 = (refl, refl, refl)
 
 a_sunday : (is_boundary Week 1 (pos 1708819200000) ≡ true) × (is_boundary Week 1 leap_day ≡ false)

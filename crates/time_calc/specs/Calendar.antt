@@ -47,17 +47,17 @@ abbrev pub day_of_date : Date → ℤ
 day_of_date d = pos (day_count d) -ℤ pos days_before_1970
 
 -- the greatest number up to a bound that passes a test, and 0 where none does
-unfoldable pub greatest : (ℕ → Bool) → ℕ → ℕ
-greatest passes zero = 0
-greatest passes (suc n) = if passes (suc n) then suc n else greatest passes n
+unfoldable pub greatest_passing : (ℕ → Bool) → ℕ → ℕ
+greatest_passing passes zero = 0
+greatest_passing passes (suc n) = if passes (suc n) then suc n else greatest_passing passes n
 
 -- the year of a day counted from 1 January of the year 0: the greatest that doesn't begin after it
 abbrev pub year_of_count : ℕ → ℕ
-year_of_count count = greatest (λ year. nat_le (days_before_year year) count) (count / 365)
+year_of_count count = greatest_passing (λ year. nat_le (days_before_year year) count) (count / 365)
 
 -- the month of a day counted from 1 January of its year: the greatest that doesn't begin after it
 abbrev pub month_of_count : Bool → ℕ → ℕ
-month_of_count leap count = greatest (λ month. nat_le (days_of_months leap (month - 1)) count) 12
+month_of_count leap count = greatest_passing (λ month. nat_le (days_of_months leap (month - 1)) count) 12
 
 -- the date of a day of a year, counted from its 1 January
 abbrev pub date_in_year : ℕ → ℕ → Date
@@ -89,15 +89,15 @@ unfolding day_count days_before_year days_of_months
 the_epoch = refl
 
 the_leap_day_of_2024 : date_of_day (pos 19782) ≡ record { year = 2024; month = 2; day = 29 }
-unfolding date_of_count greatest days_before_year days_of_months
+unfolding date_of_count greatest_passing days_before_year days_of_months
 the_leap_day_of_2024 = refl
 
 the_first_day_of_the_year_1 : date_of_day (negsuc 719161) ≡ record { year = 1; month = 1; day = 1 }
-unfolding date_of_count greatest days_before_year days_of_months
+unfolding date_of_count greatest_passing days_before_year days_of_months
 the_first_day_of_the_year_1 = refl
 
 the_last_day_of_9999 : date_of_day (pos 2932896) ≡ record { year = 9999; month = 12; day = 31 }
-unfolding date_of_count greatest days_before_year days_of_months
+unfolding date_of_count greatest_passing days_before_year days_of_months
 the_last_day_of_9999 = refl
 
 a_thursday : weekday_of (pos 20545) ≡ 4

@@ -52,24 +52,24 @@ abbrev pub forms : List (List ℕ)
 forms = date_forms ++ moment_forms
 
 -- the form that a text has
-unfoldable pub form_of : List ℕ → Option (List ℕ)
-form_of text = find (λ form. fits form text) forms
+unfoldable pub instant_form : List ℕ → Option (List ℕ)
+instant_form text = find (λ form. fits form text) forms
 
 -- ---- worked examples
 
 so_many_forms : length forms ≡ 94
 so_many_forms = refl
 
-a_moment : form_of (codes "2024-02-29 23:59:59.5+05:30") ≡ Some (codes "YYYY-MM-DD hh:mm:ss.i+pp:qq")
-unfolding form_of
+a_moment : instant_form (codes "2024-02-29 23:59:59.5+05:30") ≡ Some (codes "YYYY-MM-DD hh:mm:ss.i+pp:qq")
+unfolding instant_form
 a_moment = refl
 
-a_small_t : form_of (codes "2024-02-29t23:59") ≡ None
-unfolding form_of
+a_small_t : instant_form (codes "2024-02-29t23:59") ≡ None
+unfolding instant_form
 a_small_t = refl
 
-ten_digits : form_of (codes "2024-02-29T23:59:59.1234567890") ≡ None
-unfolding form_of
+ten_digits : instant_form (codes "2024-02-29T23:59:59.1234567890") ≡ None
+unfolding instant_form
 ten_digits = refl
 
 the_zone_ahead : value 112 (codes "YYYY-MM-DD hh:mm:ss.i+pp:qq") (codes "2024-02-29 23:59:59.5+05:30") ≡ 5

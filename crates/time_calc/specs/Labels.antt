@@ -10,7 +10,7 @@ use Rattle.time_calc.specs.declared.labels.LabelError.TheVariants as fault
 use Rattle.time_calc.specs.declared.directives.Directive.{Directive}
 use Rattle.time_calc.specs.declared.directives.Directive.TheVariants.{Year, Quarter, Month, Date, Hours, HoursOfTwelve, Minutes, Seconds, Milliseconds, ShortMonth, LongMonth, ShortDay, HalfOfDay, Percent}
 use Rattle.time_calc.specs.Instants.{instant_at, day_of_instant, time_of_instant}
-use Rattle.time_calc.specs.Calendar.{date_of_count, greatest, days_before_year, days_of_months, weekday_of}
+use Rattle.time_calc.specs.Calendar.{date_of_count, greatest_passing, days_before_year, days_of_months, weekday_of}
 use Rattle.time_calc.specs.Parts.{part_of}
 use Rattle.time_calc.specs.Texts.{month_names}
 
@@ -105,7 +105,7 @@ cause fault.Memory = None
 -- ---- worked examples
 
 the_first_quarter_of_1970 : label (pos 0) (codes "%Y Q%q") ≡ Ok (codes "1970 Q1")
-unfolding pieces directive_of chars encode_utf8 digits day_of_instant date_of_count greatest days_before_year days_of_months
+unfolding pieces directive_of chars encode_utf8 digits day_of_instant date_of_count greatest_passing days_before_year days_of_months
 the_first_quarter_of_1970 = refl
 
 an_unknown_directive : label (pos 0) (codes "%Q") ≡ Err fault.Pattern

@@ -6,7 +6,7 @@ use Rattle.case_table.specs.declared.unit.Unit.TheVariants.{Millisecond, Second,
 use Rattle.time_calc.specs.declared.boundaries.Side.{Side}
 use Rattle.time_calc.specs.declared.boundaries.Side.TheVariants.{Before, After}
 use Rattle.time_calc.specs.declared.calendar.Date.{Date}
-use Rattle.time_calc.specs.Calendar.{is_leap, days_of_month, days_before_year, days_of_months, days_before_1970, date_of_day, date_of_count, greatest, weekday_of}
+use Rattle.time_calc.specs.Calendar.{is_leap, days_of_month, days_before_year, days_of_months, days_before_1970, date_of_day, date_of_count, greatest_passing, weekday_of}
 use Rattle.time_calc.specs.Instants.{day_length, day_of_instant, first_instant}
 use Rattle.time_calc.specs.Boundaries.{last_boundary, date_at}
 
@@ -72,9 +72,9 @@ next_boundary unit n instant =
 -- ---- worked examples
 
 the_month_after_a_leap_day : next_boundary Month 1 (pos 1709211600000) ≡ Some (pos 1709251200000)
-unfolding next_boundary day_of_instant date_of_count greatest days_before_year days_of_months
+unfolding next_boundary day_of_instant date_of_count greatest_passing days_before_year days_of_months
 the_month_after_a_leap_day = refl
 
 the_quarter_of_a_leap_day : truncated Quarter 1 (pos 1709211600000) ≡ pos 1704067200000
-unfolding truncated day_of_instant date_of_count greatest days_before_year days_of_months
+unfolding truncated day_of_instant date_of_count greatest_passing days_before_year days_of_months
 the_quarter_of_a_leap_day = refl

@@ -3,7 +3,7 @@ use Rattle.std.specs.Prelude.{ℕ, ◌+◌, ◌-◌, ◌/◌, ℤ, pos, ◌*ℤ�
 use Rattle.fixed_num.specs.Number.{million}
 use Rattle.case_table.specs.declared.unit.PartOf.{PartOf}
 use Rattle.case_table.specs.declared.unit.PartOf.TheVariants.{Year, Quarter, Month, Date, Day, Hours, Minutes, Seconds, Milliseconds}
-use Rattle.time_calc.specs.Calendar.{date_of_day, weekday_of, date_of_count, greatest, days_before_year, days_of_months}
+use Rattle.time_calc.specs.Calendar.{date_of_day, weekday_of, date_of_count, greatest_passing, days_before_year, days_of_months}
 use Rattle.time_calc.specs.Instants.{instant_at, day_of_instant, time_of_instant, instant_number, first_instant, last_instant}
 
 -- a part of an instant: the quarter from 1, the month from 0, the date the day of the month, the day that of the week from Sunday 0
@@ -23,13 +23,13 @@ abbrev pub part : ℤ → PartOf → Option ℤ
 part number p = option_map (λ instant. pos (part_of instant p) *ℤ pos million) (instant_at number)
 
 the_month_of_a_leap_day : part (instant_number (pos 1709164800000)) Month ≡ Some (pos 1000000)
-unfolding day_of_instant date_of_count greatest days_before_year days_of_months
+unfolding day_of_instant date_of_count greatest_passing days_before_year days_of_months
 the_month_of_a_leap_day = refl
 
 the_first_year : part (instant_number first_instant) Year ≡ Some (pos 1000000)
-unfolding day_of_instant date_of_count greatest days_before_year days_of_months
+unfolding day_of_instant date_of_count greatest_passing days_before_year days_of_months
 the_first_year = refl
 
 the_last_year : part (instant_number last_instant) Year ≡ Some (pos 9998000000)
-unfolding day_of_instant date_of_count greatest days_before_year days_of_months
+unfolding day_of_instant date_of_count greatest_passing days_before_year days_of_months
 the_last_year = refl

@@ -8,7 +8,7 @@ use Rattle.time_calc.specs.declared.calendar.Date.{Date}
 use Rattle.time_calc.specs.declared.instants.TimeOfDay.{TimeOfDay}
 use Rattle.time_calc.specs.Calendar.{is_date, day_of_date, day_count, days_before_year, days_of_months}
 use Rattle.time_calc.specs.Instants.{is_time, instant_of_day, instant_in_range}
-use Rattle.time_calc.specs.Forms.{value, form_of, under}
+use Rattle.time_calc.specs.Forms.{value, instant_form, under}
 
 abbrev pub month_names : List (List ℕ)
 month_names =
@@ -75,22 +75,22 @@ instant_by form text =
 
 -- the instant that a text gives, as a number
 unfoldable pub read_instant : List ℕ → Option ℤ
-read_instant text = option_and_then (λ form. instant_by form text) (form_of text)
+read_instant text = option_and_then (λ form. instant_by form text) (instant_form text)
 
 -- ---- worked examples
 
 a_leap_day : read_instant (codes "2024-02-29") ≡ Some (pos 1709164800000000000)
-unfolding read_instant form_of instant_by date_by time_by zone_by month_by under instant_of_day day_count days_before_year days_of_months
+unfolding read_instant instant_form instant_by date_by time_by zone_by month_by under instant_of_day day_count days_before_year days_of_months
 a_leap_day = refl
 
 no_leap_day : read_instant (codes "1900-02-29") ≡ None
-unfolding read_instant form_of instant_by date_by time_by zone_by month_by under instant_of_day day_count days_before_year days_of_months
+unfolding read_instant instant_form instant_by date_by time_by zone_by month_by under instant_of_day day_count days_before_year days_of_months
 no_leap_day = refl
 
 a_month_by_name : read_instant (codes "Mar 1 1970") ≡ Some (pos 5097600000000000)
-unfolding read_instant form_of instant_by date_by time_by zone_by month_by under instant_of_day day_count days_before_year days_of_months
+unfolding read_instant instant_form instant_by date_by time_by zone_by month_by under instant_of_day day_count days_before_year days_of_months
 a_month_by_name = refl
 
 a_zone_behind : read_instant (codes "0000-12-31T23:59:59.9999-00:01") ≡ Some (negsuc 62135596740000999999)
-unfolding read_instant form_of instant_by date_by time_by zone_by month_by under instant_of_day day_count days_before_year days_of_months
+unfolding read_instant instant_form instant_by date_by time_by zone_by month_by under instant_of_day day_count days_before_year days_of_months
 a_zone_behind = refl

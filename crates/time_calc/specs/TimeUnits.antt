@@ -8,7 +8,7 @@ use Rattle.case_table.specs.declared.unit.Unit.TheVariants as unit
 use Rattle.case_table.specs.TimeUnits.{UnitRule}
 use Rattle.time_calc.specs.declared.calendar.Date.{Date}
 use Rattle.time_calc.specs.declared.instants.TimeOfDay.{TimeOfDay}
-use Rattle.time_calc.specs.Calendar.{day_of_date, day_count, date_of_count, greatest, days_before_year, days_of_months, weekday_of}
+use Rattle.time_calc.specs.Calendar.{day_of_date, day_count, date_of_count, greatest_passing, days_before_year, days_of_months, weekday_of}
 use Rattle.time_calc.specs.Instants.{day_length, instant_at, instant_number, since_midnight, day_of_instant, time_of_instant}
 use Rattle.time_calc.specs.Boundaries.{date_at}
 use Rattle.time_calc.specs.NextBoundary.{next_boundary}
@@ -85,20 +85,20 @@ abbrev leap_day_at_13 : ℤ
 leap_day_at_13 = pos 1709211600000
 
 by_month : ends_of (record { kept = part.Month ∷ []; smallest = unit.Month; label = [] }) leap_day_at_13 ≡ Some (pos 1328054400000, pos 1330560000000)
-unfolding start_of next_boundary day_of_instant time_of_instant weekday_of day_count date_of_count greatest days_before_year days_of_months
+unfolding start_of next_boundary day_of_instant time_of_instant weekday_of day_count date_of_count greatest_passing days_before_year days_of_months
 by_month = refl
 
 abbrev yearmonth : UnitRule
 yearmonth = record { kept = part.Year ∷ part.Month ∷ []; smallest = unit.Month; label = [] }
 
 by_yearmonth : ends_of yearmonth leap_day_at_13 ≡ Some (pos 1706745600000, pos 1709251200000)
-unfolding start_of next_boundary day_of_instant time_of_instant weekday_of day_count date_of_count greatest days_before_year days_of_months
+unfolding start_of next_boundary day_of_instant time_of_instant weekday_of day_count date_of_count greatest_passing days_before_year days_of_months
 by_yearmonth = refl
 
 by_date : ends_of (record { kept = part.Date ∷ []; smallest = unit.Day; label = [] }) leap_day_at_13 ≡ Some (pos 1327795200000, pos 1327881600000)
-unfolding start_of next_boundary day_of_instant time_of_instant weekday_of day_count date_of_count greatest days_before_year days_of_months
+unfolding start_of next_boundary day_of_instant time_of_instant weekday_of day_count date_of_count greatest_passing days_before_year days_of_months
 by_date = refl
 
 by_day : ends_of (record { kept = part.Day ∷ []; smallest = unit.Day; label = [] }) leap_day_at_13 ≡ Some (pos 1325721600000, pos 1325808000000)
-unfolding start_of next_boundary day_of_instant time_of_instant weekday_of day_count date_of_count greatest days_before_year days_of_months
+unfolding start_of next_boundary day_of_instant time_of_instant weekday_of day_count date_of_count greatest_passing days_before_year days_of_months
 by_day = refl

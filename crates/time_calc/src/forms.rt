@@ -1,7 +1,7 @@
 //! The forms in which a text gives an instant. In a form some letters stand for digits, and every other byte stands for itself.
 ghost use Rattle.std.specs.Prelude.{◌≡◌, ◌≤◌, ◌==◌, IfSome, IsTrue, find, map, option_map};
 ghost use Rattle.std.specs.List.{list_any, list_all, zip};
-ghost use Rattle.time_calc.specs.Forms.{digit_letters, stands_for, fits, form_of, value};
+ghost use Rattle.time_calc.specs.Forms.{digit_letters, stands_for, fits, instant_form, value};
 ghost use Rattle.time_calc.specs.Texts.{value_or_one};
 ghost use Rattle.time_calc.specs.inner.Forms.{IsFormOf, are_short, first_fit, read_letters};
 
@@ -92,7 +92,7 @@ fn short_form_among(forms: &[&'static str], text: &[u8]) -> Option<&'static str>
 
 /// The form that a text has.
 pub(crate) fn form_of(text: &[u8]) -> Option<&'static str>
-    ensures value { option_map (λ form. form.now) result ≡ form_of text.now }
+    ensures value { option_map (λ form. form.now) result ≡ instant_form text.now }
     ensures form { IfSome result (λ form. IsFormOf text.now form.now) }
 {
     short_form_among(&FORMS, text)
