@@ -1,6 +1,10 @@
-pub mod Fronts
 pub mod Prefixes
-pub mod Forms
+pub mod OpenedLemmas
+pub mod Meets
+pub mod Pictures
 pub mod Ended
 pub mod Texts
 pub mod Stopped
+pub mod Readings
+pub mod FormTexts
+pub mod Alike

@@ -1,16 +1,20 @@
 -- How a run ends: its status, its line on the notes, and what that says of words, files and script.
-use Rattle.std.specs.Prelude.{◌≡◌, ◌⊎◌, ◌≤◌, ℕ, true, Option, Some, IfSome, IsSomeAnd, List, [], ◌∷◌, ◌++◌, length, codes}
+use Rattle.std.specs.Prelude.{◌≡◌, ◌⊎◌, ◌≤◌, ℕ, true, Option, Some, None, IfSome, IsSomeAnd, List, [], ◌∷◌, ◌++◌, length, codes}
 use Rattle.chart_io.specs.Outside.{Rose, Files, Kept, Appended, AppendedPrefix}
 use Rattle.param_flow.specs.Script.{most_script_bytes}
 use Rattle.play_script.specs.Played.{IsPastSize}
+use Rattle.chart_opening.specs.declared.refusal.Refusal.{Refusal}
+use Rattle.chart_opening.specs.Texts.{Reading}
 use Rattle.chart_tool.specs.Words.{Ask, reads_script}
-use Rattle.chart_tool.specs.Refusals.{Refusal, refusal_status, refusal_text, IsRefused}
+use Rattle.chart_tool.specs.Refusals.{refusal_status, refusal_text, IsRefused}
 use Rattle.chart_tool.specs.Wanted.{IsAccepted}
 
 pub data End : Type 0 where
   -- the whole output was written
   Done : End
-  -- the words or a file were refused
+  -- the words are no form of words
+  Words : End
+  -- the files were refused
   Refused : Refusal → End
   -- the folder or the script could not be read
   ReadFault : End
@@ -23,6 +27,7 @@ pub data End : Type 0 where
 
 abbrev pub end_status : End → ℕ
 end_status Done = 0
+end_status Words = 1
 end_status (Refused why) = refusal_status why
 end_status ReadFault = 7
 end_status WriteFault = 8
@@ -32,6 +37,7 @@ end_status LongScript = 10
 -- what the notes get: nothing where all is done, else a line
 abbrev pub end_note : End → List ℕ
 end_note Done = []
+end_note Words = codes "chart: words\n"
 end_note (Refused why) = refusal_text why ++ 10 ∷ []
 end_note ReadFault = codes "chart: read\n"
 end_note WriteFault = codes "chart: write\n"
@@ -50,18 +56,19 @@ AsksScript asked = IsSomeAnd asked (λ ask. reads_script ask ≡ true)
 abbrev pub IsReadWhole : Option (List ℕ) → Option (List ℕ) → Type 0
 IsReadWhole script left = IfSome script (λ bytes. (length bytes ≤ most_script_bytes) × (left ≡ Some []))
 
--- What an end says. Asked for is what the words ask; told are the folder's files; script and left are what the script
--- told before and after; Untouched says that the script is as it was; Silent that nothing was written; the rest, which
+-- What an end says, by a right reading of JSON. Asked for is what the words ask; told are the folder's files; script and left are what
+-- the script told before and after; Untouched says that the script is as it was; Silent that nothing was written; the rest, which
 -- count of faults rose.
-module _ (asked : Option Ask) (told : Option Files) (script left : Option (List ℕ))
+module _ (reading : Reading) (asked : Option Ask) (told : Option Files) (script left : Option (List ℕ))
     (Untouched Silent FolderRose ScriptRose OutRose : Type 0) where
   abbrev pub IsEnd : End → Type 0
-  IsEnd Done = Told asked told IsAccepted × (AsksScript asked → IsReadWhole script left)
-  IsEnd (Refused why) = IfSome told (λ files. IsRefused asked files why) × Silent × Untouched
-  IsEnd ReadFault = (FolderRose × Silent × Untouched) ⊎ (Told asked told IsAccepted × AsksScript asked × ScriptRose)
-  IsEnd WriteFault = Told asked told IsAccepted × OutRose
+  IsEnd Done = Told asked told (IsAccepted reading) × (AsksScript asked → IsReadWhole script left)
+  IsEnd Words = (asked ≡ None) × Silent × Untouched
+  IsEnd (Refused why) = IfSome told (λ files. IsRefused reading asked files why) × Silent × Untouched
+  IsEnd ReadFault = (FolderRose × Silent × Untouched) ⊎ (Told asked told (IsAccepted reading) × AsksScript asked × ScriptRose)
+  IsEnd WriteFault = Told asked told (IsAccepted reading) × OutRose
   IsEnd NoMemory = Unit {0}
-  IsEnd LongScript = Told asked told IsAccepted × AsksScript asked × IfSome script (λ bytes. IsPastSize bytes left)
+  IsEnd LongScript = Told asked told (IsAccepted reading) × AsksScript asked × IfSome script (λ bytes. IsPastSize bytes left)
 
 -- a beginning of the text was appended, and all of it unless the count of faults rose
 pub record IsNoted (faults faults_now : ℕ) (old now : Option (List ℕ)) (text : List ℕ) : Type 0 where

@@ -1,6 +1,6 @@
 pub mod Words
-pub mod Files
 pub mod Refusals
 pub mod Wanted
 pub mod Ends
+pub mod Laws
 pub mod inner

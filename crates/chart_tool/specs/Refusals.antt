@@ -1,45 +1,62 @@
--- Why words and files are refused: the causes in their order, each with its status, its line on the notes, and what it is about.
-use Rattle.std.specs.Prelude.{◌≡◌, refl, ℕ, Option, Some, None, List, [], ◌∷◌, ◌++◌, codes}
+-- Why files are refused: the status of each cause, and its line on the notes.
+use Rattle.std.specs.Prelude.{◌≡◌, refl, ℕ, Option, Some, None, List, [], ◌++◌, codes, Result, Err}
 use Rattle.std.specs.Fmt.{decimal}
-use Rattle.chart_io.specs.Outside.{Files, file_of}
-use Rattle.chart_tool.specs.Words.{Ask, spec_name}
-use Rattle.chart_tool.specs.Files.{IsTooLong, IsUnreadable, IsUnsupported}
-
-pub data Refusal : Type 0 where
-  -- the words are no form of words
-  Words : Refusal
-  -- the folder has no file of this name
-  Missing : List ℕ → Refusal
-  -- the file of this name is longer than files may be
-  Size : List ℕ → Refusal
-  -- the bytes of the file of this name are no JSON text: so many of them begin one
-  Json : List ℕ → ℕ → Refusal
-  -- the specification is none that is drawn yet
-  Spec : Refusal
+use Rattle.json_exact.specs.declared.spec_error.SpecKind.{SpecKind}
+use Rattle.json_exact.specs.declared.spec_error.SpecKind.TheVariants.{Unsupported, Missing, Wrong}
+use Rattle.json_exact.specs.Writing.{quoted}
+use Rattle.chart_io.specs.Outside.{Files}
+use Rattle.chart_opening.specs.declared.opened.Opened.{Opened}
+use Rattle.chart_opening.specs.declared.refusal.Refusal.{Refusal}
+use Rattle.chart_opening.specs.declared.refusal.Refusal.TheVariants as refusal
+use Rattle.chart_opening.specs.Texts.{Reading}
+use Rattle.chart_opening.specs.Charts.{drawn_by}
+use Rattle.chart_opening.specs.Compiled.{compiled_by}
+use Rattle.chart_tool.specs.Words.{Ask, Render, Play, Compile}
 
 abbrev pub refusal_status : Refusal → ℕ
-refusal_status Words = 1
-refusal_status (Missing name) = 2
-refusal_status (Json name place) = 3
-refusal_status Spec = 4
-refusal_status (Size name) = 10
+refusal_status (refusal.Missing name) = 2
+refusal_status (refusal.Size name) = 10
+refusal_status (refusal.Json name place) = 3
+refusal_status (refusal.Spec kind path) = 4
+refusal_status (refusal.Row source row field) = 5
+refusal_status refusal.Rows = 10
+refusal_status refusal.Overflow = 6
+refusal_status (refusal.Panels count) = 11
 
+-- the name of a kind of fault
+abbrev pub kind_name : SpecKind → List ℕ
+kind_name Unsupported = codes "unsupported"
+kind_name Missing = codes "missing"
+kind_name Wrong = codes "wrong"
+
+-- a cause in words; the names of a source and of a field are written as JSON texts
 abbrev pub refusal_text : Refusal → List ℕ
-refusal_text Words = codes "chart: words"
-refusal_text (Missing name) = codes "chart: missing " ++ name
-refusal_text (Json name place) = codes "chart: json " ++ name ++ codes " at " ++ decimal place
-refusal_text Spec = codes "chart: spec unsupported "
-refusal_text (Size name) = codes "chart: size " ++ name
+refusal_text (refusal.Missing name) = codes "chart: missing " ++ name
+refusal_text (refusal.Size name) = codes "chart: size " ++ name
+refusal_text (refusal.Json name place) = codes "chart: json " ++ name ++ codes " at " ++ decimal place
+refusal_text (refusal.Spec kind path) = codes "chart: spec " ++ kind_name kind ++ codes " " ++ path
+refusal_text (refusal.Row source row field) =
+    codes "chart: row " ++ quoted source ++ codes " " ++ decimal row ++ codes " " ++ quoted field
+refusal_text refusal.Rows = codes "chart: size rows"
+refusal_text refusal.Overflow = codes "chart: overflow"
+refusal_text (refusal.Panels count) = codes "chart: panels " ++ decimal count
 
--- what of a file of this name, as the folder tells it, is the cause; no file is refused by two causes
-abbrev pub IsFileRefusal : List ℕ → Option (List ℕ) → Refusal → Type 0
-IsFileRefusal name file Words = ⊥
-IsFileRefusal name file (Missing other) = (other ≡ name) × (file ≡ None)
-IsFileRefusal name file (Size other) = (other ≡ name) × IsTooLong file
-IsFileRefusal name file (Json other place) = (other ≡ name) × IsUnreadable file place
-IsFileRefusal name file Spec = IsUnsupported file
+-- what is asked for needs of the files: the specification with its opening state, whose chart is drawn for a picture and for a script
+abbrev pub opened_for : Reading → Ask → Files → Result Opened Refusal
+opened_for reading (Render name) files = drawn_by reading files name
+opened_for reading (Play name) files = drawn_by reading files name
+opened_for reading (Compile name) files = compiled_by reading files name
 
--- the first cause that refuses what is asked over these files: the words, then the file of the specification
-abbrev pub IsRefused : Option Ask → Files → Refusal → Type 0
-IsRefused None files why = why ≡ Words
-IsRefused (Some ask) files why = IsFileRefusal (spec_name ask) (file_of files (spec_name ask)) why
+-- what is asked for is refused for this cause, the first of them
+abbrev pub IsRefused : Reading → Option Ask → Files → Refusal → Type 0
+IsRefused reading None files why = ⊥
+IsRefused reading (Some ask) files why = opened_for reading ask files ≡ Err why
+
+-- The rules at work.
+
+a_bad_row : refusal_text (refusal.Row (codes "t") 0 []) ≡ codes "chart: row \"t\" 0 \"\""
+unfolding Rattle.std.specs.Fmt.digits
+a_bad_row = refl
+
+a_fault : refusal_text (refusal.Spec Wrong (codes "/$schema")) ≡ codes "chart: spec wrong /$schema"
+a_fault = refl

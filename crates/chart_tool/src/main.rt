@@ -1,8 +1,9 @@
-//! A chart engine that is proved: `render SPEC` writes the picture of a specification as SVG, and `play SPEC` replies to a script of
-//! changes and prints.
+//! A chart engine that is proved: `render SPEC` writes the picture of a specification as SVG, `play SPEC` replies to a script of changes
+//! and prints, and `compile SPEC` writes the text of its Vega specification.
 #![tactic(auto)]
 
-mod files;
+mod compile;
+mod laws;
 mod opened;
 mod play;
 mod render;

@@ -1,75 +1,49 @@
-//! A file's chart, opened.
-ghost use Rattle.std.specs.Prelude.{◌≤◌, IfOk, IfErr, IfSome, IsErrOf};
-ghost use Rattle.chart_io.specs.Outside.{Rose, Kept, file_of};
-ghost use Rattle.first_form.specs.Drawable.{IsDrawable};
+//! A file's chart, opened and drawn.
+ghost use Rattle.std.specs.Prelude.{◌≡◌, ◌≤◌, Bool, true, IfErr, IfSome, IsErrOf};
+ghost use Rattle.chart_io.specs.Outside.{Rose, Kept};
+ghost use Rattle.cell_value.specs.State.{state_of};
+ghost use Rattle.vega_plots.specs.Tested.{is_plot};
+ghost use Rattle.vega_meaning.specs.States.{IsStateOf};
 ghost use Rattle.plain_engine.specs.Engine.{meaning_of};
-ghost use Rattle.chart_tool.specs.inner.Stops.{IsFormOf, IsOpening, IsOpenedOf, IsOpenedFile, IsOpenStop};
+ghost use Rattle.chart_opening.specs.Charts.{drawn_of, drawn_by};
+ghost use Rattle.chart_opening.specs.inner.Reading.{the_reading};
+ghost use Rattle.chart_tool.specs.inner.Stops.{Meets, meant_of, IsOpenStop};
 
-use crate::files::read_file;
-use crate::stop::Stop;
+use crate::stop::{Stop, stop_at};
 use chart_io::Folder;
-use first_form::{FirstForm, bars_of, first_form, opening_of};
-use json_exact::JsonError;
+use chart_opening::{Opened, Refusal, opened_file};
 use plain_engine::PlainEngine;
 use std::alloc::Global;
-use text_kit::OutOfMemory;
 use vega_meaning::OpenError;
 
-// The chart that the bytes specify. `Unreadable` comes only where they are no JSON text, `Unsupported` only where they are one and
-// specify no chart of the first form; and wherever that holds, unless memory is refused.
-fn form_of(alloc: Global, bytes: &[u8]) -> Result<FirstForm, Stop>
-    ensures { IsFormOf bytes.now result }
+// An engine of what is opened.
+fn engine_of(alloc: Global, opened: Opened) -> Result<PlainEngine, Stop>
+    requires plot { is_plot opened.spec ≡ true }
+    requires state { IsStateOf opened.spec (state_of opened.state) }
+    ensures told { Meets meaning_of result (meant_of (drawn_of opened)) }
+    ensures stop { IfErr result IsOpenStop }
+    ensures read { IsErrOf result Stop.Read → ⊥ }
 {
-    let tree = match json_exact::read(alloc, bytes) {
-        Ok(tree) => tree,
-        Err(JsonError::Fault { at }) => return Err(Stop::Unreadable { at }),
-        Err(JsonError::Memory) => return Err(Stop::Memory),
-    };
-    let Some(form) = first_form(alloc, &tree)? else {
-        return Err(Stop::Unsupported);
-    };
-    Ok(form)
-}
-
-// An engine of the form's Vega chart, in its opening state. It is always drawn.
-fn opened(alloc: Global, form: &FirstForm) -> Result<PlainEngine, OutOfMemory>
-    requires { IsDrawable form.now }
-    ensures { IfOk result (λ engine. IsOpening form.now (meaning_of engine)) }
-{
-    let spec = bars_of(form)?;
-    let state = opening_of(alloc, form)?;
-    match PlainEngine::open(alloc, spec, state) {
+    match PlainEngine::open(alloc, opened.spec, opened.state) {
         Ok(engine) => Ok(engine),
-        Err(OpenError::Memory) => Err(OutOfMemory),
-        Err(OpenError::Overflow) => unreachable!(),
-        Err(OpenError::Panels(_)) => unreachable!(),
+        Err(OpenError::Overflow) => Err(Stop::Refused(Refusal::Overflow)),
+        Err(OpenError::Panels(count)) => Err(Stop::Refused(Refusal::Panels(count))),
+        Err(OpenError::Memory) => Err(Stop::Memory),
     }
 }
 
-// The chart that the bytes specify, opened.
-fn opened_of_bytes(alloc: Global, bytes: &[u8]) -> Result<PlainEngine, Stop>
-    ensures { IsOpenedOf meaning_of bytes.now result }
-{
-    let form = form_of(alloc, bytes)?;
-    let engine = opened(alloc, &form)?;
-    Ok(engine)
-}
-
-/// An engine of the chart that the file of this name specifies, in its opening state, or why there is none: `Missing` and `Size` as
-/// `read_file` does, `Unreadable` where the file is within its size and no JSON text, `Unsupported` where it is one and no
-/// specification of the first form, each only and wherever that holds, unless a read failed or memory was refused; `Read` only where
-/// the folder's count of faults rose.
-pub fn opened_file<F: Folder>(
-    alloc: Global,
-    name: &str,
-    folder: &mut F,
-) -> Result<PlainEngine, Stop>
+/// An engine of the chart that the file of this name specifies, in its opening state, or why there is none: the first cause that refuses
+/// the files or the chart, only and wherever it holds, unless a read failed or memory was refused; `Read` only where the folder's
+/// count of faults rose.
+pub fn drawn_file<F: Folder>(alloc: Global, name: &str, folder: &mut F) -> Result<PlainEngine, Stop>
     ensures counted { F.faults folder.old ≤ F.faults folder.new }
     ensures stays { Kept (F.files folder.old) (F.files folder.new) }
     ensures read { IsErrOf result Stop.Read → Rose (F.faults folder.old) (F.faults folder.new) }
-    ensures told { IfSome (F.files folder.old) (λ told. IsOpenedFile meaning_of name.now (file_of told name.now) result) }
+    ensures told { IfSome (F.files folder.old) (λ files. Meets meaning_of result (meant_of (drawn_by the_reading files name.now))) }
     ensures stop { IfErr result IsOpenStop }
 {
-    let bytes = read_file(alloc, folder, name)?;
-    opened_of_bytes(alloc, &bytes)
+    match opened_file(alloc, name, folder) {
+        Ok(opened) => engine_of(alloc, opened),
+        Err(cause) => Err(stop_at(cause)),
+    }
 }

@@ -8,10 +8,11 @@ ghost use Rattle.play_script.specs.Played.{output_alone, IsPlayed, HasTaken, IsP
 ghost use Rattle.chart_tool.specs.Words.{Play};
 ghost use Rattle.chart_tool.specs.Wanted.{IsAccepted};
 ghost use Rattle.chart_tool.specs.Ends.{IsEnd};
+ghost use Rattle.chart_opening.specs.inner.Reading.{the_reading};
 ghost use Rattle.chart_tool.specs.inner.Stops.{end_of, handed, stop_of};
 ghost use Rattle.chart_tool.specs.inner.Runs.{IsTexted};
 
-use crate::opened::opened_file;
+use crate::opened::drawn_file;
 use crate::stop::Stop;
 use cell_value::Steps;
 use chart_io::{Folder, Sink, Source};
@@ -88,9 +89,9 @@ fn play_over<E: Engine, S: Source, K: Sink, N: Sink>(
     play_counted::<E, S, K, N, Brand>(alloc, engine, script, out, notes, Blank::new(1))
 }
 
-/// Plays a script over the chart of the file of this name, or says why not, as `opened_file` does. `Read` comes only where the
+/// Plays a script over the chart of the file of this name, or says why not, as `drawn_file` does. `Read` comes only where the
 /// folder's or the script's count of faults rose, `Write` only where the output's did, `ScriptSize` exactly where more than
-/// 268,435,456 bytes of the script were taken. Where the file is refused or has no form, nothing is written and the script isn't read.
+/// 268,435,456 bytes of the script were taken. Where the files or the chart are refused, nothing is written and the script isn't read.
 /// Else the replies are written: with Ok all of them, and the script was read to its end; after an error a beginning of them.
 pub fn play<F: Folder, S: Source, K: Sink, N: Sink>(
     alloc: Global,
@@ -108,16 +109,16 @@ pub fn play<F: Folder, S: Source, K: Sink, N: Sink>(
     ensures words { IsErrOf result Stop.Words → ⊥ }
     ensures taken { (taken : List ℕ) × HasTaken (S.left script.old) (S.left script.new) taken }
     ensures script_size { IfSome (S.left script.old) (λ bytes. (result ≡ Err Stop.ScriptSize) ↔ IsPastSize bytes (S.left script.new)) }
-    ensures ends { IsEnd (Some (Play name.now)) (F.files folder.old) (S.left script.old) (S.left script.new) (script.new ≡ script.old)
+    ensures ends { IsEnd the_reading (Some (Play name.now)) (F.files folder.old) (S.left script.old) (S.left script.new) (script.new ≡ script.old)
         (Kept (K.held out.old) (K.held out.new)) (Rose (F.faults folder.old) (F.faults folder.new))
         (Rose (S.faults script.old) (S.faults script.new))
-        (Rose (K.faults out.old) (K.faults out.new)) (end_of name.now (result_err result)) }
-    ensures text { IfSome (F.files folder.old) (λ files. IfSome (S.left script.old) (λ script_bytes. IsAccepted (Play name.now) files
+        (Rose (K.faults out.old) (K.faults out.new)) (end_of (result_err result)) }
+    ensures text { IfSome (F.files folder.old) (λ files. IfSome (S.left script.old) (λ script_bytes. IsAccepted the_reading (Play name.now) files
         → IsTexted (Play name.now) files script_bytes result (K.held out.old) (K.held out.new))) }
-    ensures nothing { IfSome (F.files folder.old) (λ files. (IsAccepted (Play name.now) files → ⊥)
+    ensures nothing { IfSome (F.files folder.old) (λ files. (IsAccepted the_reading (Play name.now) files → ⊥)
         → Kept (K.held out.old) (K.held out.new) × (script.new ≡ script.old)) }
 {
-    let mut engine = match opened_file(alloc, name, folder) {
+    let mut engine = match drawn_file(alloc, name, folder) {
         Ok(engine) => engine,
         Err(stop) => return Err(stop),
     };

@@ -7,10 +7,11 @@ ghost use Rattle.play_script.specs.Meaning.{chart_in};
 ghost use Rattle.chart_tool.specs.Words.{Render};
 ghost use Rattle.chart_tool.specs.Wanted.{IsAccepted};
 ghost use Rattle.chart_tool.specs.Ends.{IsEnd};
+ghost use Rattle.chart_opening.specs.inner.Reading.{the_reading};
 ghost use Rattle.chart_tool.specs.inner.Stops.{end_of, IsPrintStop, IsOpenOrPrintStop};
 ghost use Rattle.chart_tool.specs.inner.Runs.{IsTexted};
 
-use crate::opened::opened_file;
+use crate::opened::drawn_file;
 use crate::stop::Stop;
 use chart_io::{Folder, Sink};
 use play_script::{Engine, PrintError};
@@ -31,7 +32,7 @@ fn printed<E: Engine, K: Sink>(engine: &E, out: &mut K) -> Result<(), Stop>
     }
 }
 
-/// Writes the picture of the file of this name, or says why not, as `opened_file` does; `Write` comes only where the output's count
+/// Writes the picture of the file of this name, or says why not, as `drawn_file` does; `Write` comes only where the output's count
 /// of faults rose. Only with Ok, `Write` and `Memory` is anything written: the whole picture, or a beginning of it.
 pub fn render<F: Folder, K: Sink>(
     alloc: Global,
@@ -43,15 +44,15 @@ pub fn render<F: Folder, K: Sink>(
     ensures out_counted { K.faults out.old ≤ K.faults out.new }
     ensures stays { Kept (F.files folder.old) (F.files folder.new) }
     ensures stop { IfErr result IsOpenOrPrintStop }
-    ensures ends { IsEnd (Some (Render name.now)) (F.files folder.old) None None (Unit {0})
+    ensures ends { IsEnd the_reading (Some (Render name.now)) (F.files folder.old) None None (Unit {0})
         (Kept (K.held out.old) (K.held out.new)) (Rose (F.faults folder.old) (F.faults folder.new)) (Unit {0})
-        (Rose (K.faults out.old) (K.faults out.new)) (end_of name.now (result_err result)) }
-    ensures text { IfSome (F.files folder.old) (λ files. IsAccepted (Render name.now) files
+        (Rose (K.faults out.old) (K.faults out.new)) (end_of (result_err result)) }
+    ensures text { IfSome (F.files folder.old) (λ files. IsAccepted the_reading (Render name.now) files
         → IsTexted (Render name.now) files [] result (K.held out.old) (K.held out.new)) }
-    ensures nothing { IfSome (F.files folder.old) (λ files. (IsAccepted (Render name.now) files → ⊥)
+    ensures nothing { IfSome (F.files folder.old) (λ files. (IsAccepted the_reading (Render name.now) files → ⊥)
         → Kept (K.held out.old) (K.held out.new)) }
 {
-    let engine = match opened_file(alloc, name, folder) {
+    let engine = match drawn_file(alloc, name, folder) {
         Ok(engine) => engine,
         Err(stop) => return Err(stop),
     };

@@ -1,36 +1,29 @@
 //! Why a run ends without its whole output.
-ghost use Rattle.std.specs.Prelude.{◌≡◌, ◌≤◌, [], ◌∷◌, ◌++◌, ℕ, List, codes, OnOk, OnErr};
-ghost use Rattle.chart_io.specs.Outside.{Rose, Appended, AppendedPrefix};
+ghost use Rattle.std.specs.Prelude.{◌≡◌, ◌∷◌, [], ◌++◌, codes, IfOk};
+ghost use Rattle.std.specs.Fmt.{decimal};
+ghost use Rattle.json_exact.specs.Writing.{quoted};
 ghost use Rattle.chart_tool.specs.declared.stop.Stop.TheVariants.{Memory};
-ghost use Rattle.chart_tool.specs.Ends.{end_status, end_note};
-ghost use Rattle.chart_tool.specs.inner.Stops.{stop_end};
+ghost use Rattle.chart_tool.specs.Refusals.{kind_name, refusal_status, refusal_text};
+ghost use Rattle.chart_tool.specs.inner.Stops.{stop_at};
 
-use chart_io::{Sink, WriteFault, write_all};
-use std::alloc::{AllocError, AllocFailed};
-use text_kit::OutOfMemory;
+use chart_opening::{OpenStop, Refusal};
+use json_exact::{Json, SpecKind};
+use std::alloc::{AllocError, AllocFailed, Global};
+use text_kit::{OutOfMemory, Text};
 
 /// Why a run ends without its whole output.
-#[derive(Clone, Copy, Debug, PartialEq, Eq)]
+#[derive(Debug, Drop)]
 pub enum Stop {
     /// The words are no form of words.
     Words,
-    /// The folder has no file of the name.
-    Missing,
-    /// The file's bytes are no JSON text.
-    Unreadable {
-        /// The length of the longest prefix of the bytes that begins a JSON text.
-        at: u64,
-    },
-    /// The file is a JSON text, and no chart of the first form.
-    Unsupported,
+    /// Files are refused.
+    Refused(Refusal),
     /// A read failed.
     Read,
     /// A write failed.
     Write,
     /// Memory was refused.
     Memory,
-    /// The file is longer than files may be.
-    Size,
     /// More bytes of the script were taken than a script may have.
     ScriptSize,
 }
@@ -59,74 +52,126 @@ impl<T: Drop> From<AllocFailed<T>> for Stop {
     }
 }
 
-// Writes a cause, a name and a line feed.
-fn write_line<N: Sink>(notes: &mut N, cause: &[u8], name: &str) -> Result<(), WriteFault>
-    ensures counted { N.faults notes.old ≤ N.faults notes.new }
-    ensures cause { OnErr result (Rose (N.faults notes.old) (N.faults notes.new)) }
-    ensures ok { OnOk result (Appended (N.held notes.old) (N.held notes.new) (cause.now ++ name.now ++ 10 ∷ [])) }
-    ensures prefix { AppendedPrefix (N.held notes.old) (N.held notes.new) (cause.now ++ name.now ++ 10 ∷ []) }
+/// Why a run stops where opening stops so.
+pub fn stop_at(cause: OpenStop) -> Stop
+    ensures { result ≡ stop_at cause }
 {
-    write_all(notes, cause)?;
-    write_all(notes, name.as_bytes())?;
-    write_all(notes, b"\n")
-}
-
-// Writes a cause, the name of a file, and the place of a fault in it, by its digits.
-fn write_place<N: Sink>(
-    notes: &mut N,
-    cause: &[u8],
-    name: &str,
-    digits: &str,
-) -> Result<(), WriteFault>
-    ensures counted { N.faults notes.old ≤ N.faults notes.new }
-    ensures cause { OnErr result (Rose (N.faults notes.old) (N.faults notes.new)) }
-    ensures ok { OnOk result (Appended (N.held notes.old) (N.held notes.new)
-        (cause.now ++ name.now ++ (codes " at " ++ digits.now ++ 10 ∷ []))) }
-    ensures prefix { AppendedPrefix (N.held notes.old) (N.held notes.new)
-        (cause.now ++ name.now ++ (codes " at " ++ digits.now ++ 10 ∷ [])) }
-{
-    write_all(notes, cause)?;
-    write_all(notes, name.as_bytes())?;
-    write_line(notes, b" at ", digits)
-}
-
-impl Stop {
-    /// The status that the program ends with.
-    pub fn status(self) -> u8
-        ensures { (name : List ℕ) → result ≡ end_status (stop_end name self) }
-    {
-        match self {
-            Stop::Words => 1,
-            Stop::Missing => 2,
-            Stop::Unreadable { at: _ } => 3,
-            Stop::Unsupported => 4,
-            Stop::Read => 7,
-            Stop::Write => 8,
-            Stop::Memory => 9,
-            Stop::Size | Stop::ScriptSize => 10,
-        }
+    match cause {
+        OpenStop::Refused(why) => Stop::Refused(why),
+        OpenStop::Read => Stop::Read,
+        OpenStop::Memory => Stop::Memory,
     }
+}
 
-    /// Writes the one line that says why, for a file of this name.
-    pub fn note<N: Sink>(self, name: &str, notes: &mut N) -> Result<(), WriteFault>
-        ensures counted { N.faults notes.old ≤ N.faults notes.new }
-        ensures cause { OnErr result (Rose (N.faults notes.old) (N.faults notes.new)) }
-        ensures ok { OnOk result (Appended (N.held notes.old) (N.held notes.new) (end_note (stop_end name.now self))) }
-        ensures prefix { AppendedPrefix (N.held notes.old) (N.held notes.new) (end_note (stop_end name.now self)) }
-    {
-        match self {
-            Stop::Words => write_all(notes, b"chart: words\n"),
-            Stop::Missing => write_line(notes, b"chart: missing ", name),
-            Stop::Unreadable { at } => {
-                let mut digits = itoa::Buffer::new();
-                write_place(notes, b"chart: json ", name, digits.format(at))
-            }
-            Stop::Unsupported => write_all(notes, b"chart: spec unsupported \n"),
-            Stop::Read => write_all(notes, b"chart: read\n"),
-            Stop::Write => write_all(notes, b"chart: write\n"),
-            Stop::Memory => write_all(notes, b"chart: memory\n"),
-            Stop::Size => write_line(notes, b"chart: size ", name),
-            Stop::ScriptSize => write_all(notes, b"chart: size script\n"),
-        }
+/// The status of a run over files that are refused.
+pub fn refusal_status(why: &Refusal) -> u8
+    ensures { result ≡ refusal_status why.now }
+{
+    match why {
+        Refusal::Missing(_) => 2,
+        Refusal::Json(_, _) => 3,
+        Refusal::Spec(_, _) => 4,
+        Refusal::Row(_, _, _) => 5,
+        Refusal::Overflow => 6,
+        Refusal::Size(_) | Refusal::Rows => 10,
+        Refusal::Panels(_) => 11,
+    }
+}
+
+// The name of a kind of fault.
+fn kind_name(kind: SpecKind) -> &'static str
+    ensures { result.now ≡ kind_name kind }
+{
+    match kind {
+        SpecKind::Unsupported => "unsupported",
+        SpecKind::Missing => "missing",
+        SpecKind::Wrong => "wrong",
+    }
+}
+
+// The line of a cause and the name of a file.
+fn name_line(alloc: Global, cause: &str, name: &Text) -> Result<Text, OutOfMemory>
+    ensures { IfOk result (λ text. text ≡ cause.now ++ name.now ++ codes "\n") }
+{
+    let mut text = Text::of(alloc, cause)?;
+    text.push_str(name.as_str())?;
+    text.push_str("\n")?;
+    Ok(text)
+}
+
+// The line of a fault of a specification.
+fn spec_line(alloc: Global, kind: SpecKind, path: &Text) -> Result<Text, OutOfMemory>
+    ensures { IfOk result (λ text. text ≡ codes "chart: spec " ++ kind_name kind ++ codes " " ++ path.now ++ codes "\n") }
+{
+    let mut text = Text::of(alloc, "chart: spec ")?;
+    text.push_str(kind_name(kind))?;
+    text.push_str(" ")?;
+    text.push_str(path.as_str())?;
+    text.push_str("\n")?;
+    Ok(text)
+}
+
+// A text as a JSON text.
+fn quoted(alloc: Global, text: &Text) -> Result<Text, OutOfMemory>
+    ensures { IfOk result (λ json. json ≡ quoted text.now) }
+{
+    json_exact::write(alloc, &Json::Text(text.copy()?))
+}
+
+// The line where a row of a source is bad.
+fn row_line(alloc: Global, source: &Text, row: u64, field: &Text) -> Result<Text, OutOfMemory>
+    ensures { IfOk result (λ text. text
+        ≡ codes "chart: row " ++ quoted source.now ++ codes " " ++ decimal row ++ codes " " ++ quoted field.now ++ codes "\n") }
+{
+    let mut digits = itoa::Buffer::new();
+    let source = quoted(alloc, source)?;
+    let field = quoted(alloc, field)?;
+    let mut text = Text::of(alloc, "chart: row ")?;
+    text.push_str(source.as_str())?;
+    text.push_str(" ")?;
+    text.push_str(digits.format(row))?;
+    text.push_str(" ")?;
+    text.push_str(field.as_str())?;
+    text.push_str("\n")?;
+    Ok(text)
+}
+
+// The line where a file is no JSON text.
+fn json_line(alloc: Global, name: &Text, at: u64) -> Result<Text, OutOfMemory>
+    ensures { IfOk result (λ text. text ≡ codes "chart: json " ++ name.now ++ codes " at " ++ decimal at ++ codes "\n") }
+{
+    let mut digits = itoa::Buffer::new();
+    let mut text = Text::of(alloc, "chart: json ")?;
+    text.push_str(name.as_str())?;
+    text.push_str(" at ")?;
+    text.push_str(digits.format(at))?;
+    text.push_str("\n")?;
+    Ok(text)
+}
+
+// The line where a chart has too many panels.
+fn panels_line(alloc: Global, count: u64) -> Result<Text, OutOfMemory>
+    ensures { IfOk result (λ text. text ≡ codes "chart: panels " ++ decimal count ++ codes "\n") }
+{
+    let mut digits = itoa::Buffer::new();
+    let mut text = Text::of(alloc, "chart: panels ")?;
+    text.push_str(digits.format(count))?;
+    text.push_str("\n")?;
+    Ok(text)
+}
+
+/// The line that says why files are refused.
+pub fn refusal_line(alloc: Global, why: &Refusal) -> Result<Text, OutOfMemory>
+    ensures { IfOk result (λ text. text ≡ refusal_text why.now ++ 10 ∷ []) }
+{
+    match why {
+        Refusal::Missing(name) => name_line(alloc, "chart: missing ", name),
+        Refusal::Size(name) => name_line(alloc, "chart: size ", name),
+        Refusal::Json(name, at) => json_line(alloc, name, *at),
+        Refusal::Spec(kind, path) => spec_line(alloc, *kind, path),
+        Refusal::Row(source, row, field) => row_line(alloc, source, *row, field),
+        Refusal::Rows => Text::of(alloc, "chart: size rows\n"),
+        Refusal::Overflow => Text::of(alloc, "chart: overflow\n"),
+        Refusal::Panels(count) => panels_line(alloc, *count),
     }
 }

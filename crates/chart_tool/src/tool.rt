@@ -1,36 +1,64 @@
 //! The top call: what the program does with its words.
-ghost use Rattle.std.specs.Prelude.{◌≡◌, ◌≤◌, ◌↔◌, ◌⊎◌, None, List, ℕ, IfSome, Err};
+ghost use Rattle.std.specs.Prelude.{◌≡◌, ◌≤◌, ◌↔◌, ◌⊎◌, ◌∷◌, [], ◌++◌, Some, None, List, ℕ, IfSome, Err};
 ghost use Rattle.std.specs.Result.{result_err};
 ghost use Rattle.chart_io.specs.Outside.{Rose, Kept};
 ghost use Rattle.play_script.specs.Played.{HasTaken, IsPastSize};
+ghost use Rattle.chart_opening.specs.declared.refusal.Refusal.{Refusal as Cause};
+ghost use Rattle.chart_opening.specs.Texts.{Reading, ReadsJson};
+ghost use Rattle.chart_opening.specs.inner.Reading.{the_reading};
 ghost use Rattle.chart_tool.specs.Words.{asked_in};
-ghost use Rattle.chart_tool.specs.Refusals.{Refusal, refusal_status, IsRefused};
+ghost use Rattle.chart_tool.specs.Refusals.{refusal_status, refusal_text, IsRefused};
 ghost use Rattle.chart_tool.specs.Wanted.{IsAccepted, IsAnswered, MayFail, script_for};
-ghost use Rattle.chart_tool.specs.Ends.{End, end_status, end_note, IsEnd, IsNoted, Told, AsksScript};
-ghost use Rattle.chart_tool.specs.inner.Asking.{spec_name_in};
-ghost use Rattle.chart_tool.specs.inner.Stops.{end_of};
+ghost use Rattle.chart_tool.specs.Ends.{End, Refused, NoMemory, end_status, end_note, IsEnd, IsNoted, Told, AsksScript};
+ghost use Rattle.chart_tool.specs.inner.Stops.{end_of, stop_end, IsTold};
 ghost use Rattle.chart_tool.specs.inner.Runs.{IsTexted};
 
+use crate::compile::compile;
 use crate::play::play;
 use crate::render::render;
-use crate::stop::Stop;
-use crate::words::{Asked, asked_of, spec_name};
-use chart_io::{Folder, Sink, Source};
+use crate::stop::{Stop, refusal_line, refusal_status};
+use crate::words::{Asked, asked_of};
+use chart_io::{Folder, Sink, Source, write_all};
+use chart_opening::Refusal;
 use std::alloc::Global;
+use text_kit::OutOfMemory;
 
-// The status of a run, and a line on the notes where it was stopped, for a file of this name. A note that can't be written is no failure.
-fn ended<N: Sink>(done: Result<(), Stop>, name: &str, notes: &mut N) -> u8
-    ensures status { result ≡ end_status (end_of name.now (result_err done)) }
+// The status of a run that ends so, and its line on the notes. A note that can't be written is no failure.
+fn noted<N: Sink>(status: u8, line: &[u8], notes: &mut N) -> u8
+    ensures status { result ≡ status }
     ensures counted { N.faults notes.old ≤ N.faults notes.new }
-    ensures noted { IsNoted (N.faults notes.old) (N.faults notes.new) (N.held notes.old) (N.held notes.new)
-        (end_note (end_of name.now (result_err done))) }
+    ensures noted { IsNoted (N.faults notes.old) (N.faults notes.new) (N.held notes.old) (N.held notes.new) line.now }
+{
+    let _ = write_all(notes, line);
+    status
+}
+
+// The status of a run over files that are refused, and its line on the notes; without memory for that it ends for want of memory.
+fn refused<N: Sink>(alloc: Global, why: &Refusal, notes: &mut N) -> u8
+    ensures counted { N.faults notes.old ≤ N.faults notes.new }
+    ensures ended { (end : End) × ((end ≡ Refused why.now) ⊎ (end ≡ NoMemory)) × (result ≡ end_status end)
+        × IsNoted (N.faults notes.old) (N.faults notes.new) (N.held notes.old) (N.held notes.new) (end_note end) }
+{
+    match refusal_line(alloc, why) {
+        Ok(line) => noted(refusal_status(why), line.as_str().as_bytes(), notes),
+        Err(OutOfMemory) => noted(9, b"chart: memory\n", notes),
+    }
+}
+
+// The status of a run, and a line on the notes where it was stopped.
+fn ended<N: Sink>(alloc: Global, done: Result<(), Stop>, notes: &mut N) -> u8
+    ensures counted { N.faults notes.old ≤ N.faults notes.new }
+    ensures ended { (end : End) × IsTold (result_err done) end × (result ≡ end_status end)
+        × IsNoted (N.faults notes.old) (N.faults notes.new) (N.held notes.old) (N.held notes.new) (end_note end) }
 {
     match done {
-        Ok(()) => 0,
-        Err(stop) => {
-            let _ = stop.note(name, notes);
-            stop.status()
-        }
+        Ok(()) => noted(0, b"", notes),
+        Err(Stop::Words) => noted(1, b"chart: words\n", notes),
+        Err(Stop::Refused(why)) => refused(alloc, &why, notes),
+        Err(Stop::Read) => noted(7, b"chart: read\n", notes),
+        Err(Stop::Write) => noted(8, b"chart: write\n", notes),
+        Err(Stop::Memory) => noted(9, b"chart: memory\n", notes),
+        Err(Stop::ScriptSize) => noted(10, b"chart: size script\n", notes),
     }
 }
 
@@ -49,13 +77,14 @@ fn run<F: Folder, S: Source, K: Sink, N: Sink>(
     ensures notes { notes.new ≡ notes.old }
     ensures stays { Kept (F.files folder.old) (F.files folder.new) }
     ensures words { (result ≡ Err Stop.Words) ↔ (asked_in words.now.items ≡ None) }
-    ensures ends { IsEnd (asked_in words.now.items) (F.files folder.old) (S.left script.old) (S.left script.new) (script.new ≡ script.old)
+    ensures ends { IsEnd the_reading (asked_in words.now.items) (F.files folder.old) (S.left script.old) (S.left script.new)
+        (script.new ≡ script.old)
         (Kept (K.held out.old) (K.held out.new)) (Rose (F.faults folder.old) (F.faults folder.new))
         (Rose (S.faults script.old) (S.faults script.new))
-        (Rose (K.faults out.old) (K.faults out.new)) (end_of (spec_name_in (asked_in words.now.items)) (result_err result)) }
+        (Rose (K.faults out.old) (K.faults out.new)) (end_of (result_err result)) }
     ensures text { Told (asked_in words.now.items) (F.files folder.old) (λ ask files. IfSome (script_for ask (S.left script.old))
-        (λ script. IsAccepted ask files → IsTexted ask files script result (K.held out.old) (K.held out.new))) }
-    ensures nothing { Told (asked_in words.now.items) (F.files folder.old) (λ ask files. (IsAccepted ask files → ⊥)
+        (λ script. IsAccepted the_reading ask files → IsTexted ask files script result (K.held out.old) (K.held out.new))) }
+    ensures nothing { Told (asked_in words.now.items) (F.files folder.old) (λ ask files. (IsAccepted the_reading ask files → ⊥)
         → Kept (K.held out.old) (K.held out.new) × (script.new ≡ script.old)) }
     ensures script_size { IfSome (S.left script.old) (λ bytes. (result ≡ Err Stop.ScriptSize) ↔ IsPastSize bytes (S.left script.new)) }
     ensures taken { (taken : List ℕ) × HasTaken (S.left script.old) (S.left script.new) taken }
@@ -65,14 +94,16 @@ fn run<F: Folder, S: Source, K: Sink, N: Sink>(
     match asked_of(words) {
         Some(Asked::Render(name)) => render(alloc, name, folder, out),
         Some(Asked::Play(name)) => play(alloc, name, folder, script, out, notes),
+        Some(Asked::Compile(name)) => compile(alloc, name, folder, out),
         None => Err(Stop::Words),
     }
 }
 
-/// Does what the words after the program's name ask, and gives the status that the program ends with: 0 done (for
-/// `play`, the script was read to its end), 1 no form of words, 2 no such file, 3 no JSON text, 4 a JSON text and no
-/// chart of the first form, 7 the folder or the script could not be read, 8 the output could not be written, 9 memory
-/// was refused, 10 the file has more than 16,777,216 bytes, or more than 268,435,456 of the script were taken.
+/// Does what the words after the program's name ask, and gives the status that the program ends with: 0 done (for `play`, the script was
+/// read to its end), 1 no form of words, 2 no such file, 3 no JSON text, 4 a fault of a specification or one that isn't drawn yet, 5 a bad
+/// row of opening data, 6 a number of the opening chart out of range, 7 the folder or the script could not be read, 8 the output could not
+/// be written, 9 memory was refused, 10 a file has more than 16,777,216 bytes, there are more than 200,000 opening rows, or more than
+/// 268,435,456 bytes of the script were taken, 11 the opening chart has too many panels.
 pub fn chart_main<F: Folder, S: Source, K: Sink, N: Sink>(
     alloc: Global,
     words: &Vec<String>,
@@ -86,27 +117,29 @@ pub fn chart_main<F: Folder, S: Source, K: Sink, N: Sink>(
 
     // The run has an end, which gives the status and the line on the notes. A refusal is true of words and files, and
     // nothing was then written, nor any script read; a fault comes only where a count rose.
-    ensures ends { (end : End) × (result ≡ end_status end)
+    ensures ends { (reading : Reading) → ReadsJson reading → (end : End) × (result ≡ end_status end)
         × IsNoted (N.faults notes.old) (N.faults notes.new) (N.held notes.old) (N.held notes.new) (end_note end)
-        × IsEnd (asked_in words.now.items) (F.files folder.old) (S.left script.old) (S.left script.new) (script.new ≡ script.old)
+        × IsEnd reading (asked_in words.now.items) (F.files folder.old) (S.left script.old) (S.left script.new) (script.new ≡ script.old)
         (Kept (K.held out.old) (K.held out.new)) (Rose (F.faults folder.old) (F.faults folder.new))
         (Rose (S.faults script.old) (S.faults script.new))
         (Rose (K.faults out.old) (K.faults out.new)) end }
 
     // Where the folder tells its files, each refusal that holds brings its status, unless reading failed (7) or memory was refused (9).
-    ensures refused { IfSome (F.files folder.old) (λ files. (why : Refusal) → IsRefused (asked_in words.now.items) files why
+    ensures refused { (reading : Reading) → ReadsJson reading → IfSome (F.files folder.old) (λ files. (why : Cause)
+        → IsRefused reading (asked_in words.now.items) files why
         → (result ≡ refusal_status why) ⊎ ((result ≡ 7) ⊎ (result ≡ 9))) }
 
-    // The end-to-end theorem: over an accepted specification there is a text that is wanted, and what is appended begins it; with status 0
+    // The end-to-end theorem: over files that are accepted there is a text that is wanted, and what is appended begins it; with status 0
     // all of it; with a script within its size and without a fault the status is 0, or 9.
-    ensures answered { Told (asked_in words.now.items) (F.files folder.old) (λ ask files. IfSome (script_for ask (S.left script.old))
-        (λ bytes. IsAccepted ask files → IsAnswered ask files bytes result (K.held out.old) (K.held out.new)
+    ensures answered { (reading : Reading) → ReadsJson reading → Told (asked_in words.now.items) (F.files folder.old)
+        (λ ask files. IfSome (script_for ask (S.left script.old))
+        (λ bytes. IsAccepted reading ask files → IsAnswered reading ask files bytes result (K.held out.old) (K.held out.new)
         (MayFail ask (Rose (F.faults folder.old) (F.faults folder.new)) (Rose (S.faults script.old) (S.faults script.new))
         (Rose (K.faults out.old) (K.faults out.new))))) }
 
     // Over any other nothing is written, and no script is read.
-    ensures nothing { Told (asked_in words.now.items) (F.files folder.old) (λ ask files. (IsAccepted ask files → ⊥)
-        → Kept (K.held out.old) (K.held out.new) × (script.new ≡ script.old)) }
+    ensures nothing { (reading : Reading) → ReadsJson reading → Told (asked_in words.now.items) (F.files folder.old)
+        (λ ask files. (IsAccepted reading ask files → ⊥) → Kept (K.held out.old) (K.held out.new) × (script.new ≡ script.old)) }
 
     // A script of which too many bytes were taken brings status 10. What was taken and what is left are the script,
     // which stays where the words ask for none.
@@ -123,7 +156,7 @@ pub fn chart_main<F: Folder, S: Source, K: Sink, N: Sink>(
     ensures notes_counted { N.faults notes.old ≤ N.faults notes.new }
 {
     let done = run(alloc, words, folder, script, out, notes);
-    ended(done, spec_name(words), notes)
+    ended(alloc, done, notes)
 }
 
 #[cfg(test)]

@@ -3,11 +3,11 @@ use Rattle.std.proofs.Common.{◌≡◌, ℕ, List, Result, Ok, Err, sym, subst,
 use Rattle.cell_value.specs.declared.state.ChartState.{ChartState}
 use Rattle.cell_value.specs.State.{state_of}
 use Rattle.scene_tree.specs.Outcome.{Drawn, Overflow, Panels, outcome_map}
-use Rattle.bar_spec.specs.declared.spec.BarSpec.{BarSpec}
+use Rattle.vega_spec.specs.declared.spec.VgSpec.{VgSpec}
 use Rattle.vega_meaning.specs.declared.open.OpenError.{OpenError}
 use Rattle.vega_meaning.specs.declared.open.OpenError.TheVariants as error
 use Rattle.vega_meaning.specs.Answers.{Draws}
-use Rattle.vega_meaning.specs.Bars.{vega_chart_of}
+use Rattle.vega_meaning.specs.Charts.{vega_chart_of}
 use Rattle.first_form.specs.declared.form.FirstForm.{FirstForm}
 use Rattle.first_form.specs.Bars.{chart_of}
 use Rattle.first_form.specs.Opening.{bars_of, opening_of}
@@ -20,7 +20,7 @@ pub vega_chart_drawn : (form : FirstForm) → IsDrawable form
     → (text : List ℕ) × (vega_chart_of (bars_of form) (state_of (opening_of form)) ≡ Drawn text) × (chart_of form ≡ Drawn text)
 vega_chart_drawn form drawable =
     let (text, drawn) = chart_drawn form drawable in
-    (text, vega_chart_is form drawable.apart ∙ drawn, drawn)
+    (text, vega_chart_is form drawable ∙ drawn, drawn)
 
 -- what is opened is what was meant, unless memory was refused: no number is out of range, and there are not too many panels
 abbrev pub IsOpened : {M : Type 0} → M → Result M OpenError → Type 0
@@ -34,7 +34,7 @@ opened_from meant (Err error.Memory) answer = tt
 opened_from meant (Err error.Overflow) answer = let e : Drawn meant ≡ Overflow = answer in absurd cc
 opened_from meant (Err (error.Panels n)) answer = let e : Drawn meant ≡ Panels n = answer in absurd cc
 
-pub open_answer : {M : Type 0} (form : FirstForm) (spec : BarSpec) (state : ChartState) (meant : M) (r : Result M OpenError)
+pub open_answer : {M : Type 0} (form : FirstForm) (spec : VgSpec) (state : ChartState) (meant : M) (r : Result M OpenError)
     → IsDrawable form → spec ≡ bars_of form → state ≡ opening_of form
     → Draws (outcome_map (λ text. meant) (vega_chart_of spec (state_of state))) r → IsOpened meant r
 open_answer form spec state meant r drawable same_spec same_state answer =

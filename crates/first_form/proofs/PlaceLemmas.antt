@@ -1,22 +1,30 @@
 -- Why the places of bars are in range.
-use Rattle.std.proofs.Common.{◌≡◌, ℕ, zero, suc, ◌+◌, ◌*◌, ◌^◌, ◌<◌, ◌≤◌, ℤ, pos, ◌+ℤ◌, ◌-ℤ◌, ◌*ℤ◌, ◌≤ℤ◌, int_lt, true, false}
-use Rattle.std.proofs.Common.{if◌then◌else◌, List, length, unsigned_abs, arith, refl, sym, ap, subst, ◌∙◌}
+use Rattle.std.proofs.Common.{◌≡◌, ℕ, zero, suc, ◌+◌, ◌*◌, ◌<◌, ◌≤◌, ◌==◌, ℤ, pos, ◌+ℤ◌, ◌-ℤ◌, ◌*ℤ◌, ◌≤ℤ◌, int_lt, Bool, true, false}
+use Rattle.std.proofs.Common.{if◌then◌else◌, Option, Some, None, List, length, unsigned_abs, arith, refl, ap, subst, ◌∙◌}
+use Rattle.std.specs.Option.{option_map, ok_or}
+use Rattle.std.specs.Result.{result_ok}
 use Rattle.std.specs.Ordering.{int_eq}
+use Rattle.std.specs.List.{position_or_len}
 use Rattle.std.proofs.lemmas.Int.{ints}
+use Rattle.std.proofs.lemmas.Bool.Decides.{nat_tests}
 use Rattle.fixed_num.specs.Number.{million, IsNumber, rounded, floor_quotient}
-use Rattle.cell_value.specs.declared.cell.Cell.{Cell}
-use Rattle.scene_tree.specs.Outcome.{Outcome, Drawn, in_reach}
 use Rattle.fixed_num.specs.Ranges.{in_range}
 use Rattle.fixed_num.specs.Bands.{steps_of, space_of}
-use Rattle.vega_meaning.specs.Scales.{Linear, place_of_number, place_at}
-use Rattle.first_form.specs.Bars.{plot_width, plot_height, x_scale, base_of}
+use Rattle.cell_value.specs.declared.cell.Cell.{Cell}
+use Rattle.cell_value.specs.Cell.{same_cells}
+use Rattle.scale_kit.specs.declared.scale.Overflow.{Overflow}
+use Rattle.scale_kit.specs.declared.bands.Bands.{Bands}
+use Rattle.scale_kit.specs.Bands.{place_of_band, width_of_band}
+use Rattle.scale_kit.specs.Lines.{place_of_number}
+use Rattle.scale_kit.specs.Places.{place_of, reached_place, base_of}
+use Rattle.first_form.specs.Bars.{plot_width, plot_height, x_scale, y_scale}
 use Rattle.first_form.proofs.RangeLemmas.{in_range_at_number, rounded_multiple, rounded_within}
 
 -- with these paddings a band takes one step
 steps_usual : (n : ℕ) → steps_of (pos (n * million)) (pos 100000) (pos 50000) ≡ pos (n * million)
 steps_usual n = omega (arith, ints)
 
-space_usual : (n : ℕ) → space_of (pos (n * million)) (pos 100000) (pos 50000) ≡ pos (n * million)
+pub space_usual : (n : ℕ) → space_of (pos (n * million)) (pos 100000) (pos 50000) ≡ pos (n * million)
 space_usual zero = refl
 space_usual (suc n) =
     let some : int_eq (pos (suc n * million)) (pos 0) ≡ false = grind (arith, ints) in
@@ -24,62 +32,103 @@ space_usual (suc n) =
     rw (some, steps_usual (suc n), yes) refl
 
 -- the width of a plot of bands that are not too many
-width_usual : (n : ℕ) → n ≤ 1000 → plot_width n ≡ pos (20 * (n * million))
+pub width_usual : (n : ℕ) → n ≤ 1000 → plot_width n ≡ pos (20 * (n * million))
 width_usual n few = rw (space_usual n) (grind (arith, ints))
 
--- the place in a range upward
-abbrev place_upward : ℤ → ℤ → ℤ → Outcome ℤ → Outcome ℤ
-place_upward z w j other =
-    if int_lt w (pos 0) then other else in_reach (in_range (pos 0 +ℤ rounded ((w -ℤ pos 0) *ℤ j) (unsigned_abs z)))
+-- a number in range is reached
+reached : (z : ℤ) → IsNumber z → result_ok (reached_place (Some z)) ≡ Some (Some z)
+reached z within = ap (λ o. result_ok {E = Overflow} (ok_or (option_map Some o) (record {}))) (in_range_at_number z within)
 
-band_place_at : (z w : ℤ) (s j : ℕ) (other middle : Outcome ℤ) → z ≡ pos s → 0 < s → w ≡ pos (20 * s) → j ≤ 10 ^ 12
-    → (if int_lt (pos 0) z then place_upward z w (pos j) other else middle) ≡ Drawn (pos (20 * j))
-band_place_at z w s j other middle steps some wide small =
+-- the bands of so many categories
+abbrev pub usual_bands : ℕ → Bands
+usual_bands n = record { count = n; inner = pos 100000; outer = pos 50000; r0 = pos 0; r1 = plot_width n }
+
+band_place_at : (z w p : ℤ) (s j : ℕ) (other middle : ℤ) → z ≡ pos s → 0 < s → w ≡ pos (20 * s) → p ≡ pos j
+    → (if int_lt (pos 0) z then pos 0 +ℤ rounded ((w -ℤ pos 0) *ℤ (if int_lt w (pos 0) then other else p)) (unsigned_abs z) else middle)
+    ≡ pos (20 * j)
+band_place_at z w p s j other middle steps some wide part =
     let yes : int_lt (pos 0) (pos s) ≡ true = grind (arith, ints) in
     let no : int_lt (pos (20 * s)) (pos 0) ≡ false = grind (arith, ints) in
     let product : (pos (20 * s) -ℤ pos 0) *ℤ pos j ≡ pos (20 * j * s) = omega (arith, ints) in
-    let within : IsNumber (pos 0 +ℤ pos (20 * j)) = (omega (arith, ints), omega (arith, ints)) in
     let same : pos 0 +ℤ pos (20 * j) ≡ pos (20 * j) = omega (arith, ints) in
-    rw (steps, wide, yes, no)
-    (ap (λ x. in_reach (in_range (pos 0 +ℤ x))) (rounded_multiple (20 * j) s _ some product)
-    ∙ ap in_reach (in_range_at_number (pos 0 +ℤ pos (20 * j)) within) ∙ ap Drawn same)
+    rw (steps, wide, part, yes, no) (ap (λ x. pos 0 +ℤ x) (rounded_multiple (20 * j) s _ some product) ∙ same)
 
 -- each band has its place
-pub band_drawn : (domain : List Cell) (index : ℕ) → index < length domain → length domain ≤ 1000
-    → place_at (x_scale domain) index ≡ Drawn (pos (20 * (50000 + index * million)))
-band_drawn domain index h few =
-    let n = length domain in
-    band_place_at (steps_of (pos (n * million)) (pos 100000) (pos 50000)) (plot_width n) (n * million) (50000 + index * million) _ _
-    (steps_usual n) (omega arith) (width_usual n few) (omega arith)
+band_place : (n index : ℕ) → index < n → n ≤ 1000 → place_of_band (usual_bands n) index ≡ pos (20 * (50000 + index * million))
+band_place n index h few =
+    let part : pos 50000 +ℤ pos (index * million) ≡ pos (50000 + index * million) = omega (arith, ints) in
+    band_place_at (steps_of (pos (n * million)) (pos 100000) (pos 50000)) (plot_width n) (pos 50000 +ℤ pos (index * million)) (n * million)
+    (50000 + index * million) _ _ (steps_usual n) (omega arith) (width_usual n few) part
 
--- the scale of amounts whose nice domain ends at n
-abbrev pub scale_to : ℕ → Linear
-scale_to n = record { d0 = pos 0; d1 = pos n; r0 = plot_height; r1 = pos 0 }
+-- a band of a plot has a width
+pub record IsWidth (z : ℤ) : Type 0 where
+  pub width : ℕ
+  pub is : z ≡ pos width
+  pub small : width ≤ 18 * million
+
+band_width_at : (z w : ℤ) (s : ℕ) → z ≡ pos s → 0 < s → w ≡ pos (20 * s)
+    → (if int_lt (pos 0) z then rounded (pos (unsigned_abs (w -ℤ pos 0)) *ℤ (pos million -ℤ pos 100000)) (unsigned_abs z) else pos 0)
+    ≡ pos (18 * million)
+band_width_at z w s steps some wide =
+    let yes : int_lt (pos 0) (pos s) ≡ true = grind (arith, ints) in
+    let size : unsigned_abs (pos (20 * s) -ℤ pos 0) ≡ 20 * s = omega (arith, ints) in
+    let product : pos (20 * s) *ℤ (pos million -ℤ pos 100000) ≡ pos (18 * million * s) = omega (arith, ints) in
+    rw (steps, wide, yes, size) (rounded_multiple (18 * million) s _ some product)
+
+pub width_known : (n : ℕ) → n ≤ 1000 → IsWidth (width_of_band (usual_bands n))
+width_known zero few = record { width = 0; is = refl; small = omega arith }
+width_known (suc n) few =
+    let some : (suc n == 0) ≡ false = grind (arith, nat_tests) in
+    let known = band_width_at (steps_of (pos (suc n * million)) (pos 100000) (pos 50000)) (plot_width (suc n)) (suc n * million)
+    (steps_usual (suc n)) (omega arith) (width_usual (suc n) few) in
+    record { width = 18 * million; is = rw some known; small = omega arith }
+
+-- a cell has its place, if any
+entry_placed : (n index : ℕ) (b : Bool) → (b ≡ true → index < n) → n ≤ 1000
+    → (x : Option ℤ) × (result_ok (reached_place (option_map (place_of_band (usual_bands n)) (if b then Some index else None))) ≡ Some x)
+entry_placed n index true below few =
+    let within : IsNumber (pos (20 * (50000 + index * million))) = (omega (arith, ints), omega (arith, ints, below refl)) in (
+      Some (pos (20 * (50000 + index * million))),
+      ap (λ z. result_ok (reached_place (Some z))) (band_place n index (below refl) few)
+          ∙ reached (pos (20 * (50000 + index * million))) within,
+    )
+entry_placed n index false below few = (None, refl)
+
+pub placed : (domain : List Cell) (cell : Cell) → length domain ≤ 1000
+    → (x : Option ℤ) × (result_ok (place_of (x_scale domain) cell) ≡ Some x)
+placed domain cell few =
+    entry_placed (length domain) (position_or_len (same_cells cell) domain) _ (λ test. grind (arith, nat_tests)) few
 
 -- a place within the height of the plot
-pub record IsPlace (o : Outcome ℤ) : Type 0 where
-  pub place : ℤ
-  pub known : o ≡ Drawn place
-  pub low : pos 0 ≤ℤ place
-  pub high : place ≤ℤ plot_height
+pub record IsPlace (z : ℤ) : Type 0 where
+  pub low : pos 0 ≤ℤ z
+  pub high : z ≤ℤ plot_height
 
-middle_within : IsPlace (place_of_number (scale_to 0) (pos 0))
+-- the place of an amount over a nice domain that ends at n
+abbrev pub place_to : ℕ → ℤ → ℤ
+place_to n amount = place_of_number (pos 0, pos n) (plot_height, pos 0) amount
+
+middle_within : IsPlace (place_to 0 (pos 0))
 unfolding rounded floor_quotient
-middle_within = record { place = pos 100000000; known = refl; low = omega (arith, ints); high = omega (arith, ints) }
+middle_within = record { low = omega (arith, ints); high = omega (arith, ints) }
 
-pub place_within : (n v : ℕ) → v ≤ n → IsPlace (place_of_number (scale_to n) (pos v))
-place_within zero v h = let none : 0 ≡ v = omega arith in subst (λ k. IsPlace (place_of_number (scale_to 0) (pos k))) none middle_within
+pub place_within : (n v : ℕ) → v ≤ n → IsPlace (place_to n (pos v))
+place_within zero v h = let none : 0 ≡ v = omega arith in subst (λ k. IsPlace (place_to 0 (pos k))) none middle_within
 place_within (suc n) v h =
     let down = (pos v -ℤ pos 0) *ℤ (pos 0 -ℤ plot_height) in
     let span = unsigned_abs (pos (suc n) -ℤ pos 0) in
     let bounds = rounded_within down 200000000 span (omega (arith, ints)) (omega (arith, ints)) (omega (arith, ints)) in
-    let place = plot_height +ℤ rounded down span in
-    let within : IsNumber place = (omega (arith, ints), omega (arith, ints)) in
     let yes : int_lt (pos 0) (pos (suc n)) ≡ true = grind (arith, ints) in
-    let known : place_of_number (scale_to (suc n)) (pos v) ≡ Drawn place = rw yes (ap in_reach (in_range_at_number place within)) in
-    record { place = place; known = known; low = omega (arith, ints); high = omega (arith, ints) }
+    let place : IsPlace (plot_height +ℤ rounded down span) = record { low = omega (arith, ints); high = omega (arith, ints) } in
+    rw yes place
 
-pub base_within : (n : ℕ) → IsPlace (base_of (scale_to n))
-base_within n =
-    let no : int_lt (pos n) (pos 0) ≡ false = grind (arith, ints) in
-    subst (λ b. IsPlace (if b then Drawn plot_height else place_of_number (scale_to n) (pos 0))) (sym no) (place_within n 0 (omega arith))
+pub base_within : (n : ℕ) → IsPlace (base_of (y_scale (pos 0, pos n)))
+base_within n = either _
+  where
+    either : (b : Bool) → IsPlace (if b then place_to n (pos 0) else plot_height)
+    either true = place_within n 0 (omega arith)
+    either false = record { low = omega (arith, ints); high = omega (arith, ints) }
+
+-- a place is in range
+pub place_in_range : (z : ℤ) → IsPlace z → in_range z ≡ Some z
+place_in_range z is = let within : IsNumber z = (omega (arith, ints), omega (arith, ints)) in in_range_at_number z within

@@ -1,58 +1,243 @@
 -- Why the Vega chart of a form in its opening state is the form's chart.
-use Rattle.std.proofs.Common.{◌≡◌, ◌≢◌, ℕ, ℤ, Bool, true, false, if◌then◌else◌, List, [], ◌∷◌, ◌++◌, map, length, Option, Some, None, refl}
-use Rattle.std.proofs.Common.{ap, ◌∙◌}
+use Rattle.std.proofs.Common.{◌≡◌, ◌≢◌, ◌≤◌, ◌*◌, ℕ, ℤ, pos, ◌*ℤ◌, ◌+ℤ◌, ◌-ℤ◌, Bool, true, false, if◌then◌else◌, List, [], ◌∷◌, ◌++◌}
+use Rattle.std.proofs.Common.{map, length, Option, Some, None, refl, sym}
+use Rattle.std.proofs.Common.{ap, ◌∙◌, arith, unsigned_abs, codes}
 use Rattle.std.specs.Prelude.{unwrap_or}
-use Rattle.std.specs.Option.{option_map}
-use Rattle.std.specs.List.{flat_map, filter_map}
+use Rattle.std.specs.Int.{int_min}
+use Rattle.std.specs.Option.{option_map, ok_or}
+use Rattle.std.specs.Result.{result_ok}
+use Rattle.std.specs.List.{All, filter_map}
 use Rattle.std.specs.Str.{bytes_eq}
 use Rattle.std.specs.FinMap.{insert, empty}
+use Rattle.std.proofs.lemmas.Int.{ints, clamps}
+use Rattle.std.proofs.lemmas.List.{append-nil}
+use Rattle.std.proofs.lemmas.List.Elements.{All-head, All-tail}
 use Rattle.std.proofs.lemmas.Slice.Eq.{bytes_eq-Decides}
+use Rattle.fixed_num.specs.Number.{million, IsNumber, rounded}
+use Rattle.fixed_num.specs.Ranges.{◌>>=◌, in_range, all_found}
+use Rattle.fixed_num.specs.Bands.{space_of}
 use Rattle.cell_value.specs.declared.cell.Cell.{Cell}
-use Rattle.cell_value.specs.declared.state.Key.{Key}
-use Rattle.scene_tree.specs.declared.scene.Scene.{Scene}
-use Rattle.scene_tree.specs.declared.scene.Item.{Item}
 use Rattle.cell_value.specs.declared.cell.Cell.TheVariants.{Null, Number, Text}
+use Rattle.cell_value.specs.declared.state.Key.{Key}
 use Rattle.cell_value.specs.Cell.{cell_cmp}
 use Rattle.cell_value.specs.Row.{cell_of}
 use Rattle.cell_value.specs.Datum.{Datum, datum_of, id_name}
 use Rattle.cell_value.specs.State.{Dataset}
 use Rattle.cell_value.proofs.LawLemmas.{what_is_set_is_read, other_names_stay}
-use Rattle.scene_tree.specs.Outcome.{Outcome, Drawn, Overflow, Panels, ◌>>=◌, outcome_map, all_drawn}
+use Rattle.expr_syntax.specs.declared.expr.Expr.{Expr, fold-roll-Expr}
+use Rattle.expr_syntax.specs.declared.expr.Expr.TheVariants as expr
+use Rattle.expr_syntax.specs.declared.expr.Expr.TheOpen as node
+use Rattle.expr_syntax.specs.declared.expr.BinOp.{BinOp}
+use Rattle.expr_syntax.specs.declared.expr.BinOp.TheVariants.{Mul}
+use Rattle.expr_eval.specs.Values.{Values}
+use Rattle.expr_eval.specs.Plain.{null_row}
+use Rattle.expr_eval.specs.Ranges.{number_cell}
+use Rattle.expr_eval.specs.Numbers.{the_number}
+use Rattle.expr_eval.specs.Operations.{binary_of}
+use Rattle.expr_eval.specs.Table.{builtin_table, called}
+use Rattle.expr_eval.specs.Value.{value_here, value_of}
+use Rattle.plain_groups.specs.Aggregates.{numbers_among}
+use Rattle.tick_kit.specs.Domains.{ascending, extent_of, with_zero}
+use Rattle.tick_kit.specs.Steps.{nice_of}
+use Rattle.scale_kit.specs.declared.scale.Overflow.{Overflow}
+use Rattle.scale_kit.specs.declared.scale.Scale.TheVariants.{Band}
+use Rattle.scale_kit.specs.declared.scale.ScaleSet.{ScaleSet}
+use Rattle.scale_kit.specs.Places.{place_of}
+use Rattle.scene_tree.specs.declared.scene.Scene.{Scene}
+use Rattle.scene_tree.specs.declared.scene.Item.{Item}
+use Rattle.scene_tree.specs.Outcome.{outcome_map, in_reach}
 use Rattle.svg_text.specs.SceneText.{svg_of}
-use Rattle.tick_kit.specs.Domains.{ascending}
-use Rattle.vega_meaning.specs.Scales.{Linear, place_of_number, Band, band_place, band_width}
-use Rattle.vega_meaning.specs.Frames.{scene_around}
-use Rattle.vega_meaning.specs.Bars as vega
+use Rattle.vega_spec.specs.declared.marks.MarkType.TheVariants as mark
+use Rattle.vega_spec.specs.declared.spec.Group.{Group, Group-F, out-Group}
+use Rattle.vega_spec.specs.declared.spec.VgMark.{VgMark}
+use Rattle.vega_spec.specs.declared.spec.Size.TheVariants as size
+use Rattle.vega_spec.specs.declared.spec.VgSpec.{VgSpec}
+use Rattle.vega_lists.specs.Scopes.{Scope, no_lists, with_list}
+use Rattle.vega_lists.specs.Lists.{lists_of}
+use Rattle.vega_scales.specs.Domains.{column_of}
+use Rattle.vega_scales.specs.Scales.{over_numbers}
+use Rattle.mark_encode.specs.declared.looks.Look.{Look}
+use Rattle.mark_encode.specs.declared.shown.Shown.TheVariants.{Absent}
+use Rattle.mark_encode.specs.declared.spans.Span.{Span}
+use Rattle.mark_encode.specs.Channels.{channel_values}
+use Rattle.mark_encode.specs.Values.{share_of_band, moved, shown}
+use Rattle.mark_encode.specs.Spans.{span_of}
+use Rattle.mark_encode.specs.Items.{rect_over, item_with, item_for, items_for}
+use Rattle.vega_plots.specs.Parameters.{values_with}
+use Rattle.vega_plots.specs.Sizes.{size_in, size_of, padding_round}
+use Rattle.vega_plots.specs.Plots.{data_of, scales_in, marks_in, lengths_of, scale_set, rows_from, items_of_marks, first_unit, scene_with}
+use Rattle.first_form.specs.declared.form.FirstForm.{FirstForm}
 use Rattle.first_form.specs.declared.form.Value.{Value}
-use Rattle.first_form.specs.Bars.{with_ids, Reading, category_of, amount_of, reading_of, amounts_of, plot_width, plot_height, x_scale}
-use Rattle.first_form.specs.Bars.{y_scale, base_of, bar_over, bar_of, scene_of}
-use Rattle.first_form.specs.Opening.{value_row}
+use Rattle.first_form.specs.Bars.{with_ids, Reading, category_of, amount_of, reading_of, readings_of, amounts_of, categories_of, pixels}
+use Rattle.first_form.specs.Bars.{default_color}
+use Rattle.first_form.specs.Bars.{inner_padding, outer_padding, step_width, plot_width, plot_height, x_scale, y_scale, bar_of, scene_of}
+use Rattle.first_form.specs.Opening.{space_expr, width_expr, x_scale_of, y_scale_of, encode_of, bars_parts, bars_of, value_row}
+use Rattle.first_form.specs.Drawable.{IsDrawable}
 use Rattle.first_form.specs.Laws.{VegaChartIsTheChart}
+use Rattle.first_form.proofs.RangeLemmas.{in_range_at_number, rounded_multiple}
+use Rattle.first_form.proofs.PlaceLemmas.{space_usual, width_usual, width_known, IsPlace, place_to, base_within, place_in_range}
+use Rattle.first_form.proofs.DrawableLemmas.{bar_at, IsBar, height_known, width, base, bar_drawn, form_scene, scene_with_bars}
+use Rattle.first_form.proofs.BarPlots.{opened_group, opened_mark}
 
-joined : {X Y Z : Type 0} (o : Outcome X) (f : X → Y) (g : Y → Outcome Z) → (outcome_map f o >>= g) ≡ (o >>= (λ x. g (f x)))
-joined (Drawn x) f g = refl
-joined Overflow f g = refl
-joined (Panels n) f g = refl
+-- ---- the width of the plot
 
-abbrev key_of : Reading → Key
-key_of r = record { id = r.id; branch = 0 }
+module _ (values : Values) where
+  abbrev value : Expr → Option Cell
+  value = value_of null_row values
 
--- a number has its bar where it has its place
-same_bar : (bands : Band) (scale : Linear) (r : Reading)
-    → vega.bar_of bands scale (key_of r) r.category (Number r.amount) ≡ bar_of bands scale r
-same_bar bands scale r = λ i. band_place bands r.category >>= (λ x. base_of scale >>= (λ base. to_place x base i))
-  where
-    over : (x : Option ℤ) (base end : ℤ)
-        → vega.bar_between (key_of r) (band_width bands) base x (Some end) ≡ bar_over r.id (band_width bands) base end x
-    over None base end = refl
-    over (Some x) base end = refl
+  value-Number : (n : ℤ) → value (expr.Number n) ≡ Some (Number n)
+  value-Number n = ap value (sym (expr.rolls-Number n)) ∙ fold-roll-Expr (Option Cell) (value_here null_row values) (node.Number n)
 
-    to_place : (x : Option ℤ) (base : ℤ)
-        → (outcome_map Some (place_of_number scale r.amount) >>= vega.bar_between (key_of r) (band_width bands) base x)
-        ≡ (place_of_number scale r.amount >>= (λ end. bar_over r.id (band_width bands) base end x))
-    to_place x base =
-        joined (place_of_number scale r.amount) Some (vega.bar_between (key_of r) (band_width bands) base x)
-        ∙ (λ i. place_of_number scale r.amount >>= (λ end. over x base end i))
+  value-DomainLength : (s : List ℕ) → value (expr.DomainLength s) ≡ number_cell (in_range (pos (values.domain_length s * million)))
+  value-DomainLength s =
+      ap value (sym (expr.rolls-DomainLength s)) ∙ fold-roll-Expr (Option Cell) (value_here null_row values) (node.DomainLength s)
+
+  value-Call : (code : ℕ) (args : List Expr) → value (expr.Call code args) ≡ called code (map value args)
+  value-Call code args =
+      ap value (sym (expr.rolls-Call code args)) ∙ fold-roll-Expr (Option Cell) (value_here null_row values) (node.Call code args)
+
+  value-Binary : (op : BinOp) (a b : Expr) → value (expr.Binary op a b) ≡ binary_of op (value a) (value b)
+  value-Binary op a b =
+      ap value (sym (expr.rolls-Binary op a b)) ∙ fold-roll-Expr (Option Cell) (value_here null_row values) (node.Binary op a b)
+
+-- the space of so many bands is called
+space_called : (n : ℕ) → called 18 (Some (Number (pos (n * million))) ∷ Some (Number inner_padding) ∷ Some (Number outer_padding) ∷ [])
+    ≡ number_cell (in_range (space_of (pos (n * million)) inner_padding outer_padding))
+unfolding builtin_table
+space_called n = refl
+
+whole_in_range : (n : ℕ) → n ≤ 1000 → in_range (pos (n * million)) ≡ Some (pos (n * million))
+whole_in_range n few =
+    let within : IsNumber (pos (n * million)) = (omega (arith, ints), omega (arith, ints)) in in_range_at_number (pos (n * million)) within
+
+width_in_range : (n : ℕ) → n ≤ 1000 → in_range (pos (20 * (n * million))) ≡ Some (pos (20 * (n * million)))
+width_in_range n few =
+    let within : IsNumber (pos (20 * (n * million))) = (omega (arith, ints), omega (arith, ints)) in
+    in_range_at_number (pos (20 * (n * million))) within
+
+-- the space of the bands, by what becomes of their count
+abbrev space_by : Option Cell → Option Cell
+space_by count = called 18 (count ∷ Some (Number inner_padding) ∷ Some (Number outer_padding) ∷ [])
+
+module _ (values : Values) (n : ℕ) (long : values.domain_length (codes "x") ≡ n) (few : n ≤ 1000) where
+  space_value : value values space_expr ≡ Some (Number (pos (n * million)))
+  space_value =
+      value-Call values 18 (expr.DomainLength (codes "x") ∷ expr.Number inner_padding ∷ expr.Number outer_padding ∷ [])
+      ∙ (λ i. called 18
+      (value-DomainLength values (codes "x") i ∷ value-Number values inner_padding i ∷ value-Number values outer_padding i ∷ []))
+      ∙ ap (λ k. space_by (number_cell (in_range (pos (k * million))))) long
+      ∙ ap (λ o. space_by (number_cell o)) (whole_in_range n few)
+      ∙ space_called n
+      ∙ ap (λ z. number_cell (in_range z)) (space_usual n)
+      ∙ ap number_cell (whole_in_range n few)
+
+  width_value : value values width_expr ≡ Some (Number (pos (20 * (n * million))))
+  width_value =
+      let product : step_width *ℤ pos (n * million) ≡ pos (20 * (n * million) * million) = omega (arith, ints) in
+      value-Binary values Mul (expr.Number step_width) space_expr
+      ∙ (λ i. binary_of Mul (value-Number values step_width i) (space_value i))
+      ∙ ap (λ z. number_cell (in_range z)) (rounded_multiple (20 * (n * million)) million _ (omega arith) product)
+      ∙ ap number_cell (width_in_range n few)
+
+  width_size : size_of values (Some (size.Signal width_expr)) ≡ Some (plot_width n)
+  width_size =
+      let same : size_in (Number (pos (20 * (n * million)))) ≡ pos (20 * (n * million)) = omega (arith, ints, clamps) in
+      ap (λ o. option_map size_in o) width_value ∙ ap Some (same ∙ sym (width_usual n few))
+
+-- ---- the item of a row
+
+abbrev bar_look : Look
+bar_look = record { fill = Some default_color; stroke = None; stroke_width = pos million; opacity = pos million }
+
+abbrev item_over : Key → Option (Option Span) → Option (Option Span) → Option (Option Item)
+item_over key across down =
+    (across >>= (λ x. down >>= (λ y. Some (rect_over x y)))) >>= (λ shape. Some (item_with 0 key shape (Some bar_look)))
+
+-- where a bar stands across, by what its place and its width show, and down, by its height and its base
+abbrev across_by : Option (Option ℤ) → Option (Option ℤ) → Option (Option Span)
+across_by x size =
+    option_map shown (x >>= moved None) >>= (λ n. option_map shown (size >>= moved None) >>= (λ s. span_of n Absent Absent s))
+
+abbrev down_by : Option (Option ℤ) → Option (Option ℤ) → Option (Option Span)
+down_by y far = option_map shown (y >>= moved None) >>= (λ n. option_map shown (far >>= moved None) >>= (λ f. span_of n f Absent Absent))
+
+across_known : (x : Option ℤ) (w : ℤ) → across_by (Some x) (Some (Some w)) ≡ Some (option_map (λ x. record { from = x; size = w }) x)
+across_known None w = refl
+across_known (Some x) w = refl
+
+-- from a height to the base, in either order
+abbrev span_down : ℤ → ℤ → Span
+span_down end b = record { from = int_min end b; size = pos (unsigned_abs (b -ℤ end)) }
+
+down_known : (end b : ℤ) → IsPlace b → IsPlace end → down_by (Some (Some end)) (Some (Some b)) ≡ Some (Some (span_down end b))
+down_known end b low high =
+    ap (λ o. option_map (λ size. Some (record { from = int_min end b; size = size })) o) (height_known b end low high)
+
+-- the scales of a plot
+abbrev scales_over : List Cell → ℤ → ℤ × ℤ → ScaleSet
+scales_over cells width domain = record {
+  scales = record { panel = None; name = codes "x"; scale = Band cells inner_padding outer_padding (pos 0) width }
+      ∷ record { panel = None; name = codes "y"; scale = y_scale domain } ∷ [];
+}
+
+abbrev no_params : Values
+no_params = values_with [] []
+
+module _ (form : FirstForm) (cells : List Cell) (n : ℕ) (few : length cells ≤ 1000) where
+  abbrev item : Datum → Option (Option Item)
+  item =
+      item_for mark.Rect 0 (channel_values (scales_over cells (plot_width (length cells)) (pos 0, pos n)) (Some (encode_of form))) no_params
+
+  item_shown : (d : Datum) → item d ≡ item_over d.key
+      (across_by (result_ok (place_of (x_scale cells) (d.cell form.x)))
+      (option_map Some (in_range (share_of_band (x_scale cells) (pos million)))))
+      (down_by (result_ok (place_of (y_scale (pos 0, pos n)) (d.cell form.y))) (option_map Some (in_range (base cells n +ℤ pos 0))))
+  item_shown d = refl
+
+  share_known : in_range (share_of_band (x_scale cells) (pos million)) ≡ Some (width cells n)
+  share_known =
+      let w = width_known (length cells) few in
+      let product : pos million *ℤ pos w.width ≡ pos (w.width * million) = omega (arith, ints) in
+      let within : IsNumber (pos w.width) = (omega (arith, ints, w.small), omega (arith, ints, w.small)) in
+      ap (λ z. in_range (rounded (pos million *ℤ z) million)) w.is
+      ∙ ap in_range (rounded_multiple w.width million _ (omega arith) product)
+      ∙ in_range_at_number (pos w.width) within
+      ∙ ap Some (sym w.is)
+
+  base_known : in_range (base cells n +ℤ pos 0) ≡ Some (base cells n)
+  base_known =
+      let b = base cells n in
+      let same : b +ℤ pos 0 ≡ b = omega (arith, ints) in
+      ap in_range same ∙ place_in_range b (base_within n)
+
+  height_at : (r : Reading) → IsPlace (place_to n r.amount)
+      → result_ok (place_of (y_scale (pos 0, pos n)) (Number r.amount)) ≡ Some (Some (place_to n r.amount))
+  height_at r is = ap (λ o. result_ok {E = Overflow} (ok_or (option_map Some o) (record {}))) (place_in_range (place_to n r.amount) is)
+
+  same_item : (key : Key) (id : ℕ) (x : Option ℤ) (w end b : ℤ) → key ≡ record { id = id; branch = 0 }
+      → item_over key (Some (option_map (λ x. record { from = x; size = w }) x)) (Some (Some (span_down end b)))
+      ≡ Some (bar_at id w b end x)
+  same_item key id None w end b e = refl
+  same_item key id (Some x) w end b e =
+      ap (λ k. item_over k (Some (Some (record { from = x; size = w }))) (Some (Some (span_down end b)))) e
+
+  item_known : (d : Datum) (r : Reading) → d.key ≡ record { id = r.id; branch = 0 } → d.cell form.x ≡ r.category
+      → d.cell form.y ≡ Number r.amount → IsBar cells n r → item d ≡ bar_of (x_scale cells) (pos 0, pos n) r
+  item_known d r key category amount is =
+      let end = place_to n r.amount in
+      let b = base cells n in
+      let w = width cells n in
+      let x : result_ok (place_of (x_scale cells) (d.cell form.x)) ≡ Some is.x =
+      ap (λ c. result_ok (place_of (x_scale cells) c)) category ∙ is.x_known in
+      let y : result_ok (place_of (y_scale (pos 0, pos n)) (d.cell form.y)) ≡ Some (Some end) =
+      ap (λ c. result_ok (place_of (y_scale (pos 0, pos n)) c)) amount ∙ height_at r is.end_known in
+      item_shown d
+      ∙ (λ i. item_over d.key (across_by (x i) (option_map Some (share_known i))) (down_by (y i) (option_map Some (base_known i))))
+      ∙ (λ i. item_over d.key (across_known is.x w i) (down_known end b (base_within n) is.end_known i))
+      ∙ same_item d.key r.id is.x w end b key
+      ∙ sym (bar_drawn cells n r is)
+
+-- ---- the rows of values
 
 module _ (x y : List ℕ) (apart : x ≢ y) where
   -- the row of a value as it is read
@@ -86,45 +271,131 @@ module _ (x y : List ℕ) (apart : x ≢ y) where
   abbrev readings : List (ℕ × Value) → List Reading
   readings vs = map (reading_of x y) vs
 
-  categories : (vs : List (ℕ × Value)) → vega.column_of x (rows vs) ≡ map (λ (r : Reading). r.category) (readings vs)
+  categories : (vs : List (ℕ × Value)) → column_of x (rows vs) ≡ map (λ (r : Reading). r.category) (readings vs)
   categories [] = refl
   categories (v ∷ vs) = λ i. category_is v i ∷ categories vs i
 
-  amounts : (vs : List (ℕ × Value)) → flat_map vega.numbers_in (vega.column_of y (rows vs)) ≡ amounts_of (readings vs)
+  amounts : (vs : List (ℕ × Value)) → numbers_among (column_of y (rows vs)) ≡ amounts_of (readings vs)
   amounts [] = refl
-  amounts (v ∷ vs) = λ i. vega.numbers_in (amount_is v i) ++ amounts vs i
+  amounts (v ∷ vs) =
+      ap (λ c. filter_map the_number (c ∷ column_of y (rows vs))) (amount_is v) ∙ ap (λ ns. amount_of y v ∷ ns) (amounts vs)
 
-  bars : (bands : Band) (scale : Linear) (vs : List (ℕ × Value))
-      → map (λ (d : Datum). vega.bar_of bands scale d.key (d.cell x) (d.cell y)) (rows vs) ≡ map (bar_of bands scale) (readings vs)
-  bars bands scale [] = refl
-  bars bands scale (v ∷ vs) =
-      let r = reading_of x y v in
-      let same : vega.bar_of bands scale (key_of r) ((datum v).cell x) ((datum v).cell y) ≡ bar_of bands scale r =
-      (λ j. vega.bar_of bands scale (key_of r) (category_is v j) (amount_is v j)) ∙ same_bar bands scale r in
-      λ i. same i ∷ bars bands scale vs i
+-- ---- the scene
 
-  abbrev with_bars : List Cell → List Item → Outcome Scene
-  with_bars domain shown = Drawn (scene_around (plot_width (length domain)) plot_height shown)
+-- the scene of an object over its lists of rows
+abbrev scene_in : VgSpec → Group-F Group VgMark → Scope → Option Scene
+scene_in g top scope =
+    lengths_of no_params scope (scales_in top) >>= (λ lengths.
+    size_of (values_with [] lengths) g.width >>= (λ width.
+    size_of (values_with [] lengths) g.height >>= (λ height.
+    scale_set no_params scope width height (scales_in top) >>= (λ scales.
+    items_of_marks no_params scope scales 0 (marks_in top) >>= (λ items.
+    Some (scene_with (padding_round g.padding) width height (first_unit (marks_in top)) items))))))
 
-  same_scene : (vs : List (ℕ × Value)) → vega.scene_of_rows x y (rows vs) ≡ scene_of (readings vs)
-  same_scene vs =
-      (λ i. y_scale (amounts vs i) >>= (λ scale.
-      let domain = ascending cell_cmp (categories vs i) in
-      outcome_map (filter_map (λ bar. bar)) (all_drawn (bars (x_scale domain) scale vs i)) >>= with_bars domain))
-      ∙ (λ i. y_scale (amounts_of (readings vs)) >>= (λ scale.
-      let domain = ascending cell_cmp (map (λ (r : Reading). r.category) (readings vs)) in
-      joined (all_drawn (map (bar_of (x_scale domain) scale) (readings vs))) (filter_map (λ bar. bar)) (with_bars domain) i))
+-- the scene of an object over sources
+abbrev plot_in : VgSpec → List Dataset → Group-F Group VgMark → Option Scene
+plot_in g sources top = lists_of no_params sources no_lists (data_of top) >>= scene_in g top
 
--- the rows of the one source
-abbrev rows_where : Bool → Dataset → List Datum
-rows_where b source = unwrap_or (option_map (λ (source : Dataset). source.rows) (if b then Some source else None)) []
+module _ (form : FirstForm) where
+  abbrev cells_along : List Datum → List Cell
+  cells_along rows = ascending cell_cmp (column_of form.x rows)
 
-the_rows : (source : Dataset) → rows_where (bytes_eq source.name source.name) source ≡ source.rows
-the_rows source = ap (λ b. rows_where b source) ((bytes_eq-Decides source.name source.name).1 refl)
+  abbrev lengths : List Datum → List (List ℕ × ℕ)
+  lengths rows = (codes "x", length (cells_along rows)) ∷ (codes "y", 2) ∷ []
+
+  abbrev with_items : ℤ → Option (List Item) → Option Scene
+  with_items width items =
+      (items >>= (λ own. Some (own ++ []))) >>= (λ items. Some (scene_with (pixels 5) width plot_height (Some 0) items))
+
+  abbrev items_over : List Datum → ScaleSet → Option (List Item)
+  items_over rows scales = items_for mark.Rect 0 (channel_values scales (Some (encode_of form))) no_params rows
+
+  abbrev with_width : List Datum → ℤ → Option Scene
+  with_width rows width =
+      scale_set no_params (λ name. rows) width plot_height (x_scale_of form ∷ y_scale_of form ∷ []) >>= (λ scales.
+      with_items width (items_over rows scales))
+
+  abbrev rows_scene : List Datum → Option Scene
+  rows_scene rows = size_of (values_with [] (lengths rows)) (Some (size.Signal width_expr)) >>= with_width rows
+
+  scene_opened : (scope : Scope) → scene_in (bars_of form) (bars_parts form) scope ≡ rows_scene (scope form.name)
+  scene_opened scope = λ i.
+      size_of (values_with [] (lengths (scope form.name))) (Some (size.Signal width_expr)) >>= (λ width.
+      scale_set no_params scope width plot_height (x_scale_of form ∷ y_scale_of form ∷ []) >>= (λ scales.
+      with_items width (items_for (opened_mark form i).type_ 0 (channel_values scales (opened_mark form i).encode) no_params
+      (rows_from scope (opened_mark form i).from))))
+
+  -- the name stands for the rows of the one source
+  abbrev rows_where : Bool → List Datum → List Datum
+  rows_where b rows = if b then rows else []
+
+  the_rows : (rows : List Datum)
+      → with_list form.name (with_list form.name rows no_lists form.name) no_lists form.name ≡ rows
+  the_rows rows =
+      let same = (bytes_eq-Decides form.name form.name).1 refl in
+      λ i. rows_where (same i) (rows_where (same i) rows)
+
+  plot_is : (rows : List Datum)
+      → plot_in (bars_of form) (record { name = form.name; rows = rows } ∷ []) (out-Group (bars_of form).group) ≡ rows_scene rows
+  plot_is rows =
+      ap (plot_in (bars_of form) (record { name = form.name; rows = rows } ∷ [])) (opened_group form)
+      ∙ scene_opened (with_list form.name (with_list form.name rows no_lists form.name) no_lists)
+      ∙ ap rows_scene (the_rows rows)
+
+  scales_known : (rows : List Datum) (width : ℤ) (d : ℤ × ℤ)
+      → nice_of 10 (with_zero (extent_of (numbers_among (column_of form.y rows)))) ≡ Some d
+      → with_width rows width ≡ with_items width (items_over rows (scales_over (cells_along rows) width d))
+  scales_known rows width d e =
+      ap (λ o. option_map (λ made. record { scales = made }) (all_found (
+      Some (record { panel = None; name = codes "x"; scale = Band (cells_along rows) inner_padding outer_padding (pos 0) width })
+      ∷ option_map (λ made. record { panel = None; name = codes "y"; scale = made })
+      (option_map (over_numbers (plot_height, pos 0)) o) ∷ []))
+      >>= (λ scales. with_items width (items_over rows scales))) e
+
+  items_known : (cells : List Cell) (n : ℕ) (few : length cells ≤ 1000) → form.x ≢ form.y → (vs : List (ℕ × Value))
+      → All (IsBar cells n) (map (reading_of form.x form.y) vs)
+      → map (item form cells n few) (map datum_of (map (value_row form.x form.y) vs))
+      ≡ map (bar_of (x_scale cells) (pos 0, pos n)) (map (reading_of form.x form.y) vs)
+  items_known cells n few apart [] all = refl
+  items_known cells n few apart (v ∷ vs) all =
+      let r = reading_of form.x form.y v in
+      let others = map (reading_of form.x form.y) vs in
+      let first = item_known form cells n few (datum form.x form.y apart v) r refl (category_is form.x form.y apart v)
+      (amount_is form.x form.y apart v)
+      (All-head (IsBar cells n) r others all) in
+      let rest = items_known cells n few apart vs (All-tail (IsBar cells n) r others all) in
+      λ i. first i ∷ rest i
+
+-- what is kept of a list is a list
+kept : {A B C : Type 0} (f : A → List B) (g : List B → C) (o : Option A)
+    → ((option_map f o >>= (λ own. Some (own ++ []))) >>= (λ items. Some (g items))) ≡ (o >>= (λ a. Some (g (f a))))
+kept f g None = refl
+kept f g (Some a) = ap (λ items. Some (g items)) (append-nil (f a))
+
+same_scene : (form : FirstForm) → IsDrawable form
+    → rows_scene form (map datum_of (map (value_row form.x form.y) (with_ids 1 form.values))) ≡ scene_of (readings_of form)
+same_scene form drawable =
+    let vs = with_ids 1 form.values in
+    let rows = map datum_of (map (value_row form.x form.y) vs) in
+    let rs = readings_of form in
+    let known = form_scene form drawable in
+    let cells = categories_of rs in
+    let along : cells_along form rows ≡ cells = ap (ascending cell_cmp) (categories form.x form.y drawable.apart vs) in
+    let wide : size_of (values_with [] (lengths form rows)) (Some (size.Signal width_expr)) ≡ Some (plot_width (length cells)) =
+    width_size (values_with [] (lengths form rows)) (length cells) (ap length along) known.few in
+    let nice : nice_of 10 (with_zero (extent_of (numbers_among (column_of form.y rows)))) ≡ Some (pos 0, pos known.end) =
+    ap (λ ns. nice_of 10 (with_zero (extent_of ns))) (amounts form.x form.y drawable.apart vs) ∙ known.domain in
+    ap (λ o. o >>= with_width form rows) wide
+    ∙ scales_known form rows (plot_width (length cells)) (pos 0, pos known.end) nice
+    ∙ ap (λ c. with_items form (plot_width (length cells))
+    (items_over form rows (scales_over c (plot_width (length cells)) (pos 0, pos known.end)))) along
+    ∙ ap (λ bars. with_items form (plot_width (length cells)) (option_map (filter_map (λ found. found)) (all_found bars)))
+    (items_known form cells known.end known.few drawable.apart vs known.bars)
+    ∙ kept (filter_map (λ found. found)) (scene_with (pixels 5) (plot_width (length cells)) plot_height (Some 0))
+    (all_found (map (bar_of (x_scale cells) (pos 0, pos known.end)) rs))
+    ∙ sym (ap (λ o. o >>= scene_with_bars rs) known.domain)
 
 pub vega_chart_is : VegaChartIsTheChart
-vega_chart_is form apart =
-    let values = with_ids 1 form.values in
-    let source : Dataset = record { name = form.name; rows = rows form.x form.y apart values } in
-    ap (λ rows. outcome_map svg_of (vega.scene_of_rows form.x form.y rows)) (the_rows source)
-    ∙ ap (outcome_map svg_of) (same_scene form.x form.y apart values)
+vega_chart_is form drawable =
+    let rows = map datum_of (map (value_row form.x form.y) (with_ids 1 form.values)) in
+    ap (λ o. outcome_map svg_of (in_reach o)) (plot_is form rows ∙ same_scene form drawable)

@@ -6,10 +6,9 @@ use Rattle.std.specs.Fmt.{digits}
 use Rattle.std.specs.Str.{chars}
 use lib.Utf8.{encode}
 use Rattle.first_form.specs.declared.form.Value.{Value}
-use Rattle.vega_meaning.specs.Pixels.{pixels}
 use Rattle.tick_kit.specs.Steps.{step_of, spaced}
 use Rattle.scene_tree.specs.Outcome.{Outcome, Drawn}
-use Rattle.first_form.specs.Bars.{chart_of}
+use Rattle.first_form.specs.Bars.{pixels, chart_of}
 
 abbrev value : List ℕ → ℕ → Value
 value category amount = record { category = category; amount = pixels amount }

@@ -1,14 +1,17 @@
 -- What holds of each chart of the first form.
-use Rattle.std.specs.Prelude.{◌≡◌, ◌≢◌, ℕ, List}
+use Rattle.std.specs.Prelude.{◌≡◌, ℕ, true, Ok, List, [], map}
 use Rattle.json_exact.specs.declared.json.Json.{Json}
+use Rattle.cell_value.specs.declared.state.Keyed.{Keyed}
 use Rattle.cell_value.specs.State.{state_of}
+use Rattle.data_rows.specs.JsonRows.{rows_of_json}
 use Rattle.scene_tree.specs.Outcome.{Drawn}
-use Rattle.vega_meaning.specs.Bars.{vega_chart_of}
+use Rattle.vega_plots.specs.Tested.{is_plot}
+use Rattle.vega_meaning.specs.Charts.{vega_chart_of}
 use Rattle.vega_meaning.specs.States.{IsStateOf}
 use Rattle.first_form.specs.declared.form.FirstForm.{FirstForm}
 use Rattle.first_form.specs.FirstForm.{IsFirstForm}
-use Rattle.first_form.specs.Bars.{chart_of}
-use Rattle.first_form.specs.Opening.{bars_of, opening_of}
+use Rattle.first_form.specs.Bars.{with_ids, chart_of}
+use Rattle.first_form.specs.Opening.{values_of, value_row, bars_of, opening_of}
 use Rattle.first_form.specs.Drawable.{IsDrawable}
 
 -- a form that is read can be drawn
@@ -17,7 +20,7 @@ FormsAreDrawable = (tree : Json) (form : FirstForm) → IsFirstForm tree form �
 
 -- the Vega chart of a form in its opening state is the chart of the form
 abbrev pub VegaChartIsTheChart : Type 0
-VegaChartIsTheChart = (form : FirstForm) → form.x ≢ form.y → vega_chart_of (bars_of form) (state_of (opening_of form)) ≡ chart_of form
+VegaChartIsTheChart = (form : FirstForm) → IsDrawable form → vega_chart_of (bars_of form) (state_of (opening_of form)) ≡ chart_of form
 
 -- a form that can be drawn has a chart
 abbrev pub ChartsAreDrawn : Type 0
@@ -26,3 +29,12 @@ ChartsAreDrawn = (form : FirstForm) → IsDrawable form → (text : List ℕ) ×
 -- its opening state is one of its Vega specification
 abbrev pub OpeningIsState : Type 0
 OpeningIsState = (form : FirstForm) → IsDrawable form → IsStateOf (bars_of form) (state_of (opening_of form))
+
+-- its Vega specification is a plot that has a meaning and keeps the rules
+abbrev pub BarsArePlots : Type 0
+BarsArePlots = (form : FirstForm) → is_plot (bars_of form) ≡ true
+
+-- the values that its Vega specification has, read as rows, are those of its opening state
+abbrev pub ValuesAreRows : Type 0
+ValuesAreRows = (form : FirstForm)
+    → rows_of_json [] (values_of form) ≡ Ok (map (λ (keyed : Keyed). keyed.row) (map (value_row form.x form.y) (with_ids 1 form.values)))

@@ -1,29 +1,16 @@
-//! The Vega specification of a chart of the first form, and the state in which it opens.
+//! The state in which a chart of the first form opens.
 ghost use Rattle.std.specs.Prelude.{◌≡◌, map, IfOk, OnOk};
 ghost use Rattle.first_form.specs.Bars.{with_ids};
-ghost use Rattle.first_form.specs.Opening.{bars_of, value_row, opening_of};
+ghost use Rattle.first_form.specs.Opening.{value_row, opening_of};
 ghost use Rattle.first_form.specs.inner.Cells.{with_cell};
 
 use crate::form::{FirstForm, Value};
-use bar_spec::BarSpec;
 use cell_value::{Cell, ChartState, Key, Keyed, Named, Row, Rows};
 use std::alloc::Global;
 use text_kit::{OutOfMemory, Seq, Text};
 
 /// The name under which every row has its id. A member of this name is dropped.
 const ID_NAME: &str = "_vgsid_";
-
-/// The Vega specification of the form: bars of its source, placed by its first field and as high as its second says. The one error is
-/// that memory is refused.
-pub fn bars_of(form: &FirstForm) -> Result<BarSpec, OutOfMemory>
-    ensures { IfOk result (λ spec. spec ≡ bars_of form.now) }
-{
-    Ok(BarSpec {
-        source: form.name.copy()?,
-        x: form.x.copy()?,
-        y: form.y.copy()?,
-    })
-}
 
 // Sets a cell, but for the name under which every row has its id.
 fn set_cell(row: &mut Row, name: &Text, cell: Cell) -> Result<(), OutOfMemory>
@@ -55,7 +42,6 @@ fn value_row(
 }
 
 // The rows of the values, with ids from 1.
-
 fn rows_of(alloc: Global, x: &Text, y: &Text, values: &[Value]) -> Result<Rows, OutOfMemory>
     ensures { IfOk result (λ rows. rows ≡ map (value_row x.now y.now) (with_ids 1 values.now)) }
 {

@@ -12,7 +12,7 @@ use crate::values::{cell_for, first_met};
 use cell_value::{Cell, Keyed};
 use expr_eval::{EvalError, ParamReader};
 use fixed_num::Num;
-use scale_kit::{Indexed, paint};
+use scale_kit::Indexed;
 use std::alloc::Global;
 use text_kit::{OutOfMemory, Text};
 
@@ -28,7 +28,7 @@ fn color_on(
     match (cell, band) {
         (Some(cell), _) => s.paint(alloc, cell),
         (None, Some(_)) => Ok(None),
-        (None, None) => paint(alloc, s.scale(), &Cell::Null),
+        (None, None) => s.paint(alloc, &Cell::Null),
     }
 }
 

@@ -16,7 +16,7 @@ use crate::values::{cell_for, first_met};
 use cell_value::{Cell, Keyed};
 use expr_eval::{EvalError, ParamReader};
 use fixed_num::Num;
-use scale_kit::{Indexed, Scale, band_width, base_of, place};
+use scale_kit::{Indexed, Scale, band_width, base_of};
 use std::alloc::Global;
 use vega_spec::ChannelValue;
 
@@ -115,7 +115,7 @@ fn number_on(s: &Indexed, cell: &Option<Cell>, band: Option<Num>) -> Option<Opti
         (Some(cell), Some(share)) => s.place_in_band(cell, share).ok(),
         (Some(cell), None) => s.place(cell).ok(),
         (None, Some(share)) => share_of_band(s.scale(), share).map(Some),
-        (None, None) => place(s.scale(), &Cell::Null).ok(),
+        (None, None) => s.place(&Cell::Null).ok(),
     }
 }
 

@@ -1,5 +1,6 @@
 -- What a change leaves of the rows of a source: rows with the same keys, in the same order.
-use Rattle.std.proofs.Common.{◌≡◌, ℕ, zero, suc, ◌+◌, ◌<◌, Bool, true, false, not, ◌&&◌, Option, Some, None, List, [], ◌∷◌, length, map}
+use Rattle.std.proofs.Common.{◌≡◌, ℕ, zero, suc, ◌+◌, ◌<◌, Bool, true, false, not, ◌&&◌, Option, Some, None, List, [], ◌∷◌, ◌++◌}
+use Rattle.std.proofs.Common.{length, map}
 use Rattle.std.proofs.Common.{get_or, refl, sym, ap, subst, ◌∙◌, arith}
 use Rattle.std.specs.Prelude.{if◌then◌else◌}
 use Rattle.std.specs.List.{All, AllPairs, filter_map}
@@ -139,29 +140,41 @@ from_ids P (row ∷ rows) h =
     All-cons (λ (row : Datum). P row.key.id) row rows (All-head P row.key.id (ids_of rows) h) (from_ids P rows (All-tail P row.key.id
     (ids_of rows) h))
 
-pairs_first : {X : Type 0} (R : X → X → Type 0) (x : X) (xs : List X) → AllPairs R (x ∷ xs) → All (R x) xs
+pub pairs_first : {X : Type 0} (R : X → X → Type 0) (x : X) (xs : List X) → AllPairs R (x ∷ xs) → All (R x) xs
 pairs_first R x xs h = λ k d in_it. h zero (suc k) d (omega arith) (omega (arith, in_it))
 
-pairs_rest : {X : Type 0} (R : X → X → Type 0) (x : X) (xs : List X) → AllPairs R (x ∷ xs) → AllPairs R xs
+pub pairs_rest : {X : Type 0} (R : X → X → Type 0) (x : X) (xs : List X) → AllPairs R (x ∷ xs) → AllPairs R xs
 pairs_rest R x xs h = λ i j d less in_it. h (suc i) (suc j) d (omega (arith, less)) (omega (arith, in_it))
 
-pairs_cons : {X : Type 0} (R : X → X → Type 0) (x : X) (xs : List X) → All (R x) xs → AllPairs R xs
+pub pairs_cons : {X : Type 0} (R : X → X → Type 0) (x : X) (xs : List X) → All (R x) xs → AllPairs R xs
     → (i j : ℕ) (d : X) → i < j → j < length (x ∷ xs) → R (get_or (x ∷ xs) i d) (get_or (x ∷ xs) j d)
 pairs_cons R x xs first rest zero zero d less in_it = absurd (omega (arith, less))
 pairs_cons R x xs first rest (suc i) zero d less in_it = absurd (omega (arith, less))
 pairs_cons R x xs first rest zero (suc j) d less in_it = first j d (omega (arith, in_it))
 pairs_cons R x xs first rest (suc i) (suc j) d less in_it = rest i j d (omega (arith, less)) (omega (arith, in_it))
 
-abbrev below : ℕ → ℕ → Type 0
-below a b = a < b
+-- what holds of each id and each later one still does
+pub pairs_left : (R : ℕ → ℕ → Type 0) (rows left : List Datum) → IsLeftOf rows left → AllPairs R (ids_of rows) → AllPairs R (ids_of left)
+pairs_left R [] [] nothing h = h
+pairs_left R [] (new ∷ left) more h = elim more [ ]
+pairs_left R (row ∷ rows) left (gone row2 rows2 left2 more) h = pairs_left R rows left more (pairs_rest R row.key.id (ids_of rows) h)
+pairs_left R (row ∷ rows) (new ∷ left) (stayed row2 new2 rows2 left2 same more) h =
+    let above = from_ids (R row.key.id) rows (pairs_first R row.key.id (ids_of rows) h) in
+    let kept = to_ids (R row.key.id) left (all_left (λ key cell. R row.key.id key.id) rows left more above) in
+    let first = subst (λ (key : Key). All (R key.id) (ids_of left)) (sym same.key) kept in
+    pairs_cons R new.key.id (ids_of left) first (pairs_left R rows left more (pairs_rest R row.key.id (ids_of rows) h))
 
--- ids that rise still rise
-pub rise_left : (rows left : List Datum) → IsLeftOf rows left → AllPairs below (ids_of rows) → AllPairs below (ids_of left)
-rise_left [] [] nothing h = h
-rise_left [] (new ∷ left) more h = elim more [ ]
-rise_left (row ∷ rows) left (gone row2 rows2 left2 more) h = rise_left rows left more (pairs_rest below row.key.id (ids_of rows) h)
-rise_left (row ∷ rows) (new ∷ left) (stayed row2 new2 rows2 left2 same more) h =
-    let above = from_ids (below row.key.id) rows (pairs_first below row.key.id (ids_of rows) h) in
-    let kept = to_ids (below row.key.id) left (all_left (λ key cell. below row.key.id key.id) rows left more above) in
-    let first = subst (λ (key : Key). All (below key.id) (ids_of left)) (sym same.key) kept in
-    pairs_cons below new.key.id (ids_of left) first (rise_left rows left more (pairs_rest below row.key.id (ids_of rows) h))
+-- rows are left of themselves
+pub left_of_itself : (rows : List Datum) → IsLeftOf rows rows
+left_of_itself [] = nothing
+left_of_itself (row ∷ rows) = stayed row row rows rows (record { key = refl; id = refl }) (left_of_itself rows)
+
+-- and of lists that are joined
+pub left_of_both : (rows left others more : List Datum) → IsLeftOf rows left → IsLeftOf others more
+    → IsLeftOf (rows ++ others) (left ++ more)
+left_of_both [] [] others more nothing h = h
+left_of_both [] (new ∷ left) others more is h = elim is [ ]
+left_of_both (row ∷ rows) left others more (gone row2 rows2 left2 is) h =
+    gone row (rows ++ others) (left ++ more) (left_of_both rows left others more is h)
+left_of_both (row ∷ rows) (new ∷ left) others more (stayed row2 new2 rows2 left2 same is) h =
+    stayed row new (rows ++ others) (left ++ more) same (left_of_both rows left others more is h)

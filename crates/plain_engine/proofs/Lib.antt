@@ -1,12 +1,6 @@
-pub mod RangeLemmas
-pub mod IndexLemmas
-pub mod Outcomes
-pub mod DomainLemmas
-pub mod BarLemmas
-pub mod SceneLemmas
-pub mod SourceLemmas
-pub mod OneSource
 pub mod LeftRows
-pub mod Changes
+pub mod StateRows
 pub mod MentionLemmas
+pub mod Places
+pub mod Changes
 pub mod Replies

@@ -1,23 +1,44 @@
 -- What a command asks.
-use Rattle.std.proofs.Common.{◌≡◌, ℕ, Bool, true, false, ◌&&◌, ◌||◌, List, refl, sym, ap, ◌∙◌}
-use Rattle.std.specs.Prelude.{None, Result, Ok, Err, IfOk, OnOk, if◌then◌else◌}
+use Rattle.std.proofs.Common.{◌≡◌, ℕ, ◌+◌, ◌<◌, Bool, true, false, ◌&&◌, ◌||◌, nat_lt, List, [], length, map, position, refl, sym}
+use Rattle.std.proofs.Common.{ap, subst, ◌∙◌, arith}
+use Rattle.std.specs.Prelude.{Option, Some, None, Result, Ok, Err, IfOk, OnOk, if◌then◌else◌, sum_by}
+use Rattle.std.specs.List.{list_any, list_all}
+use Rattle.std.specs.Option.{option_map}
 use Rattle.std.specs.Str.{bytes_eq}
-use Rattle.std.proofs.lemmas.Slice.Eq.{bytes_eq-Decides}
-use Rattle.cell_value.specs.State.{State}
-use Rattle.expr_eval.specs.Plain.{no_values}
+use Rattle.std.proofs.lemmas.List.{length-map}
+use Rattle.cell_value.specs.Datum.{Datum}
+use Rattle.cell_value.specs.declared.cell.Cell.{Cell}
+use Rattle.cell_value.specs.declared.state.ChartState.{ChartState}
+use Rattle.cell_value.specs.declared.state.Named.{Named}
+use Rattle.cell_value.specs.State.{Dataset, State, IsState, dataset_of, state_of, most_rows, greatest_id}
+use Rattle.data_rows.specs.JsonRows.{first_bad}
+use Rattle.fixed_num.specs.Ranges.{◌>>=◌}
+use Rattle.scene_tree.specs.declared.scene.Scene.{Scene}
+use Rattle.scene_tree.specs.Outcome.{Outcome, Drawn, Overflow, Panels, outcome_map, in_reach}
+use Rattle.svg_text.specs.SceneText.{svg_of}
 use Rattle.param_flow.specs.declared.command.ChangeOf.{ChangeOf}
 use Rattle.param_flow.specs.declared.command.Command.{Command}
-use Rattle.param_flow.specs.declared.command.Command.TheVariants.{Change}
+use Rattle.param_flow.specs.declared.command.Command.TheVariants.{Change, Set}
 use Rattle.param_flow.specs.declared.reply.Reply.{Reply}
-use Rattle.param_flow.specs.declared.reply.Reply.TheVariants.{Refused}
+use Rattle.param_flow.specs.declared.reply.Reply.TheVariants.{Done, Refused}
 use Rattle.param_flow.specs.declared.reply.Cause.TheVariants as cause
-use Rattle.data_rows.specs.JsonRows.{first_bad}
-use Rattle.param_flow.specs.Semantics.{Semantics}
-use Rattle.param_flow.specs.Machine.{is_past_limit, has_names, reply_to_state, reply_to_change, state_changed, state_if, reply_of}
-use Rattle.param_flow.specs.Machine.{state_after}
-use Rattle.bar_spec.specs.declared.spec.BarSpec.{BarSpec}
-use Rattle.vega_meaning.specs.Semantics.{vega_semantics}
-use Rattle.plain_engine.specs.inner.Sources.{reply_within}
+use Rattle.param_flow.specs.Change.{names_of_change}
+use Rattle.param_flow.specs.Semantics.{Semantics, has_source, has_param}
+use Rattle.param_flow.specs.Machine.{count_left, is_past_limit, has_names, reply_to_chart, reply_to_state, reply_to_change}
+use Rattle.param_flow.specs.Machine.{reply_to_set, state_changed, state_if, state_set}
+use Rattle.param_flow.specs.Machine.{reply_of, state_after}
+use Rattle.vega_spec.specs.declared.spec.VgSpec.{VgSpec}
+use Rattle.vega_spec.specs.Names.{sources_of}
+use Rattle.vega_plots.specs.Plots.{plot_over}
+use Rattle.vega_plots.specs.Tested.{is_plot}
+use Rattle.vega_meaning.specs.Semantics.{vega_semantics, values_in}
+use Rattle.vega_meaning.specs.States.{IsStateOf}
+use Rattle.play_script.specs.Meaning.{Meaning}
+use Rattle.plain_engine.specs.inner.Kept.{IsKept}
+use Rattle.plain_engine.specs.inner.Sources.{state_in, with_data, rows_changed, sources_changed, staying_in_all}
+use Rattle.plain_engine.specs.inner.Sources.{is_past, reply_to_sources, reply_at, state_at, AreApart}
+use Rattle.plain_engine.proofs.Places.{has_name, names_of, changed_at, counted_at, few_at, placed, not_placed, any_named}
+use Rattle.plain_engine.proofs.StateRows.{still_state, names_stay, new_data}
 
 module _ (meaning : Semantics) (st : State) (c : Command) (source : List ℕ) (change : ChangeOf) (name : List ℕ) (is : c
     ≡ Change source change) (named : name ≡ source) where
@@ -36,19 +57,176 @@ module _ (meaning : Semantics) (st : State) (c : Command) (source : List ℕ) (c
       ∙ ap (λ c. meant (state_after meaning st c)) (sym is)
   done meant now (Err e) replied stands = tt
 
-first_holds : (a b : Bool) → ((a || false) && b) ≡ true → a ≡ true
-first_holds true b h = refl
-first_holds false b h = absurd (cc)
+module _ (meaning : Semantics) (st : State) (c : Command) (param : List ℕ) (value : Cell) (name : List ℕ) (is : c ≡ Set param value)
+    (named : name ≡ param) where
+  -- so does a setting
+  pub asked_set : reply_to_set meaning st name value ≡ reply_of meaning st c
+  asked_set = ap (λ name. reply_to_set meaning st name value) named ∙ ap (reply_of meaning st) (sym is)
 
-module _ (g : BarSpec) (name : List ℕ) (change : ChangeOf) (has : has_names (vega_semantics g) name change ≡ true) where
-  -- the source has the name
-  pub is_named : g.source ≡ name
-  is_named = (bytes_eq-Decides g.source name).0 (first_holds (bytes_eq g.source name) _ has)
+  pub done_set : (reply : Reply) → reply ≡ reply_to_set meaning st name value → state_if reply st (Some (state_set st name value)) ≡ st
+      → st ≡ state_after meaning st c
+  done_set reply replied stays =
+      sym stays ∙ ap (λ reply. state_if reply st (Some (state_set st name value))) replied
+      ∙ ap (λ name. state_if (reply_to_set meaning st name value) st (Some (state_set st name value))) named
+      ∙ ap (state_after meaning st) (sym is)
 
-  -- the reply to a change whose names are there and whose rows can be read
-  pub replied : (st : State) → first_bad 0 change.insert ≡ None
-      → reply_to_change (vega_semantics g) st name change ≡ reply_within g st change
-  replied st good =
-      rw (has, good)
-      (ap (λ name. if is_past_limit no_values st name change then Refused cause.Limit else reply_to_state (vega_semantics g)
-      (state_changed no_values st name change)) (sym is_named))
+-- what is meant after a change
+pub meant_by : {E : Type 0} (g : VgSpec) (st now : State) (found other : Option State) → other ≡ found → (result : Result Reply E)
+    → IfOk result (λ reply. now ≡ state_if reply st found)
+    → (let meant : State → Meaning = λ st. record { spec = g; state = st } in IfOk result (λ reply. meant now ≡ meant
+    (state_if reply st other)))
+meant_by g st now found other same (Ok reply) h =
+    let meant : State → Meaning = λ st. record { spec = g; state = st } in
+    ap meant (h ∙ ap (state_if reply st) (sym same))
+meant_by g st now found other same (Err e) h = tt
+
+-- a picture's text is drawn where the picture is
+to_drawn : (scene : Outcome Scene) → reply_to_chart (outcome_map svg_of scene) ≡ reply_to_chart scene
+to_drawn (Drawn scene) = refl
+to_drawn Overflow = refl
+to_drawn (Panels n) = refl
+
+module _ (g : VgSpec) (st : ChartState) (name : List ℕ) (change : ChangeOf) (h : IsStateOf g (state_of st)) where
+  -- the source is there
+  there : list_any (has_name name) st.sources ≡ has_source (vega_semantics g) name
+  there = sym (any_named name st.sources) ∙ ap (list_any (λ other. bytes_eq other name)) h.sources
+
+  -- it isn't
+  pub not_there : None ≡ position (has_name name) st.sources
+      → Refused cause.Name ≡ reply_to_change (vega_semantics g) (state_of st) name change
+  not_there e =
+      let none : has_source (vega_semantics g) name ≡ false = sym there ∙ not_placed name st.sources e in
+      rw none refl
+
+  module _ (index : ℕ) (e : Some index ≡ position (has_name name) st.sources) where
+    -- a name of a parameter isn't there
+    pub not_known : list_all (has_param (vega_semantics g)) (names_of_change change) ≡ false
+        → Refused cause.Name ≡ reply_to_change (vega_semantics g) (state_of st) name change
+    not_known unknown =
+        let here : has_source (vega_semantics g) name ≡ true = sym there ∙ (placed name st.sources index e).any in
+        rw (here, unknown) refl
+
+    module _ (known : list_all (has_param (vega_semantics g)) (names_of_change change) ≡ true) where
+      has_all : has_names (vega_semantics g) name change ≡ true
+      has_all =
+          let here : has_source (vega_semantics g) name ≡ true = sym there ∙ (placed name st.sources index e).any in
+          λ i. here i && known i
+
+      -- a row can't be read
+      pub row_refused : (bad : ℕ × List ℕ) → first_bad 0 change.insert ≡ Some bad
+          → Refused (cause.Row bad.0 bad.1) ≡ reply_to_change (vega_semantics g) (state_of st) name change
+      row_refused bad is = rw (has_all, is) refl
+
+      module _ (good : first_bad 0 change.insert ≡ None) (apart : AreApart (sources_of g)) where
+        own_names : AreApart (names_of (map dataset_of st.sources))
+        own_names = subst AreApart (sym h.sources) apart
+
+        -- the state of these sources after it
+        abbrev state_now : List Dataset → State
+        state_now sources = record {
+          next_id = st.next_id + length change.insert;
+          sources = sources;
+          params = st.params;
+          stores = st.stores;
+        }
+
+        made : (found : Option (List Dataset)) → (found >>= λ sources. Some (state_now sources)) ≡ option_map state_now found
+        made None = refl
+        made (Some sources) = refl
+
+        -- the state after it
+        pub changed : state_changed (values_in (state_of st)) (state_of st) name change ≡ state_at (state_of st) index change
+        changed =
+            let place = placed name st.sources index e in
+            let found = changed_at (values_in (state_of st)) name change (new_data st.next_id change.insert)
+            (map dataset_of st.sources) index
+            (omega (arith, place.within, length-map st.sources dataset_of)) own_names place.named in
+            made _ ∙ ap (option_map state_now) found
+
+        -- the limit
+        limit : is_past_limit (values_in (state_of st)) (state_of st) name change ≡ is_past st.next_id st.params
+            (map dataset_of st.sources) index change
+        limit =
+            let place = placed name st.sources index e in
+            let count = counted_at (values_in (state_of st)) name change [] (map dataset_of st.sources) index
+            (omega (arith, place.within, length-map st.sources dataset_of)) own_names place.named in
+            let few = few_at (map dataset_of st.sources) index in
+            let same : sum_by (count_left (values_in (state_of st)) name change) (map dataset_of st.sources)
+            ≡ staying_in_all st.next_id st.params (map dataset_of st.sources) index change = omega (arith, count, few) in
+            ap (λ n. nat_lt most_rows (n + length change.insert) || nat_lt (greatest_id + 1) (st.next_id + length change.insert)) same
+
+        reply_to_found : (found : Option (List Dataset))
+            → reply_to_state (vega_semantics g) (option_map state_now found)
+            ≡ reply_to_sources g st.params found
+        reply_to_found None = refl
+        reply_to_found (Some sources) = to_drawn (in_reach (plot_over g sources st.params))
+
+        -- the reply
+        pub replied : reply_at g st.next_id st.params (map dataset_of st.sources) index change
+            ≡ reply_to_change (vega_semantics g) (state_of st) name change
+        replied =
+            let last = ap (reply_to_state (vega_semantics g)) changed
+            ∙ reply_to_found (sources_changed st.next_id st.params (map dataset_of st.sources) index change) in
+            let whole : (if is_past_limit (values_in (state_of st)) (state_of st) name change then Refused cause.Limit
+            else reply_to_state (vega_semantics g) (state_changed (values_in (state_of st)) (state_of st) name change))
+            ≡ reply_at g st.next_id st.params (map dataset_of st.sources) index change =
+            λ i. if limit i then Refused cause.Limit else last i in
+            rw (has_all, good) (sym whole)
+
+some_of : (found : Option (List Datum)) (sources now : List Dataset) (index : ℕ) → option_map (with_data sources index) found ≡ Some now
+    → (new : List Datum) × (found ≡ Some new) × (now ≡ with_data sources index new)
+some_of None sources now index h = absurd (cc)
+some_of (Some new) sources now index h = (new, refl, cc)
+
+-- what is done isn't past the limit
+done_is_free : (past : Bool) (reply : Reply) → Done ≡ (if past then Refused cause.Limit else reply) → past ≡ false
+done_is_free true reply h = absurd (cc)
+done_is_free false reply h = refl
+
+module _ (g : VgSpec) (st : ChartState) (index : ℕ) (change : ChangeOf) (within : index < length st.sources) (h : IsStateOf g
+    (state_of st)) where
+  -- the state without its selections, of which it has none
+  pub plain_state : IsState (state_in st.next_id st.params (map dataset_of st.sources))
+  plain_state =
+      let none = h.stores in
+      let at : State → Type 0 = λ st. IsState st in
+      subst at (λ i. record { next_id = st.next_id; sources = map dataset_of st.sources; params = st.params; stores = none i }) h.is
+
+  -- what is kept after a change that is done
+  pub kept_done : (sources : List Named) (scene : Scene) → is_plot g ≡ true
+      → sources_changed st.next_id st.params (map dataset_of st.sources) index change ≡ Some (map dataset_of sources)
+      → Done ≡ reply_at g st.next_id st.params (map dataset_of st.sources) index change
+      → plot_over g (map dataset_of sources) st.params ≡ Some scene
+      → (let now : ChartState = record {
+        next_id = st.next_id + length change.insert;
+        sources = sources;
+        params = st.params;
+        stores =
+            st.stores;
+      } in
+      IsKept g now scene)
+  kept_done sources scene plot changed replied drawn =
+      let free = done_is_free _ _ replied in
+      let found = some_of (rows_changed st.next_id st.params (map dataset_of st.sources) index change) (map dataset_of st.sources)
+      (map dataset_of sources) index changed in
+      let still = still_state st.next_id st.params (map dataset_of st.sources) index change
+      (omega (arith, within, length-map st.sources dataset_of)) plain_state found.0 free found.1 in
+      let none = h.stores in
+      let same = found.2 in
+      let at : State → Type 0 = λ st. IsState st in
+      record {
+        plot = plot;
+        of = record {
+          is = subst at (λ i. record {
+            next_id = st.next_id + length change.insert;
+            sources = sym same i;
+            params = st.params;
+            stores =
+                sym none i;
+          }) still;
+          sources = ap names_of same ∙ names_stay (map dataset_of st.sources) index found.0 ∙ h.sources;
+          params = h.params;
+          stores = h.stores;
+        };
+        drawn = ap in_reach drawn;
+      }

@@ -1,6 +1,3 @@
-pub mod Columns
-pub mod Scales
-pub mod Bars
 pub mod JsonRows
 pub mod Mentions
 pub mod Sources

@@ -1,17 +1,16 @@
 // The engine.
-ghost use Rattle.std.specs.Prelude.{◌≡◌, IfOk, OnErr};
+ghost use Rattle.std.specs.Prelude.{◌≡◌, true, Some, IfOk, OnErr};
 ghost use Rattle.cell_value.specs.State.{state_of};
-ghost use Rattle.expr_eval.specs.Plain.{no_values};
-ghost use Rattle.param_flow.specs.Machine.{reply_to_change, state_changed, state_if};
-ghost use Rattle.vega_meaning.specs.Semantics.{vega_semantics};
+ghost use Rattle.param_flow.specs.Machine.{reply_to_change, reply_to_set, state_changed, state_if, state_set};
+ghost use Rattle.vega_plots.specs.Tested.{is_plot};
+ghost use Rattle.vega_meaning.specs.Semantics.{vega_semantics, values_in};
 ghost use Rattle.vega_meaning.specs.States.{IsStateOf};
 ghost use Rattle.plain_engine.specs.inner.Kept.{IsKept, IsKept-prop};
 
 use crate::json_rows::first_bad;
-use crate::mentions::has_names;
-use crate::sources::{change_source, scene_of_state};
-use bar_spec::BarSpec;
-use cell_value::{ChartState, Steps};
+use crate::mentions::mentions_params;
+use crate::sources::{change_source, place_of, scene_of_state};
+use cell_value::{Cell, ChartState, Steps};
 use chart_io::{Sink, WriteFault};
 use param_flow::{Cause, ChangeOf, Command, Reply};
 use play_script::{Engine, PrintError};
@@ -21,11 +20,12 @@ use std::sync::ledger::Ledger;
 use svg_text::print;
 use text_kit::{OutOfMemory, Text};
 use vega_meaning::OpenError;
+use vega_spec::VgSpec;
 
 /// An engine that evaluates the whole chart after each command. It keeps its state, and the scene of that.
 #[derive(Debug, Drop)]
 pub struct PlainEngine {
-    spec: BarSpec,
+    spec: VgSpec,
     state: ChartState,
     scene: Scene,
     ghost kept: { IsKept spec state scene } by { IsKept-prop spec state scene },
@@ -34,9 +34,10 @@ pub struct PlainEngine {
 impl PlainEngine {
     ghost use Rattle.plain_engine.specs.Engine.{meaning_of, Opens};
 
-    /// Opens a specification in a state of it. `Overflow` and `Panels` come exactly where its chart is that.
-    pub fn open(alloc: Global, g: BarSpec, st: ChartState) -> Result<PlainEngine, OpenError>
-        requires { IsStateOf g (state_of st) }
+    /// Opens a specification that is a plot in a state of it. `Overflow` and `Panels` come exactly where its chart is that.
+    pub fn open(alloc: Global, g: VgSpec, st: ChartState) -> Result<PlainEngine, OpenError>
+        requires built { is_plot g ≡ true }
+        requires state { IsStateOf g (state_of st) }
         ensures { Opens (record { spec = g; state = state_of st }) result }
     {
         let scene = scene_of_state(alloc, &g, &st)?;
@@ -53,18 +54,39 @@ impl PlainEngine {
             ≡ reply_to_change (vega_semantics self.old.spec) (state_of self.old.state) name.now change.now) }
         ensures done { IfOk result (λ reply. meaning_of self.new ≡ record {
           spec = self.old.spec;
-          state = state_if reply (state_of self.old.state) (state_changed no_values (state_of self.old.state) name.now change.now);
+          state = state_if reply (state_of self.old.state)
+              (state_changed (values_in (state_of self.old.state)) (state_of self.old.state) name.now change.now);
         }) }
         ensures kept { OnErr result (meaning_of self.new ≡ meaning_of self.old) }
     {
-        if !has_names(alloc, &self.spec, name, change)? {
+        let Some(index) = place_of(self.state.sources.as_slice(), name) else {
+            return Ok(Reply::Refused(Cause::Name));
+        };
+        if !mentions_params(alloc, &self.spec, change)? {
             return Ok(Reply::Refused(Cause::Name));
         }
         if let Some((row, field)) = first_bad(change.insert.as_slice()) {
             let field = Text::of(alloc, field)?;
             return Ok(Reply::Refused(Cause::Row { row, field }));
         }
-        change_source(alloc, &self.spec, &mut self.state, &mut self.scene, change)
+        change_source(
+            alloc,
+            &self.spec,
+            &mut self.state,
+            &mut self.scene,
+            index,
+            change,
+        )
+    }
+
+    // Gives a value to a parameter. A specification that is drawn so far has none.
+    fn set(&self, name: &str, value: &Cell) -> Reply
+        ensures reply { result ≡ reply_to_set (vega_semantics self.now.spec) (state_of self.now.state) name.now value.now }
+        ensures stays { state_if result (state_of self.now.state) (Some (state_set (state_of self.now.state) name.now value.now))
+            ≡ state_of self.now.state }
+    {
+        let _ = &self.spec;
+        Reply::Refused(Cause::Name)
     }
 }
 
@@ -86,7 +108,7 @@ impl Engine for PlainEngine {
     ) -> Result<Reply, OutOfMemory> {
         match c {
             Command::Change { source, change } => { self.change(alloc, source.as_str(), change) }
-            Command::Set { name: _, value: _ } => Ok(Reply::Refused(Cause::Name)),
+            Command::Set { name, value } => Ok(self.set(name.as_str(), value)),
             Command::Event(_) | Command::Print => Ok(Reply::Done),
         }
     }

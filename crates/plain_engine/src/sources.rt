@@ -1,30 +1,32 @@
 //! The sources of a state.
-ghost use Rattle.std.specs.Prelude.{◌≡◌, ◌≤◌, ◌+◌, ◌++◌, ◌||◌, nat_lt, length, map, position, IfOk, OnErr};
+ghost use Rattle.std.specs.Prelude.{◌≡◌, ◌≤◌, ◌<◌, ◌+◌, ◌++◌, ◌||◌, nat_lt, length, map, position, true, Some, IfOk, OnErr};
 ghost use Rattle.std.specs.Str.{bytes_eq};
-ghost use Rattle.cell_value.specs.Datum.{datum_of};
-ghost use Rattle.cell_value.specs.State.{state_of, most_rows, greatest_id};
-ghost use Rattle.expr_eval.specs.Plain.{no_values};
+ghost use Rattle.cell_value.specs.State.{IsState, state_of, dataset_of, most_rows, greatest_id};
+ghost use Rattle.vega_lists.specs.Held.{AreSources};
+ghost use Rattle.vega_plots.specs.Tested.{is_plot};
+ghost use Rattle.vega_plots.specs.Plots.{plot_over};
 ghost use Rattle.vega_meaning.specs.Answers.{Draws};
-ghost use Rattle.vega_meaning.specs.Bars.{rows_of, scene_of_rows, vega_scene_of};
-ghost use Rattle.vega_meaning.specs.States.{IsStateOf};
-ghost use Rattle.param_flow.specs.Machine.{state_changed, state_if, reply_to_chart};
-ghost use Rattle.row_edits.specs.Rows.{rows_at, Fits};
+ghost use Rattle.vega_meaning.specs.Charts.{vega_scene_of};
+ghost use Rattle.param_flow.specs.Machine.{state_if, reply_to_chart};
+ghost use Rattle.scene_tree.specs.Outcome.{in_reach};
 ghost use Rattle.row_edits.specs.Edits.{edited};
+ghost use Rattle.row_edits.specs.Marks.{taken_back};
 ghost use Rattle.plain_engine.specs.inner.Kept.{IsKept};
-ghost use Rattle.plain_engine.specs.inner.Sources.{single, rows_changed, reply_over, reply_within, rows_if, IsLeft, IsShown};
+ghost use Rattle.plain_engine.specs.inner.Sources.{rows_at, with_rows, state_in, count_in, sources_changed, reply_at, state_at};
+ghost use Rattle.plain_engine.specs.inner.Sources.{sources_if, IsLeft, IsShown};
 
 use crate::json_rows::new_rows;
-use crate::scene::scene_of;
-use bar_spec::BarSpec;
-use cell_value::{ChartState, Keyed, Named, Rows};
-use expr_eval::NoParams;
+use cell_value::{Cell, ChartState, Keyed, Named, Rows};
+use expr_eval::EvalError;
 use param_flow::{Cause, ChangeOf, Reply};
-use row_edits::{Edit, Edits, commit, edits_of, view};
+use row_edits::{Edit, Edits, Undo, commit, edits_of, take_back};
 use scene_tree::Scene;
 use std::alloc::Global;
 use std::mem::replace;
-use text_kit::{OutOfMemory, Seq};
+use text_kit::{OutOfMemory, Seq, Text};
 use vega_meaning::OpenError;
+use vega_plots::{PlotParams, scene_of};
+use vega_spec::VgSpec;
 
 /// How many rows a chart may have.
 pub const MOST_ROWS: usize = 200_000;
@@ -32,16 +34,33 @@ pub const MOST_ROWS: usize = 200_000;
 /// The greatest id that a row may have.
 const GREATEST_ID: u64 = 1_000_000_000_000_000;
 
-// The rows of the first source of this name; none where there is none.
-fn rows_of<'a>(st: &'a ChartState, name: &str) -> &'a [Keyed]
-    ensures { map datum_of result.now ≡ rows_of (state_of st.now) name.now }
+/// The index of the first source of this name.
+pub fn place_of(sources: &[Named], name: &str) -> Option<usize>
+    ensures { result ≡ position (λ source. bytes_eq source.name name.now) sources.now }
 {
-    for source in st.sources.as_slice() {
-        if source.name.as_str() == name {
-            return source.rows.as_slice();
-        }
+    sources
+        .iter()
+        .position(|source| source.name.as_str() == name)
+}
+
+// How many rows sources have.
+fn count_rows(sources: &[Named]) -> usize
+    requires { count_in (map dataset_of sources.now) ≤ most_rows }
+    ensures { result ≡ count_in (map dataset_of sources.now) }
+{
+    let mut count = 0;
+    for source in sources {
+        count += source.rows.len();
     }
-    &[]
+    count
+}
+
+// The rows of the source at an index.
+fn rows_at(sources: &[Named], index: usize) -> &[Keyed]
+    requires { index < length sources.now }
+    ensures { result.now ≡ rows_at sources.now index }
+{
+    sources[index].rows.as_slice()
 }
 
 // Whether there would be too many rows, of so many that stay and so many more, or one of these would have too great an id.
@@ -53,127 +72,159 @@ fn is_past_limit(next_id: u64, staying: usize, more: usize) -> bool
     more > MOST_ROWS - staying || more as u64 > GREATEST_ID + 1 - next_id
 }
 
-// Rows, where they stand.
-fn all_of<'a>(alloc: Global, rows: &'a [Keyed]) -> Result<Vec<&'a Keyed>, OutOfMemory>
-    ensures { IfOk result (λ all. rows_at all.items ≡ rows.now) }
-{
-    Ok(rows.iter().collect(alloc)?)
-}
-
 /// The scene of a specification over a state of it.
-pub fn scene_of_state(alloc: Global, g: &BarSpec, st: &ChartState) -> Result<Scene, OpenError>
-    requires { IsStateOf g.now (state_of st.now) }
+pub fn scene_of_state(alloc: Global, g: &VgSpec, st: &ChartState) -> Result<Scene, OpenError>
+    requires built { is_plot g.now ≡ true }
+    requires state { IsState (state_of st.now) }
     ensures { Draws (vega_scene_of g.now (state_of st.now)) result }
 {
-    let rows = all_of(alloc, rows_of(st, g.source.as_str()))?;
-    scene_of(alloc, g.x.as_str(), g.y.as_str(), &rows)
+    match scene_of(alloc, g, st.sources.as_slice(), st.params.as_slice()) {
+        Ok(scene) => Ok(scene),
+        Err(EvalError::Overflow) => Err(OpenError::Overflow),
+        Err(EvalError::Memory) => Err(OpenError::Memory),
+    }
 }
 
-// The scene of rows after their edits, with rows that are added at the end.
-fn scene_after(
+// Puts edits of the rows of a source in place, and adds rows at the end. What is given takes that back.
+fn commit_at(
     alloc: Global,
-    g: &BarSpec,
-    rows: &[Keyed],
-    edits: &[Edit],
-    more: &[Keyed],
-) -> Result<Scene, OpenError>
-    requires { Fits (edited edits.now rows.now ++ more.now) }
-    ensures { Draws (scene_of_rows g.now.x g.now.y (map datum_of (edited edits.now rows.now ++ more.now))) result }
+    sources: &mut [Named],
+    index: usize,
+    edits: Seq<Edit>,
+    more: Rows,
+) -> Result<Undo, OutOfMemory>
+    requires within { index < length sources.old }
+    requires each { length edits ≡ length (rows_at sources.old index) }
+    ensures done { IfOk result (λ undo. sources.new ≡ with_rows sources.old index (edited edits (rows_at sources.old index) ++ more)) }
+    ensures back { IfOk result (λ undo. with_rows sources.new index (taken_back undo (rows_at sources.new index)) ≡ sources.old) }
+    ensures length { length sources.new ≡ length sources.old }
+    ensures kept { OnErr result (sources.new ≡ sources.old) }
 {
-    let all = view(alloc, rows, edits, more)?;
-    scene_of(alloc, g.x.as_str(), g.y.as_str(), &all)
+    let source = &mut sources[index];
+    commit(alloc, &mut source.rows, edits, more)
 }
 
-// Draws rows after their edits, with rows that are added at the end, and puts them in place of the rows. Where they can't be drawn, or
-// memory is refused, all stays.
+// Takes that back.
+fn take_back_at(alloc: Global, sources: &mut [Named], index: usize, undo: Undo)
+    requires { index < length sources.old }
+    ensures { sources.new ≡ with_rows sources.old index (taken_back undo (rows_at sources.old index)) }
+{
+    let source = &mut sources[index];
+    take_back(alloc, &mut source.rows, undo);
+}
+
+// Puts edits of the rows of a source in place, adds rows at the end, and draws that. Where it can't be drawn, or memory is refused, all
+// stays.
 fn put_rows(
     alloc: Global,
-    g: &BarSpec,
-    rows: &mut Rows,
+    g: &VgSpec,
+    sources: &mut [Named],
+    index: usize,
+    params: &[(Text, Cell)],
     scene: &mut Scene,
     edits: Seq<Edit>,
     more: Rows,
 ) -> Result<Reply, OutOfMemory>
-    requires each { length edits ≡ length rows.old }
-    requires fit { Fits (edited edits rows.old ++ more) }
-    ensures reply { IfOk result (λ reply. reply
-        ≡ reply_to_chart (scene_of_rows g.now.x g.now.y (map datum_of (edited edits rows.old ++ more)))) }
-    ensures rows { IfOk result (λ reply. rows.new ≡ rows_if reply rows.old (edited edits rows.old ++ more)) }
-    ensures drawn { IfOk result (λ reply. IsShown reply g.now rows.new scene.old scene.new) }
-    ensures kept { OnErr result ((rows.new ≡ rows.old) × (scene.new ≡ scene.old)) }
+    requires built { is_plot g.now ≡ true }
+    requires within { index < length sources.old }
+    requires each { length edits ≡ length (rows_at sources.old index) }
+    requires fit { AreSources (with_rows sources.old index (edited edits (rows_at sources.old index) ++ more)) }
+    ensures reply { IfOk result (λ reply. reply ≡ reply_to_chart (in_reach
+        (plot_over g.now (map dataset_of (with_rows sources.old index (edited edits (rows_at sources.old index) ++ more))) params.now))) }
+    ensures sources { IfOk result (λ reply. sources.new
+        ≡ sources_if reply sources.old (with_rows sources.old index (edited edits (rows_at sources.old index) ++ more))) }
+    ensures drawn { IfOk result (λ reply. IsShown reply g.now params.now sources.new scene.old scene.new) }
+    ensures kept { OnErr result ((sources.new ≡ sources.old) × (scene.new ≡ scene.old)) }
 {
-    match scene_after(alloc, g, rows.as_slice(), edits.as_slice(), more.as_slice()) {
+    let undo = commit_at(alloc, sources, index, edits, more)?;
+    match scene_of(alloc, g, sources, params) {
         Ok(drawn) => {
-            commit(alloc, rows, edits, more)?;
             *scene = drawn;
             Ok(Reply::Done)
         }
-        Err(OpenError::Overflow) => Ok(Reply::Refused(Cause::Overflow)),
-        Err(OpenError::Panels(_)) => Ok(Reply::Refused(Cause::Limit)),
-        Err(OpenError::Memory) => Err(OutOfMemory),
+        Err(EvalError::Overflow) => {
+            take_back_at(alloc, sources, index, undo);
+            Ok(Reply::Refused(Cause::Overflow))
+        }
+        Err(EvalError::Memory) => {
+            take_back_at(alloc, sources, index, undo);
+            Err(OutOfMemory)
+        }
     }
 }
 
-// Does a change of rows. Where it is refused, or memory is, all stays.
+// Does a change of a source, over the next id and the values of the parameters. Where it is refused, or memory is, all stays.
 fn change_rows(
     alloc: Global,
-    g: &BarSpec,
-    rows: &mut Rows,
+    g: &VgSpec,
+    sources: &mut [Named],
+    index: usize,
+    params: &[(Text, Cell)],
     scene: &mut Scene,
     next_id: u64,
     change: &ChangeOf,
 ) -> Result<Reply, OutOfMemory>
-    requires of { IsStateOf g.now (single g.now.source next_id (map datum_of rows.old)) }
-    ensures reply { IfOk result (λ reply. reply ≡ reply_over g.now next_id change.now (map datum_of rows.old)) }
-    ensures rows { IfOk result (λ reply. IsLeft reply (rows_changed next_id change.now (map datum_of rows.old)) rows.old rows.new) }
-    ensures drawn { IfOk result (λ reply. IsShown reply g.now rows.new scene.old scene.new) }
-    ensures kept { OnErr result ((rows.new ≡ rows.old) × (scene.new ≡ scene.old)) }
+    requires built { is_plot g.now ≡ true }
+    requires within { index < length sources.old }
+    requires state { IsState (state_in next_id params.now (map dataset_of sources.old)) }
+    ensures reply { IfOk result (λ reply. reply ≡ reply_at g.now next_id params.now (map dataset_of sources.old) index change.now) }
+    ensures sources { IfOk result (λ reply. IsLeft reply
+        (sources_changed next_id params.now (map dataset_of sources.old) index change.now) sources.old sources.new) }
+    ensures drawn { IfOk result (λ reply. IsShown reply g.now params.now sources.new scene.old scene.new) }
+    ensures kept { OnErr result ((sources.new ≡ sources.old) × (scene.new ≡ scene.old)) }
 {
+    let plain = PlotParams {
+        params,
+        lengths: &[],
+    };
+    let all = count_rows(sources);
+    let rows = rows_at(sources, index);
+    let others = all - rows.len();
     let Edits {
         each,
         staying,
         overflows,
-    } = edits_of(alloc, change, rows.as_slice(), &NoParams)?;
-    if is_past_limit(next_id, staying, change.insert.len()) {
+    } = edits_of(alloc, change, rows, &plain)?;
+    if is_past_limit(next_id, others + staying, change.insert.len()) {
         return Ok(Reply::Refused(Cause::Limit));
     }
     if overflows {
         return Ok(Reply::Refused(Cause::Overflow));
     }
     let more = new_rows(alloc, next_id, change.insert.as_slice())?;
-    put_rows(alloc, g, rows, scene, each, more)
+    put_rows(alloc, g, sources, index, params, scene, each, more)
 }
 
-// The index of the first source of this name.
-fn place_of(sources: &[Named], name: &str) -> Option<usize>
-    ensures { result ≡ position (λ source. bytes_eq source.name name.now) sources.now }
-{
-    sources
-        .iter()
-        .position(|source| source.name.as_str() == name)
-}
-
-/// Does a change of the source of a specification, over a state of it and the scene of that. Where it is refused, or memory is, all stays.
+/// Does a change of the source at an index, over a state of a specification and the scene of that. Where it is refused, or memory is, all
+/// stays.
 pub fn change_source(
     alloc: Global,
-    g: &BarSpec,
+    g: &VgSpec,
     st: &mut ChartState,
     scene: &mut Scene,
+    index: usize,
     change: &ChangeOf,
 ) -> Result<Reply, OutOfMemory>
-    requires { IsKept g.now st.old scene.old }
-    ensures reply { IfOk result (λ reply. reply ≡ reply_within g.now (state_of st.old) change.now) }
+    requires kept { IsKept g.now st.old scene.old }
+    requires within { index < length st.old.sources }
+    ensures reply { IfOk result (λ reply. reply
+        ≡ reply_at g.now st.old.next_id st.old.params (map dataset_of st.old.sources) index change.now) }
     ensures done { IfOk result (λ reply. state_of st.new
-        ≡ state_if reply (state_of st.old) (state_changed no_values (state_of st.old) g.now.source change.now)) }
+        ≡ state_if reply (state_of st.old) (state_at (state_of st.old) index change.now)) }
     ensures memory { OnErr result (st.new ≡ st.old) }
     ensures kept { IsKept g.now st.new scene.new }
 {
-    let Some(index) = place_of(st.sources.as_slice(), g.source.as_str()) else {
-        unreachable!()
-    };
     let mut sources = replace(&mut st.sources, Seq::new(alloc)).into_vec();
-    let source = &mut sources[index];
-    let result = change_rows(alloc, g, &mut source.rows, scene, st.next_id, change);
+    let result = change_rows(
+        alloc,
+        g,
+        &mut sources,
+        index,
+        st.params.as_slice(),
+        scene,
+        st.next_id,
+        change,
+    );
     st.sources = Seq::from_vec(sources);
     match result {
         Ok(Reply::Done) => {

@@ -4,7 +4,7 @@ use Rattle.std.proofs.lemmas.List.{take_at}
 use Rattle.chart_io.specs.Outside.{Appended, AppendedPrefix}
 use Rattle.cell_value.specs.State.{State}
 use Rattle.param_flow.specs.Script.{IsLine, IsOutput, silent, too_long, replied, no_line, one_line, lines_of, ended_lines, most_script_bytes}
-use Rattle.bar_spec.specs.declared.spec.BarSpec.{BarSpec}
+use Rattle.vega_spec.specs.declared.spec.VgSpec.{VgSpec}
 use Rattle.vega_meaning.specs.Semantics.{vega_semantics, IsVegaReply, IsVegaOutput}
 use Rattle.play_script.specs.declared.errors.PlayError.{PlayError}
 use Rattle.play_script.specs.declared.errors.PlayError.TheVariants as error
@@ -27,10 +27,10 @@ as_vega meaning now n lines out notes (no_line s m) = (refl, no_line s.state m)
 as_vega meaning now n lines out notes (one_line s mid t m l r k rest ks ls line more) =
     let first = line_as_vega s mid m l r k line in
     let others = as_vega mid t (suc m) ls rest ks more in
-    let at : BarSpec → Type 0 = λ g. IsOutput (IsVegaReply g) mid.state (suc m) ls rest ks t.state in
+    let at : VgSpec → Type 0 = λ g. IsOutput (IsVegaReply g) mid.state (suc m) ls rest ks t.state in
     (others.0 ∙ first.0, one_line s.state mid.state t.state m l r k rest ks ls first.1 (subst at first.0 others.1))
 
-pub vega_begins : (g : BarSpec) (st mid now : State) (n k : ℕ) (lines : List (List ℕ)) (out part notes part_notes : List ℕ)
+pub vega_begins : (g : VgSpec) (st mid now : State) (n k : ℕ) (lines : List (List ℕ)) (out part notes part_notes : List ℕ)
     → IsOutput (IsVegaReply g) st n lines out notes now → IsOutput (IsVegaReply g) st n (take k lines) part part_notes mid
     → (rest : List ℕ) × (out ≡ part ++ rest)
 vega_begins g = begins (IsVegaReply g) (one_reply (vega_semantics g))

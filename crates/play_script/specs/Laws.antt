@@ -4,8 +4,8 @@ use Rattle.chart_io.specs.Outside.{AppendedPrefix}
 use Rattle.cell_value.specs.State.{State}
 use Rattle.scene_tree.specs.Outcome.{Drawn}
 use Rattle.param_flow.specs.Script.{IsOutput, lines_of, ended_lines}
-use Rattle.bar_spec.specs.declared.spec.BarSpec.{BarSpec}
-use Rattle.vega_meaning.specs.Bars.{vega_chart_of}
+use Rattle.vega_spec.specs.declared.spec.VgSpec.{VgSpec}
+use Rattle.vega_meaning.specs.Charts.{vega_chart_of}
 use Rattle.vega_meaning.specs.Semantics.{IsVegaReply, IsVegaOutput}
 use Rattle.play_script.specs.declared.errors.PlayError.{PlayError}
 use Rattle.play_script.specs.Meaning.{Meaning, IsReplyIn}
@@ -14,14 +14,14 @@ use Rattle.play_script.specs.Played.{Sinks, IsPlayed}
 -- a script has one output from a state, and the same notes and the same state after it
 abbrev pub ScriptsHaveOneOutput : Type 0
 ScriptsHaveOneOutput =
-    (g : BarSpec) (st now later : State) (script out other notes others : List ℕ)
+    (g : VgSpec) (st now later : State) (script out other notes others : List ℕ)
     → IsVegaOutput g st script out notes now → IsVegaOutput g st script other others later
     → (out ≡ other) × (notes ≡ others) × (now ≡ later)
 
 -- a script has an output from a state whose chart is drawn, and the chart of the state after it is drawn too
 abbrev pub ScriptsHaveAnOutput : Type 0
 ScriptsHaveAnOutput =
-    (g : BarSpec) (st : State) (picture script : List ℕ) → vega_chart_of g st ≡ Drawn picture
+    (g : VgSpec) (st : State) (picture script : List ℕ) → vega_chart_of g st ≡ Drawn picture
     → (out notes : List ℕ) × (now : State) × IsVegaOutput g st script out notes now
     × ((later : List ℕ) × (vega_chart_of g now ≡ Drawn later))
 
@@ -34,7 +34,7 @@ OutputsAreVega =
 -- the output of the first lines begins the output of them all
 abbrev pub OutputsBegin : Type 0
 OutputsBegin =
-    (g : BarSpec) (st mid now : State) (n k : ℕ) (lines : List (List ℕ)) (out part notes part_notes : List ℕ)
+    (g : VgSpec) (st mid now : State) (n k : ℕ) (lines : List (List ℕ)) (out part notes part_notes : List ℕ)
     → IsOutput (IsVegaReply g) st n lines out notes now → IsOutput (IsVegaReply g) st n (take k lines) part part_notes mid
     → (rest : List ℕ) × (out ≡ part ++ rest)
 

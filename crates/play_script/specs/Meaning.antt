@@ -4,13 +4,13 @@ use Rattle.cell_value.specs.State.{State}
 use Rattle.scene_tree.specs.Outcome.{Outcome, Drawn}
 use Rattle.param_flow.specs.declared.command.Command.{Command}
 use Rattle.param_flow.specs.declared.reply.Reply.{Reply}
-use Rattle.bar_spec.specs.declared.spec.BarSpec.{BarSpec}
-use Rattle.vega_meaning.specs.Bars.{vega_chart_of}
+use Rattle.vega_spec.specs.declared.spec.VgSpec.{VgSpec}
+use Rattle.vega_meaning.specs.Charts.{vega_chart_of}
 use Rattle.vega_meaning.specs.States.{IsStateOf}
 use Rattle.vega_meaning.specs.Semantics.{vega_reply_of, vega_state_after, IsVegaReply}
 
 pub record Meaning : Type 0 where
-  pub spec : BarSpec
+  pub spec : VgSpec
   pub state : State
 
 -- what comes of drawing its chart

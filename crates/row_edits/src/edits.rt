@@ -1,22 +1,20 @@
 //! What a change does to the rows of a source.
-ghost use Rattle.std.specs.Prelude.{◌≡◌, ◌<◌, ◌≤◌, ◌+◌, ◌++◌, ◌∷◌, List, drop, slice_set, length, map, take, unwrap_or, IfOk, OnOk, OnErr};
+ghost use Rattle.std.specs.Prelude.{◌≡◌, ◌≤◌, length, map, unwrap_or, IfOk, OnOk};
 ghost use Rattle.std.specs.Option.{option_map};
 ghost use Rattle.std.specs.Result.{result_map_both};
 ghost use Rattle.cell_value.specs.State.{greatest_id, most_rows};
 ghost use Rattle.expr_eval.specs.Answers.{Evaluates};
 ghost use Rattle.cell_value.specs.Datum.{datum_of, datum_with};
 ghost use Rattle.param_flow.specs.Change.{setting_of, removal_of, modified, row_after, rows_after, count_staying};
-ghost use Rattle.row_edits.specs.declared.edits.Edit.{Edit as EditOf};
-ghost use Rattle.row_edits.specs.Rows.{rows_at, Fits};
-ghost use Rattle.row_edits.specs.Edits.{after_edit, edited, with_edit, data_edited, datum_after, with_setting};
+ghost use Rattle.row_edits.specs.Rows.{Fits};
+ghost use Rattle.row_edits.specs.Edits.{after_edit, with_edit, data_edited, datum_after, with_setting};
 
-use cell_value::{Cell, Keyed, Rows};
+use cell_value::{Cell, Keyed};
 use expr_eval::{EvalError, ParamReader};
 use expr_syntax::Expr;
 use param_flow::{ChangeOf, Modify};
 use plain_rows::{eval_row, eval_test};
 use std::alloc::Global;
-use std::mem::replace;
 use text_kit::{Boxed, OutOfMemory, Seq, Text};
 
 /// The name under which every row reads as its id.
@@ -230,102 +228,4 @@ pub fn edits_of<P: ParamReader>(
         add(&mut edits, next)?;
     }
     Ok(edits)
-}
-
-// Rows after their edits, where they stand.
-fn rows_kept<'a>(
-    alloc: Global,
-    rows: &'a [Keyed],
-    edits: &'a [Edit],
-) -> Result<Vec<&'a Keyed>, OutOfMemory>
-    ensures { IfOk result (λ kept. rows_at kept.items ≡ edited edits.now rows.now) }
-{
-    let mut kept = Vec::with_capacity(alloc, rows.len())?;
-    for (index, row) in rows.iter().enumerate() {
-        match edits.get(index) {
-            Some(Edit::Remove) => {}
-            Some(Edit::Modify(made)) => kept.push(made.get())?,
-            Some(Edit::Stay) | None => kept.push(row)?,
-        }
-    }
-    Ok(kept)
-}
-
-/// Rows after their edits, and rows that are added at the end, where they stand.
-pub fn view<'a>(
-    alloc: Global,
-    rows: &'a [Keyed],
-    edits: &'a [Edit],
-    more: &'a [Keyed],
-) -> Result<Vec<&'a Keyed>, OutOfMemory>
-    ensures { IfOk result (λ all. rows_at all.items ≡ edited edits.now rows.now ++ more.now) }
-{
-    let mut all = rows_kept(alloc, rows, edits)?;
-    for row in more {
-        all.push(row)?;
-    }
-    Ok(all)
-}
-
-// Writes a row over the one at a place.
-fn write(rows: &mut [Keyed], at: usize, row: Keyed)
-    requires { at < length rows.old }
-    ensures { rows.new ≡ slice_set rows.old at row }
-{
-    rows[at] = row;
-}
-
-// Puts the row at `from` where its edit leaves it, at `to` where it isn't removed, and gives the next place.
-fn put_next(rows: &mut [Keyed], to: usize, from: usize, edit: Edit) -> usize
-    requires order { to ≤ from }
-    requires within { from < length rows.old }
-    ensures order { result ≤ from + 1 }
-    ensures length { length rows.new ≡ length rows.old }
-    ensures rows { (edits : List EditOf) → take to rows.old ++ edited (edit ∷ edits) (drop from rows.old)
-        ≡ take result rows.new ++ edited edits (drop (from + 1) rows.new) }
-{
-    match edit {
-        Edit::Stay => {
-            rows.swap(to, from);
-            to + 1
-        }
-        Edit::Remove => to,
-        Edit::Modify(made) => {
-            write(rows, to, made.into_inner());
-            to + 1
-        }
-    }
-}
-
-// Makes of rows what edits make of them, and tells how many are left; what stands after those is left over.
-fn settle(rows: &mut [Keyed], edits: Vec<Edit>) -> usize
-    ensures length { length rows.new ≡ length rows.old }
-    ensures rows { edited edits.items rows.old ≡ take result rows.new }
-{
-    let mut edits = edits.into_iter();
-    let mut to = 0;
-    for from in 0..rows.len() {
-        let edit = edits.next().unwrap_or(Edit::Stay);
-        to = put_next(rows, to, from, edit);
-    }
-    to
-}
-
-/// Makes of rows what edits make of them, and adds rows at the end. Where memory is refused the rows stay.
-pub fn commit(
-    alloc: Global,
-    rows: &mut Rows,
-    edits: Seq<Edit>,
-    more: Rows,
-) -> Result<(), OutOfMemory>
-    requires { length edits ≡ length rows.old }
-    ensures done { OnOk result (rows.new ≡ edited edits rows.old ++ more) }
-    ensures kept { OnErr result (rows.new ≡ rows.old) }
-{
-    rows.append(more)?;
-    let mut items = replace(rows, Seq::new(alloc)).into_vec();
-    let count = settle(&mut items, edits.into_vec());
-    items.truncate(count);
-    *rows = Seq::from_vec(items);
-    Ok(())
 }

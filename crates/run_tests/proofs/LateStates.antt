@@ -2,14 +2,14 @@
 use Rattle.std.proofs.Common.{◌≡◌, ◌<◌, ◌≤◌, ◌+◌, ℕ, arith}
 use Rattle.std.proofs.lemmas.List.Elements.{All-weaker}
 use Rattle.cell_value.specs.State.{State, all_rows, ids_of, greatest_id}
-use Rattle.bar_spec.specs.declared.spec.BarSpec.{BarSpec}
+use Rattle.vega_spec.specs.declared.spec.VgSpec.{VgSpec}
 use Rattle.vega_meaning.specs.States.{IsStateOf}
 
 -- a state in which the greatest id counts as taken
 abbrev pub without_ids : State → State
 without_ids st = record { next_id = greatest_id + 1; sources = st.sources; params = st.params; stores = st.stores }
 
-pub stays_state : (g : BarSpec) (st : State) → IsStateOf g st → IsStateOf g (without_ids st)
+pub stays_state : (g : VgSpec) (st : State) → IsStateOf g st → IsStateOf g (without_ids st)
 stays_state g st of =
     let is = of.is in
     let to = is.next_id_to in

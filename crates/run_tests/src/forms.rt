@@ -5,6 +5,7 @@ use first_form::{FirstForm, bars_of, opening_of};
 use std::alloc::Global;
 use std::test::Fail;
 use text_kit::OutOfMemory;
+use vega_spec::{Domain, Scale};
 
 const THREE_BARS: &str = concat!(
     "{\"data\":{\"name\":\"t\",\"values\":[",
@@ -121,12 +122,19 @@ fn is_thousand(source: &Named) -> bool {
     source.rows.len() == 1000 && source.rows.get(999).is_some_and(is_last)
 }
 
+// Whether the cells of a domain come from the name of ids.
+fn is_of_ids(scale: &Scale) -> bool {
+    matches!(&scale.domain, Domain::Field(domain) if domain.field.as_str() == "_vgsid_")
+}
+
 // Whether a form opens with a thousand rows.
 fn opens(alloc: Global, form: &FirstForm) -> Result<bool, OutOfMemory> {
-    let spec = bars_of(form)?;
+    let spec = bars_of(alloc, form)?;
+    let scales = spec.group.scales.as_ref();
+    let is_along = scales.and_then(|all| all.get(0)).is_some_and(is_of_ids);
     let state = opening_of(alloc, form)?;
     let is_state = state.next_id == 1001 && state.sources.get(0).is_some_and(is_thousand);
-    Ok(spec.x.as_str() == "_vgsid_" && is_state)
+    Ok(is_along && is_state)
 }
 
 #[test]

@@ -37,7 +37,7 @@ pub(crate) fn form_of(alloc: Global, text: &str) -> Result<Option<FirstForm>, Fa
 fn opened_form(alloc: Global, form: &FirstForm) -> Result<PlainEngine, OpenError>
     requires { IsDrawable form.now }
 {
-    let spec = bars_of(form)?;
+    let spec = bars_of(alloc, form)?;
     let state = opening_of(alloc, form)?;
     PlainEngine::open(alloc, spec, state)
 }
@@ -46,7 +46,7 @@ fn opened_form(alloc: Global, form: &FirstForm) -> Result<PlainEngine, OpenError
 fn opened_late(alloc: Global, form: &FirstForm) -> Result<PlainEngine, OpenError>
     requires { IsDrawable form.now }
 {
-    let spec = bars_of(form)?;
+    let spec = bars_of(alloc, form)?;
     let mut state = opening_of(alloc, form)?;
     state.next_id = 1_000_000_000_000_001;
     PlainEngine::open(alloc, spec, state)

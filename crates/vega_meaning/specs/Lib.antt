@@ -1,8 +1,4 @@
-pub mod Pixels
-pub mod Scales
-pub mod Frames
-pub mod Bars
+pub mod Charts
 pub mod States
 pub mod Semantics
 pub mod Answers
-pub mod Examples

@@ -1,32 +1,57 @@
 -- What a Vega specification means to commands, and what comes of commands and scripts over it.
-use Rattle.std.specs.Prelude.{ℕ, List, [], ◌∷◌}
+use Rattle.std.specs.Prelude.{ℕ, List, [], map}
 use Rattle.cell_value.specs.State.{State}
-use Rattle.expr_eval.specs.Plain.{no_values}
+use Rattle.expr_eval.specs.Values.{Values}
 use Rattle.param_flow.specs.declared.command.Command.{Command}
 use Rattle.param_flow.specs.declared.reply.Reply.{Reply}
-use Rattle.param_flow.specs.Semantics.{Semantics}
+use Rattle.param_flow.specs.Semantics.{Semantics, ParamKind, ParamOf}
+use Rattle.param_flow.specs.Semantics as kind
 use Rattle.param_flow.specs.Machine.{reply_of, state_after}
 use Rattle.param_flow.specs.Playing.{IsReply}
 use Rattle.param_flow.specs.Script.{IsOutput, IsOutputOf}
-use Rattle.bar_spec.specs.declared.spec.BarSpec.{BarSpec}
-use Rattle.vega_meaning.specs.Bars.{vega_chart_of}
+use Rattle.vega_spec.specs.declared.names.Parameter.{Parameter}
+use Rattle.vega_spec.specs.declared.names.ParameterKind.{ParameterKind}
+use Rattle.vega_spec.specs.declared.names.ParameterKind.TheVariants as vega
+use Rattle.vega_spec.specs.declared.spec.VgSpec.{VgSpec}
+use Rattle.vega_spec.specs.Names.{sources_of, parameters_of}
+use Rattle.vega_plots.specs.Parameters.{values_with}
+use Rattle.vega_meaning.specs.Charts.{vega_chart_of}
 
--- it has one source and no parameters
-abbrev pub vega_semantics : BarSpec → Semantics
-vega_semantics g = record { sources = g.source ∷ []; params = []; values = λ st. no_values; chart = vega_chart_of g }
+-- what commands may do with a parameter of this kind
+abbrev pub param_kind_of : ParameterKind → ParamKind
+param_kind_of vega.Settable = kind.Settable
+param_kind_of vega.Computed = kind.Computed
+param_kind_of vega.Selection = kind.Selection
+
+-- a parameter of the specification, as commands see it
+abbrev pub param_of : Parameter → ParamOf
+param_of p = record { name = p.name; kind = param_kind_of p.kind }
+
+-- what the expressions of a command read in a state: the values of its parameters; no scale has a domain there
+abbrev pub values_in : State → Values
+values_in st = values_with st.params []
+
+-- it has its sources and its parameters
+abbrev pub vega_semantics : VgSpec → Semantics
+vega_semantics g = record {
+  sources = sources_of g;
+  params = map param_of (parameters_of g);
+  values = values_in;
+  chart = vega_chart_of g;
+}
 
 -- what the direct machine replies to a command other than a print
-abbrev pub vega_reply_of : BarSpec → State → Command → Reply
+abbrev pub vega_reply_of : VgSpec → State → Command → Reply
 vega_reply_of g = reply_of (vega_semantics g)
 
 -- the state after a command
-abbrev pub vega_state_after : BarSpec → State → Command → State
+abbrev pub vega_state_after : VgSpec → State → Command → State
 vega_state_after g = state_after (vega_semantics g)
 
 -- what is replied to a line, by its number, and the state after it
-abbrev pub IsVegaReply : BarSpec → State → ℕ → List ℕ → List ℕ → List ℕ → State → Type 0
+abbrev pub IsVegaReply : VgSpec → State → ℕ → List ℕ → List ℕ → List ℕ → State → Type 0
 IsVegaReply g = IsReply (vega_semantics g)
 
 -- the output of a script from a state, its notes, and the state after it
-abbrev pub IsVegaOutput : BarSpec → State → List ℕ → List ℕ → List ℕ → State → Type 0
+abbrev pub IsVegaOutput : VgSpec → State → List ℕ → List ℕ → List ℕ → State → Type 0
 IsVegaOutput g = IsOutputOf (IsVegaReply g)

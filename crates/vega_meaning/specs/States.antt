@@ -1,11 +1,34 @@
 -- Which states are those of a Vega specification.
-use Rattle.std.specs.Prelude.{◌≡◌, [], ◌∷◌, map}
+use Rattle.std.specs.Prelude.{◌≡◌, refl, ℕ, Bool, true, false, List, [], ◌∷◌, map, codes}
+use Rattle.std.specs.List.{filter}
+use Rattle.cell_value.specs.declared.cell.Cell.{Cell}
 use Rattle.cell_value.specs.State.{Dataset, State, IsState}
-use Rattle.bar_spec.specs.declared.spec.BarSpec.{BarSpec}
+use Rattle.vega_spec.specs.declared.names.Parameter.{Parameter}
+use Rattle.vega_spec.specs.declared.names.ParameterKind.{ParameterKind}
+use Rattle.vega_spec.specs.declared.names.ParameterKind.TheVariants.{Settable, Computed, Selection}
+use Rattle.vega_spec.specs.declared.spec.VgSpec.{VgSpec}
+use Rattle.vega_spec.specs.Names.{sources_of, parameters_of}
 
--- the state has the one source that the specification names, and no parameter and no selection, since it has none
-pub record IsStateOf (g : BarSpec) (st : State) : Type 0 where
+-- whether commands may set a parameter of this kind
+abbrev pub is_settable : ParameterKind → Bool
+is_settable Settable = true
+is_settable Computed = false
+is_settable Selection = false
+
+-- the names of the parameters that commands may set
+abbrev pub settable_names : List Parameter → List (List ℕ)
+settable_names params = map (λ (p : Parameter). p.name) (filter (λ (p : Parameter). is_settable p.kind) params)
+
+-- The state has the sources that the specification names, in their order, and a value for each parameter that can be set. No
+-- specification that has a meaning so far has selections.
+pub record IsStateOf (g : VgSpec) (st : State) : Type 0 where
   pub is : IsState st
-  pub sources : map (λ (source : Dataset). source.name) st.sources ≡ g.source ∷ []
-  pub params : st.params ≡ []
+  pub sources : map (λ (source : Dataset). source.name) st.sources ≡ sources_of g
+  pub params : map (λ (param : List ℕ × Cell). param.0) st.params ≡ settable_names (parameters_of g)
   pub stores : st.stores ≡ []
+
+-- The rule at work.
+
+a_computed_parameter_has_no_value_of_its_own :
+    settable_names (record { name = codes "k"; kind = Settable } ∷ record { name = codes "twice"; kind = Computed } ∷ []) ≡ codes "k" ∷ []
+a_computed_parameter_has_no_value_of_its_own = refl

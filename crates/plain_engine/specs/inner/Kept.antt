@@ -1,5 +1,5 @@
--- What a plain engine keeps, and the sources of its state.
-use Rattle.std.specs.Prelude.{◌≡◌}
+-- What a plain engine keeps.
+use Rattle.std.specs.Prelude.{◌≡◌, true}
 use Rattle.std.specs.Coded.{Coded-set}
 use Rattle.std.proofs.Props.{props}
 use mathlib.Core.Path.{ap}
@@ -9,21 +9,23 @@ use Rattle.cell_value.specs.State.{state_of}
 use Rattle.scene_tree.specs.declared.scene.Scene.{Scene}
 use Rattle.scene_tree.specs.Outcome.{Drawn, outcome_map}
 use Rattle.svg_text.specs.SceneText.{svg_of}
-use Rattle.bar_spec.specs.declared.spec.BarSpec.{BarSpec}
-use Rattle.vega_meaning.specs.Bars.{vega_scene_of}
+use Rattle.vega_spec.specs.declared.spec.VgSpec.{VgSpec}
+use Rattle.vega_plots.specs.Tested.{is_plot}
+use Rattle.vega_meaning.specs.Charts.{vega_scene_of}
 use Rattle.vega_meaning.specs.States.{IsStateOf}
 use Rattle.play_script.specs.Meaning.{Meaning, IsStanding}
 
--- the state is one of the specification, and the scene is its scene
-pub record IsKept (spec : BarSpec) (state : ChartState) (scene : Scene) : Type 0 where
+-- the specification is a plot, the state is one of it, and the scene is its scene
+pub record IsKept (spec : VgSpec) (state : ChartState) (scene : Scene) : Type 0 where
+  pub plot : is_plot spec ≡ true
   pub of : IsStateOf spec (state_of state)
   pub drawn : vega_scene_of spec (state_of state) ≡ Drawn scene
 
 -- it has one proof at most
-pub IsKept-prop : (spec : BarSpec) (state : ChartState) (scene : Scene) → IsProp (IsKept spec state scene)
+pub IsKept-prop : (spec : VgSpec) (state : ChartState) (scene : Scene) → IsProp (IsKept spec state scene)
 IsKept-prop spec state scene = hlevel (props, Coded-set row.the_row.coded)
 
 -- what is kept stands
-pub standing : (spec : BarSpec) (state : ChartState) (scene : Scene) → IsKept spec state scene
+pub standing : (spec : VgSpec) (state : ChartState) (scene : Scene) → IsKept spec state scene
     → (let meaning : Meaning = record { spec = spec; state = state_of state } in IsStanding meaning)
 standing spec state scene h = record { of = h.of; drawn = (svg_of scene, ap (outcome_map svg_of) h.drawn) }

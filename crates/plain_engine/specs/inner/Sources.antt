@@ -1,64 +1,114 @@
--- What a change makes of the one source of a state.
-use Rattle.std.specs.Prelude.{◌≡◌, ℕ, ◌+◌, nat_lt, ◌||◌, Bool, Option, Some, None, List, [], ◌∷◌, ◌++◌, length, map, if◌then◌else◌}
+-- What a change makes of one of the sources of a state, by its index.
+use Rattle.std.specs.Prelude.{◌≡◌, ◌≢◌, ℕ, zero, suc, ◌+◌, ◌-◌, nat_lt, ◌||◌, Bool, Option, Some, None, List, [], ◌∷◌, ◌++◌, length, map}
+use Rattle.std.specs.Prelude.{if◌then◌else◌, flat_map}
 use Rattle.std.specs.Option.{option_map}
+use Rattle.std.specs.List.{AllPairs}
+use Rattle.cell_value.specs.declared.cell.Cell.{Cell}
 use Rattle.cell_value.specs.declared.state.Keyed.{Keyed}
+use Rattle.cell_value.specs.declared.state.Named.{Named}
 use Rattle.cell_value.specs.Datum.{Datum, datum_of}
-use Rattle.cell_value.specs.State.{State, most_rows, greatest_id}
-use Rattle.expr_eval.specs.Plain.{no_values}
+use Rattle.cell_value.specs.State.{Dataset, dataset_of, State, most_rows, greatest_id}
 use Rattle.scene_tree.specs.declared.scene.Scene.{Scene}
-use Rattle.scene_tree.specs.Outcome.{Drawn}
+use Rattle.scene_tree.specs.Outcome.{in_reach}
 use Rattle.param_flow.specs.declared.command.ChangeOf.{ChangeOf}
 use Rattle.param_flow.specs.declared.reply.Reply.{Reply}
 use Rattle.param_flow.specs.declared.reply.Reply.TheVariants.{Done, Refused}
 use Rattle.param_flow.specs.declared.reply.Cause.TheVariants as cause
 use Rattle.param_flow.specs.Change.{rows_after, count_staying}
-use Rattle.param_flow.specs.Machine.{new_rows, state_changed, is_past_limit, reply_to_chart, reply_to_state}
-use Rattle.bar_spec.specs.declared.spec.BarSpec.{BarSpec}
-use Rattle.vega_meaning.specs.Bars.{scene_of_rows}
-use Rattle.vega_meaning.specs.Semantics.{vega_semantics}
+use Rattle.param_flow.specs.Machine.{new_rows, reply_to_chart}
+use Rattle.vega_spec.specs.declared.spec.VgSpec.{VgSpec}
+use Rattle.vega_plots.specs.Parameters.{values_with}
+use Rattle.vega_plots.specs.Plots.{plot_over}
 
--- the state of one source
-abbrev pub single : List ℕ → ℕ → List Datum → State
-single source next_id rows = record { next_id = next_id; sources = record { name = source; rows = rows } ∷ []; params = []; stores = [] }
+-- the rows of the source at an index; none where there is no source
+abbrev pub rows_at : List Named → ℕ → List Keyed
+rows_at [] index = []
+rows_at (source ∷ sources) zero = source.rows
+rows_at (source ∷ sources) (suc index) = rows_at sources index
 
--- its rows after a change; None where an expression is out of range
-abbrev pub rows_changed : ℕ → ChangeOf → List Datum → Option (List Datum)
-rows_changed next_id change rows =
-    option_map (λ left. left ++ map datum_of (new_rows next_id change.insert)) (rows_after no_values change rows)
+-- sources with these rows in the one at an index
+abbrev pub with_rows : List Named → ℕ → List Keyed → List Named
+with_rows [] index rows = []
+with_rows (source ∷ sources) zero rows = record { name = source.name; rows = rows } ∷ sources
+with_rows (source ∷ sources) (suc index) rows = source ∷ with_rows sources index rows
 
--- whether it would leave too many rows, or a new one would have too great an id
-abbrev pub is_past : ℕ → ChangeOf → List Datum → Bool
-is_past next_id change rows =
-    nat_lt most_rows (count_staying no_values change.remove rows + length change.insert)
-    || nat_lt (greatest_id + 1) (next_id + length change.insert)
+-- the same of sources as they are read
+abbrev pub data_at : List Dataset → ℕ → List Datum
+data_at [] index = []
+data_at (source ∷ sources) zero = source.rows
+data_at (source ∷ sources) (suc index) = data_at sources index
 
--- what is replied where these rows are left
-abbrev pub reply_to_data : BarSpec → Option (List Datum) → Reply
-reply_to_data g None = Refused cause.Overflow
-reply_to_data g (Some rows) = reply_to_chart (scene_of_rows g.x g.y rows)
+abbrev pub with_data : List Dataset → ℕ → List Datum → List Dataset
+with_data [] index rows = []
+with_data (source ∷ sources) zero rows = record { name = source.name; rows = rows } ∷ sources
+with_data (source ∷ sources) (suc index) rows = source ∷ with_data sources index rows
 
--- what is replied to a change of these rows that names what is there and whose rows can be read
-abbrev pub reply_over : BarSpec → ℕ → ChangeOf → List Datum → Reply
-reply_over g next_id change rows =
-    if is_past next_id change rows then Refused cause.Limit else reply_to_data g (rows_changed next_id change rows)
+-- a state without selections
+abbrev pub state_in : ℕ → List (List ℕ × Cell) → List Dataset → State
+state_in next_id params sources = record { next_id = next_id; sources = sources; params = params; stores = [] }
 
--- the same of a state
-abbrev pub reply_within : BarSpec → State → ChangeOf → Reply
-reply_within g st change =
-    if is_past_limit no_values st g.source change then Refused cause.Limit
-    else reply_to_state (vega_semantics g) (state_changed no_values st g.source change)
+-- how many rows sources have
+abbrev pub count_in : List Dataset → ℕ
+count_in sources = length (flat_map (λ (source : Dataset). source.rows) sources)
 
--- after Done rows are as they were changed, else as they were
-abbrev pub rows_if : Reply → List Keyed → List Keyed → List Keyed
-rows_if Done old new = new
-rows_if (Refused cause) old new = old
+-- no two of these are the same
+abbrev pub AreApart : List (List ℕ) → Type 0
+AreApart names = AllPairs (λ a b. a ≢ b) names
+
+module _ (next_id : ℕ) (params : List (List ℕ × Cell)) (sources : List Dataset) (index : ℕ) (change : ChangeOf) where
+  -- the rows of a source after a change; None where an expression is out of range
+  abbrev pub rows_changed : Option (List Datum)
+  rows_changed =
+      option_map (λ left. left ++ map datum_of (new_rows next_id change.insert))
+      (rows_after (values_with params []) change (data_at sources index))
+
+  -- the sources after it
+  abbrev pub sources_changed : Option (List Dataset)
+  sources_changed = option_map (with_data sources index) rows_changed
+
+  -- how many rows would stay in all sources
+  abbrev pub staying_in_all : ℕ
+  staying_in_all = (count_in sources - length (data_at sources index)) + count_staying (values_with params []) change.remove
+      (data_at sources index)
+
+  -- whether it would leave too many rows, or a new one would have too great an id
+  abbrev pub is_past : Bool
+  is_past = nat_lt most_rows (staying_in_all + length change.insert) || nat_lt (greatest_id + 1) (next_id + length change.insert)
+
+-- what is replied where these sources are left
+abbrev pub reply_to_sources : VgSpec → List (List ℕ × Cell) → Option (List Dataset) → Reply
+reply_to_sources g params None = Refused cause.Overflow
+reply_to_sources g params (Some sources) = reply_to_chart (in_reach (plot_over g sources params))
+
+-- what is replied to a change of the source at an index that names what is there and whose rows can be read
+abbrev pub reply_at : VgSpec → ℕ → List (List ℕ × Cell) → List Dataset → ℕ → ChangeOf → Reply
+reply_at g next_id params sources index change =
+    if is_past next_id params sources index change then Refused cause.Limit
+    else reply_to_sources g params (sources_changed next_id params sources index change)
+
+-- the state after it
+abbrev pub state_at : State → ℕ → ChangeOf → Option State
+state_at st index change =
+    option_map (λ sources. record {
+      next_id = st.next_id + length change.insert;
+      sources = sources;
+      params = st.params;
+      stores =
+          st.stores;
+    })
+    (sources_changed st.next_id st.params st.sources index change)
+
+-- after Done sources are as they were changed, else as they were
+abbrev pub sources_if : Reply → List Named → List Named → List Named
+sources_if Done old new = new
+sources_if (Refused cause) old new = old
 
 -- after Done they read as the changed ones, else they are as they were
-abbrev pub IsLeft : Reply → Option (List Datum) → List Keyed → List Keyed → Type 0
-IsLeft Done changed old new = changed ≡ Some (map datum_of new)
+abbrev pub IsLeft : Reply → Option (List Dataset) → List Named → List Named → Type 0
+IsLeft Done changed old new = changed ≡ Some (map dataset_of new)
 IsLeft (Refused cause) changed old new = new ≡ old
 
--- after Done a scene is that of these rows, else it is as it was
-abbrev pub IsShown : Reply → BarSpec → List Keyed → Scene → Scene → Type 0
-IsShown Done g rows old new = scene_of_rows g.x g.y (map datum_of rows) ≡ Drawn new
-IsShown (Refused cause) g rows old new = new ≡ old
+-- after Done a scene is that of these sources, else it is as it was
+abbrev pub IsShown : Reply → VgSpec → List (List ℕ × Cell) → List Named → Scene → Scene → Type 0
+IsShown Done g params sources old new = plot_over g (map dataset_of sources) params ≡ Some new
+IsShown (Refused cause) g params sources old new = new ≡ old

@@ -10,7 +10,7 @@ use std::alloc::Global;
 use std::test::Fail;
 
 // The picture of three bars.
-const PICTURE: &str =
+pub(super) const PICTURE: &str =
     "<svg xmlns=\"http://www.w3.org/2000/svg\" version=\"1.1\" width=\"70\" height=\"210\" viewBox=\"0 0 70 210\">
 <g transform=\"translate(5,5)\">
 <rect x=\"1\" y=\"98.181818\" width=\"18\" height=\"101.818182\" fill=\"#4c78a8\"/>

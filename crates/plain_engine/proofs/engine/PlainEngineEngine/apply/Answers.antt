@@ -1,8 +1,8 @@
-use Rattle.std.proofs.Common.{◌≡◌, subst, IfOk}
+use Rattle.std.proofs.Common.{◌≡◌, ap, subst, ◌∙◌, IfOk}
 use Rattle.cell_value.specs.State.{State, state_of}
 use Rattle.vega_meaning.specs.Semantics.{vega_semantics}
 use Rattle.play_script.specs.Meaning.{Meaning}
-use Rattle.plain_engine.proofs.Replies.{asked, done}
+use Rattle.plain_engine.proofs.Replies.{asked, done, asked_set, done_set}
 use Rattle.plain_engine.proofs.engine.PlainEngineEngine.apply.Goals as goal
 
 pub returns-in-Change-clause-reply : goal.returns-in-Change-clause-reply
@@ -17,3 +17,15 @@ returns-in-Change-clause-done g c =
     done (vega_semantics c.args.self.now.spec) (state_of c.args.self.now.state) c.args.c.now c.in-Change.source c.in-Change.change _
     c.in-Change.is c.as_str.ensures
     meant _ c.change.result c.change.ensures.reply c.change.ensures.done
+
+pub returns-in-Set-clause-reply : goal.returns-in-Set-clause-reply
+returns-in-Set-clause-reply g c =
+    c.set.ensures.reply
+    ∙ asked_set (vega_semantics c.args.self.now.spec) (state_of c.args.self.now.state) c.args.c.now c.in-Set.name c.in-Set.value _
+    c.in-Set.is c.as_str-in-Set.ensures
+
+pub returns-in-Set-clause-done : goal.returns-in-Set-clause-done
+returns-in-Set-clause-done g c =
+    let meant : State → Meaning = λ st. record { spec = c.args.self.now.spec; state = st } in
+    ap meant (done_set (vega_semantics c.args.self.now.spec) (state_of c.args.self.now.state) c.args.c.now c.in-Set.name c.in-Set.value _
+    c.in-Set.is c.as_str-in-Set.ensures c.set.result c.set.ensures.reply c.set.ensures.stays)

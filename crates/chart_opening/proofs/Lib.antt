@@ -1,0 +1,11 @@
+pub mod FileLemmas
+pub mod FolderLemmas
+pub mod JsonLemmas
+pub mod FormOpenings
+pub mod Fronts
+pub mod NameLemmas
+pub mod OpeningLemmas
+pub mod PlotOpenings
+pub mod SchemaLemmas
+pub mod StateLemmas
+pub mod ReadyLemmas

@@ -1,0 +1,12 @@
+pub mod Answers
+pub mod Ready
+pub mod Texts
+pub mod Files
+pub mod Schemas
+pub mod Sources
+pub mod Opening
+pub mod Specs
+pub mod Charts
+pub mod Compiled
+pub mod Laws
+pub mod inner

@@ -1,0 +1,57 @@
+-- Which Vega specification a file says, and with which state it opens.
+use Rattle.std.specs.Prelude.{ℕ, Option, Some, None, List, [], Result, Ok, Err, if◌then◌else◌}
+use Rattle.fixed_num.specs.Steps.{◌>>=◌}
+use Rattle.json_exact.specs.declared.json.Json.{Json}
+use Rattle.json_exact.specs.declared.spec_error.SpecKind.TheVariants.{Unsupported}
+use Rattle.chart_io.specs.Outside.{Files}
+use Rattle.vega_spec.specs.declared.spec.VgSpec.{VgSpec}
+use Rattle.vega_model.specs.Reading.{Refused, read_of}
+use Rattle.vega_plots.specs.Tested.{is_plot}
+use Rattle.first_form.specs.declared.form.FirstForm.{FirstForm}
+use Rattle.first_form.specs.FirstForm.{form_of}
+use Rattle.first_form.specs.Opening.{bars_of}
+use Rattle.chart_opening.specs.declared.refusal.Refusal.{Refusal}
+use Rattle.chart_opening.specs.declared.refusal.Refusal.TheVariants as refusal
+use Rattle.chart_opening.specs.declared.opened.Opened.{Opened}
+use Rattle.chart_opening.specs.Texts.{Reading}
+use Rattle.chart_opening.specs.Schemas.{is_vega}
+use Rattle.chart_opening.specs.Files.{tree_of_file}
+use Rattle.chart_opening.specs.Opening.{opening_by}
+
+-- what is no specification that is drawn yet is refused so
+abbrev pub not_drawn_yet : Refusal
+not_drawn_yet = refusal.Spec Unsupported []
+
+-- a specification that breaks no rule, where it is one that is drawn yet
+abbrev pub if_drawn : VgSpec → Result VgSpec Refusal
+if_drawn g = if is_plot g then Ok g else Err not_drawn_yet
+
+-- the Vega specification that a tree says, or its first fault
+abbrev pub vega_read : Result VgSpec Refused → Result VgSpec Refusal
+vega_read (Ok g) = if_drawn g
+vega_read (Err fault) = Err (refusal.Spec fault.1 fault.0)
+
+-- the Vega specification of a chart of the first form
+abbrev pub form_read : Option FirstForm → Result VgSpec Refusal
+form_read (Some form) = Ok (bars_of form)
+form_read None = Err not_drawn_yet
+
+-- the Vega specification of a tree: its own where it says that it is one, else that of a chart of the first form
+abbrev pub spec_of : Json → Result VgSpec Refusal
+spec_of tree = if is_vega tree then vega_read (read_of tree) else form_read (form_of tree)
+
+-- a specification with its opening state
+abbrev pub opened_with : Reading → Files → VgSpec → Result Opened Refusal
+opened_with reading files g = opening_by reading files g >>= λ state. Ok (record { spec = g; state = state })
+
+-- the specification that a tree says, with its opening state
+abbrev pub opened_tree : Reading → Files → Json → Result Opened Refusal
+opened_tree reading files tree = do
+  g ← spec_of tree
+  opened_with reading files g
+
+-- the specification in a file with its opening state, or why it isn't opened
+abbrev pub opened_by : Reading → Files → List ℕ → Result Opened Refusal
+opened_by reading files name = do
+  tree ← tree_of_file reading files name
+  opened_tree reading files tree

@@ -1,0 +1,27 @@
+//! What holds of readings and of opening states.
+ghost use Rattle.chart_opening.specs.Laws.{JsonIsRead, ReadingsAgree, OpeningsAreStates, FormsOpen, OpenedArePlots};
+
+/// There is a right reading of JSON.
+pub fn json_is_read()
+    ensures { JsonIsRead }
+{}
+
+/// There is only one.
+pub fn readings_agree()
+    ensures { ReadingsAgree }
+{}
+
+/// An opening state is one of its specification.
+pub fn openings_are_states()
+    ensures { OpeningsAreStates }
+{}
+
+/// A chart of the first form that can be drawn opens with its opening state, whatever the files.
+pub fn forms_open()
+    ensures { FormsOpen }
+{}
+
+/// What is opened of a file is a plot that is drawn yet.
+pub fn opened_are_plots()
+    ensures { OpenedArePlots }
+{}

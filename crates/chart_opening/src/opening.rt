@@ -1,0 +1,69 @@
+//! Opening a specification.
+ghost use Rattle.std.specs.Prelude.{◌≡◌, length, map, IfOk};
+ghost use Rattle.cell_value.specs.State.{state_of};
+ghost use Rattle.vega_meaning.specs.States.{IsStateOf};
+ghost use Rattle.chart_opening.specs.Sources.{source_sets};
+ghost use Rattle.chart_opening.specs.Opening.{state_within, state_given, opening_by};
+ghost use Rattle.chart_opening.specs.inner.Folders.{IsRead};
+ghost use Rattle.chart_opening.specs.inner.Reading.{the_reading};
+ghost use Rattle.chart_opening.specs.inner.Stops.{Gives};
+
+use crate::refusal::{OpenStop, Refusal, Stop};
+use crate::rows::{all_rows, count_rows};
+use crate::sources::{Given, all_given, source_sets};
+use crate::states::state_with;
+use cell_value::{ChartState, Row};
+use chart_io::Folder;
+use std::alloc::Global;
+use text_kit::Seq;
+use vega_spec::{DataSet, VgSpec};
+
+// The state of a specification whose sources have these rows, unless there are more than a chart may have.
+fn state_within(
+    alloc: Global,
+    g: &VgSpec,
+    sets: &[&DataSet],
+    rows: Seq<Seq<Row>>,
+) -> Result<ChartState, Stop>
+    requires sets { map (λ s. s.now) sets.now ≡ source_sets g.now }
+    requires number { length rows ≡ length sets.now }
+    ensures { Gives result (state_within g.now rows) }
+{
+    match count_rows(rows.as_slice()) {
+        Some(count) => Ok(state_with(alloc, g, sets, rows, count)?),
+        None => Err(Stop::Refused(Refusal::Rows)),
+    }
+}
+
+// The state of a specification for whose sources this is given.
+fn state_given(
+    alloc: Global,
+    g: &VgSpec,
+    sets: &[&DataSet],
+    given: &[Given],
+) -> Result<ChartState, Stop>
+    requires sets { map (λ s. s.now) sets.now ≡ source_sets g.now }
+    requires number { length sets.now ≡ length given.now }
+    ensures { Gives result (state_given g.now given.now) }
+{
+    match all_rows(alloc, sets, given) {
+        Ok(rows) => state_within(alloc, g, sets, rows),
+        Err(why) => Err(why),
+    }
+}
+
+/// The state in which a specification opens, whose files of data are read through the folder, or the first cause for which they are
+/// refused: of all files first, in the order of the sources, then of their rows, then of the rows' count.
+pub fn opening<F: Folder>(alloc: Global, folder: &mut F, g: &VgSpec) -> Result<ChartState, OpenStop>
+    ensures read { IsRead (F.faults folder.old) (F.faults folder.new) (F.files folder.old) (F.files folder.new) result
+        (λ files. opening_by the_reading files g.now) }
+    ensures state { IfOk result (λ state. IsStateOf g.now (state_of state)) }
+{
+    let all = source_sets(alloc, g)?;
+    let sets = all.as_slice();
+    let given = match all_given(alloc, folder, sets) {
+        Ok(given) => given,
+        Err(why) => return Err(why),
+    };
+    Ok(state_given(alloc, g, sets, given.as_slice())?)
+}

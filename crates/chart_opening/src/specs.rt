@@ -1,0 +1,88 @@
+//! Which Vega specification a tree says.
+ghost use Rattle.std.specs.Prelude.{◌≡◌, Err, codes};
+ghost use Rattle.json_exact.specs.declared.spec_error.SpecKind.TheVariants.{Wrong};
+ghost use Rattle.vega_model.specs.Reading.{read_of};
+ghost use Rattle.first_form.specs.FirstForm.{form_of};
+ghost use Rattle.chart_opening.specs.Compiled.{compiled_of};
+ghost use Rattle.chart_opening.specs.Specs.{not_drawn_yet, if_drawn, vega_read, form_read, spec_of};
+ghost use Rattle.chart_opening.specs.declared.refusal.Refusal.TheVariants.{Spec};
+ghost use Rattle.chart_opening.specs.declared.refusal.Stop.TheVariants.{Refused};
+ghost use Rattle.chart_opening.specs.inner.Stops.{Gives};
+
+use crate::refusal::{Refusal, Stop};
+use crate::schemas::is_vega;
+use first_form::{bars_of, first_form};
+use json_exact::{Json, SpecError, SpecKind};
+use std::alloc::Global;
+use text_kit::Text;
+use vega_plots::is_plot;
+use vega_spec::VgSpec;
+
+// Why what is no specification that is drawn yet is refused.
+fn not_drawn_yet(alloc: Global) -> Stop
+    ensures { result ≡ Refused not_drawn_yet }
+{
+    Stop::Refused(Refusal::Spec(SpecKind::Unsupported, Text::new(alloc)))
+}
+
+// A specification that breaks no rule, where it is one that is drawn yet.
+fn if_drawn(alloc: Global, g: VgSpec) -> Result<VgSpec, Stop>
+    ensures { Gives result (if_drawn g) }
+{
+    if is_plot(alloc, &g)? {
+        Ok(g)
+    } else {
+        Err(not_drawn_yet(alloc))
+    }
+}
+
+// The Vega specification that a tree says, or its first fault.
+fn vega_read(alloc: Global, tree: &Json) -> Result<VgSpec, Stop>
+    ensures { Gives result (vega_read (read_of tree.now)) }
+{
+    match vega_model::read(alloc, tree) {
+        Ok(g) => if_drawn(alloc, g),
+        Err(SpecError::Fault { path, kind }) => Err(Stop::Refused(Refusal::Spec(kind, path))),
+        Err(SpecError::Memory) => Err(Stop::Memory),
+    }
+}
+
+// The Vega specification of the chart of the first form that a tree says.
+fn form_read(alloc: Global, tree: &Json) -> Result<VgSpec, Stop>
+    ensures { Gives result (form_read (form_of tree.now)) }
+{
+    match first_form(alloc, tree)? {
+        Some(form) => Ok(bars_of(alloc, &form)?),
+        None => Err(not_drawn_yet(alloc)),
+    }
+}
+
+/// The Vega specification of a tree: its own where it says that it is one, else that of a chart of the first form.
+pub fn spec_of(alloc: Global, tree: &Json) -> Result<VgSpec, Stop>
+    ensures { Gives result (spec_of tree.now) }
+{
+    if is_vega(tree) {
+        vega_read(alloc, tree)
+    } else {
+        form_read(alloc, tree)
+    }
+}
+
+// Why a Vega specification isn't compiled.
+fn not_compiled(alloc: Global) -> Result<VgSpec, Stop>
+    ensures { Gives result (Err (Spec Wrong (codes "/$schema"))) }
+{
+    let path = Text::of(alloc, "/$schema")?;
+    Err(Stop::Refused(Refusal::Spec(SpecKind::Wrong, path)))
+}
+
+/// The Vega specification to which a tree is compiled. A Vega specification isn't compiled, whatever else it holds.
+pub fn compiled_of(alloc: Global, tree: &Json) -> Result<VgSpec, Stop>
+    ensures { Gives result (compiled_of tree.now) }
+{
+    if is_vega(tree) {
+        not_compiled(alloc)
+    } else {
+        form_read(alloc, tree)
+    }
+}

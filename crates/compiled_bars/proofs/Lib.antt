@@ -1,0 +1,14 @@
+pub mod Tree
+pub mod Members
+pub mod Parts
+pub mod Rules
+pub mod Width
+pub mod Written
+pub mod Codes
+pub mod Whole
+pub mod Spelled
+pub mod SpelledBars
+pub mod Depths
+pub mod Lines
+pub mod Examples
+pub mod ReadTexts

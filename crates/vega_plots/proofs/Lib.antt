@@ -1,0 +1,5 @@
+mod PlotLemmas
+mod FoldLemmas
+mod FitLaw
+pub mod PlotLaw
+mod NewNames

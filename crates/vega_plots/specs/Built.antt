@@ -1,0 +1,54 @@
+-- Which specifications have a meaning so far: one plot without guides, signals and groups.
+use Rattle.std.specs.Prelude.{◌≢◌, ◌&&◌, Bool, true, false, IsTrue, Option, Some, None, List, [], ◌∷◌, ◌≤ℤ◌, ◌*◌, pos, is_none, unwrap_or}
+use Rattle.std.specs.List.{All, AllPairs, list_all}
+use Rattle.fixed_num.specs.Number.{million}
+use Rattle.vega_spec.specs.declared.scales.Scale.{Scale as VegaScale}
+use Rattle.vega_spec.specs.declared.spec.Group.{Group, Group-F, out-Group}
+use Rattle.vega_spec.specs.declared.spec.Size.{Size}
+use Rattle.vega_spec.specs.declared.spec.Size.TheVariants as size
+use Rattle.vega_spec.specs.declared.spec.VgMark.{VgMark}
+use Rattle.vega_spec.specs.declared.spec.VgSpec.{VgSpec}
+use Rattle.vega_spec.specs.Names.{sources_of}
+use Rattle.vega_lists.specs.Transforms.{OfTransforms, has_names}
+use Rattle.vega_lists.specs.Transforms as transforms
+use Rattle.vega_lists.specs.Products.{no_folds, FoldsFit}
+use Rattle.scale_kit.specs.Scale.{IsPixel}
+use Rattle.vega_scales.specs.Scales.{KeepsBounds}
+use Rattle.vega_scales.specs.Scales as scaling
+use Rattle.mark_encode.specs.Items as items
+use Rattle.vega_plots.specs.Plots.{data_of, scales_in, marks_in}
+
+-- whether a list that may be absent has nothing
+abbrev pub is_empty : {X : Type 0} → Option (List X) → Bool
+is_empty None = true
+is_empty (Some []) = true
+is_empty (Some (x ∷ xs)) = false
+
+-- an object without signals, layout, guides and title
+abbrev pub is_bare : Group-F Group VgMark → Bool
+is_bare g = is_empty g.signals && is_none g.layout && is_empty g.axes && is_empty g.legends && is_none g.title
+
+-- a written size is one that specifications may have
+abbrev pub IsSizeKept : Option Size → Type 0
+IsSizeKept None = Unit {0}
+IsSizeKept (Some (size.Number n)) = IsPixel n
+IsSizeKept (Some (size.Signal e)) = Unit {0}
+
+-- What has a meaning: a bare object whose transforms, scales and marks have one.
+pub record IsBuilt (g : VgSpec) : Type 0 where
+  pub bare : IsTrue (is_bare (out-Group g.group))
+  pub sets : All (OfTransforms transforms.is_built) (data_of (out-Group g.group))
+  pub scales : All (λ s. IsTrue (scaling.is_built s)) (scales_in (out-Group g.group))
+  pub domains : All (λ (s : VegaScale). IsTrue (scaling.is_domain_built s.domain)) (scales_in (out-Group g.group))
+  pub marks : All (λ m. IsTrue (items.is_built m)) (marks_in (out-Group g.group))
+
+-- what a specification that breaks no rule keeps, as far as a plot needs it
+pub record KeepsRules (g : VgSpec) : Type 0 where
+  pub names : All (OfTransforms has_names) (data_of (out-Group g.group))
+  pub folds : FoldsFit no_folds (data_of (out-Group g.group))
+  pub bounds : All KeepsBounds (scales_in (out-Group g.group))
+  pub width : IsSizeKept g.width
+  pub height : IsSizeKept g.height
+  pub padding_low : pos 0 ≤ℤ unwrap_or g.padding (pos 0)
+  pub padding_high : unwrap_or g.padding (pos 0) ≤ℤ pos (1000 * million)
+  pub apart : AllPairs (λ a b. a ≢ b) (sources_of g)
