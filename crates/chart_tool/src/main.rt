@@ -2,14 +2,7 @@
 //! and prints, and `compile SPEC` writes the text of its Vega specification.
 #![tactic(auto)]
 
-mod compile;
-mod laws;
-mod opened;
-mod play;
-mod render;
-mod stop;
 mod tool;
-mod words;
 
 use chart_io::{DirFolder, StreamSink, StreamSource};
 use std::io::ErrorKind;

@@ -5,21 +5,15 @@ ghost use Rattle.chart_io.specs.Outside.{Rose, Kept};
 ghost use Rattle.play_script.specs.Played.{HasTaken, IsPastSize};
 ghost use Rattle.chart_opening.specs.declared.refusal.Refusal.{Refusal as Cause};
 ghost use Rattle.chart_opening.specs.Texts.{Reading, ReadsJson};
-ghost use Rattle.chart_opening.specs.inner.Reading.{the_reading};
-ghost use Rattle.chart_tool.specs.Words.{asked_in};
-ghost use Rattle.chart_tool.specs.Refusals.{refusal_status, refusal_text, IsRefused};
-ghost use Rattle.chart_tool.specs.Wanted.{IsAccepted, IsAnswered, MayFail, script_for};
-ghost use Rattle.chart_tool.specs.Ends.{End, Refused, NoMemory, end_status, end_note, IsEnd, IsNoted, Told, AsksScript};
-ghost use Rattle.chart_tool.specs.inner.Stops.{end_of, stop_end, IsTold};
-ghost use Rattle.chart_tool.specs.inner.Runs.{IsTexted};
+ghost use Rattle.chart_run.specs.Words.{asked_in};
+ghost use Rattle.chart_run.specs.Refusals.{refusal_status, refusal_text, IsRefused};
+ghost use Rattle.chart_run.specs.Wanted.{IsAccepted, IsAnswered, MayFail, script_for};
+ghost use Rattle.chart_run.specs.Ends.{End, Refused, NoMemory, end_status, end_note, IsEnd, IsNoted, Told, AsksScript};
+ghost use Rattle.chart_run.specs.inner.Stops.{IsTold};
 
-use crate::compile::compile;
-use crate::play::play;
-use crate::render::render;
-use crate::stop::{Stop, refusal_line, refusal_status};
-use crate::words::{Asked, asked_of};
 use chart_io::{Folder, Sink, Source, write_all};
 use chart_opening::Refusal;
+use chart_run::{Stop, refusal_line, refusal_status, run};
 use std::alloc::Global;
 use text_kit::OutOfMemory;
 
@@ -59,43 +53,6 @@ fn ended<N: Sink>(alloc: Global, done: Result<(), Stop>, notes: &mut N) -> u8
         Err(Stop::Write) => noted(8, b"chart: write\n", notes),
         Err(Stop::Memory) => noted(9, b"chart: memory\n", notes),
         Err(Stop::ScriptSize) => noted(10, b"chart: size script\n", notes),
-    }
-}
-
-// Does what the words ask.
-fn run<F: Folder, S: Source, K: Sink, N: Sink>(
-    alloc: Global,
-    words: &Vec<String>,
-    folder: &mut F,
-    script: &mut S,
-    out: &mut K,
-    notes: &mut N,
-) -> Result<(), Stop>
-    ensures folder_counted { F.faults folder.old ≤ F.faults folder.new }
-    ensures script_counted { S.faults script.old ≤ S.faults script.new }
-    ensures out_counted { K.faults out.old ≤ K.faults out.new }
-    ensures notes { notes.new ≡ notes.old }
-    ensures stays { Kept (F.files folder.old) (F.files folder.new) }
-    ensures words { (result ≡ Err Stop.Words) ↔ (asked_in words.now.items ≡ None) }
-    ensures ends { IsEnd the_reading (asked_in words.now.items) (F.files folder.old) (S.left script.old) (S.left script.new)
-        (script.new ≡ script.old)
-        (Kept (K.held out.old) (K.held out.new)) (Rose (F.faults folder.old) (F.faults folder.new))
-        (Rose (S.faults script.old) (S.faults script.new))
-        (Rose (K.faults out.old) (K.faults out.new)) (end_of (result_err result)) }
-    ensures text { Told (asked_in words.now.items) (F.files folder.old) (λ ask files. IfSome (script_for ask (S.left script.old))
-        (λ script. IsAccepted the_reading ask files → IsTexted ask files script result (K.held out.old) (K.held out.new))) }
-    ensures nothing { Told (asked_in words.now.items) (F.files folder.old) (λ ask files. (IsAccepted the_reading ask files → ⊥)
-        → Kept (K.held out.old) (K.held out.new) × (script.new ≡ script.old)) }
-    ensures script_size { IfSome (S.left script.old) (λ bytes. (result ≡ Err Stop.ScriptSize) ↔ IsPastSize bytes (S.left script.new)) }
-    ensures taken { (taken : List ℕ) × HasTaken (S.left script.old) (S.left script.new) taken }
-    ensures script { (AsksScript (asked_in words.now.items) → ⊥) → script.new ≡ script.old }
-    ensures folder { asked_in words.now.items ≡ None → folder.new ≡ folder.old }
-{
-    match asked_of(words) {
-        Some(Asked::Render(name)) => render(alloc, name, folder, out),
-        Some(Asked::Play(name)) => play(alloc, name, folder, script, out, notes),
-        Some(Asked::Compile(name)) => compile(alloc, name, folder, out),
-        None => Err(Stop::Words),
     }
 }
 

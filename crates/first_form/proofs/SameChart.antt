@@ -297,8 +297,12 @@ abbrev plot_in : VgSpec → List Dataset → Group-F Group VgMark → Option Sce
 plot_in g sources top = lists_of no_params sources no_lists (data_of top) >>= scene_in g top
 
 module _ (form : FirstForm) where
+  -- the cells of the one reference of a domain
+  abbrev cells_under : List ℕ → List Datum → List Cell
+  cells_under name rows = column_of name rows ++ []
+
   abbrev cells_along : List Datum → List Cell
-  cells_along rows = ascending cell_cmp (column_of form.x rows)
+  cells_along rows = ascending cell_cmp (cells_under form.x rows)
 
   abbrev lengths : List Datum → List (List ℕ × ℕ)
   lengths rows = (codes "x", length (cells_along rows)) ∷ (codes "y", 2) ∷ []
@@ -343,13 +347,13 @@ module _ (form : FirstForm) where
       ∙ ap rows_scene (the_rows rows)
 
   scales_known : (rows : List Datum) (width : ℤ) (d : ℤ × ℤ)
-      → nice_of 10 (with_zero (extent_of (numbers_among (column_of form.y rows)))) ≡ Some d
+      → nice_of 10 (with_zero (extent_of (numbers_among (cells_under form.y rows)))) ≡ Some d
       → with_width rows width ≡ with_items width (items_over rows (scales_over (cells_along rows) width d))
   scales_known rows width d e =
       ap (λ o. option_map (λ made. record { scales = made }) (all_found (
       Some (record { panel = None; name = codes "x"; scale = Band (cells_along rows) inner_padding outer_padding (pos 0) width })
       ∷ option_map (λ made. record { panel = None; name = codes "y"; scale = made })
-      (option_map (over_numbers (plot_height, pos 0)) o) ∷ []))
+      (option_map (over_numbers (y_scale_of form) (plot_height, pos 0)) o) ∷ []))
       >>= (λ scales. with_items width (items_over rows scales))) e
 
   items_known : (cells : List Cell) (n : ℕ) (few : length cells ≤ 1000) → form.x ≢ form.y → (vs : List (ℕ × Value))
@@ -380,11 +384,13 @@ same_scene form drawable =
     let rs = readings_of form in
     let known = form_scene form drawable in
     let cells = categories_of rs in
-    let along : cells_along form rows ≡ cells = ap (ascending cell_cmp) (categories form.x form.y drawable.apart vs) in
+    let along : cells_along form rows ≡ cells =
+    ap (ascending cell_cmp) (append-nil (column_of form.x rows) ∙ categories form.x form.y drawable.apart vs) in
     let wide : size_of (values_with [] (lengths form rows)) (Some (size.Signal width_expr)) ≡ Some (plot_width (length cells)) =
     width_size (values_with [] (lengths form rows)) (length cells) (ap length along) known.few in
-    let nice : nice_of 10 (with_zero (extent_of (numbers_among (column_of form.y rows)))) ≡ Some (pos 0, pos known.end) =
-    ap (λ ns. nice_of 10 (with_zero (extent_of ns))) (amounts form.x form.y drawable.apart vs) ∙ known.domain in
+    let nice : nice_of 10 (with_zero (extent_of (numbers_among (cells_under form form.y rows)))) ≡ Some (pos 0, pos known.end) =
+    ap (λ ns. nice_of 10 (with_zero (extent_of ns)))
+    (ap numbers_among (append-nil (column_of form.y rows)) ∙ amounts form.x form.y drawable.apart vs) ∙ known.domain in
     ap (λ o. o >>= with_width form rows) wide
     ∙ scales_known form rows (plot_width (length cells)) (pos 0, pos known.end) nice
     ∙ ap (λ c. with_items form (plot_width (length cells))

@@ -1,8 +1,8 @@
-mod NumberLemmas
+pub mod NumberLemmas
 mod SortLemmas
-mod PlaceLemmas
+pub mod PlaceLemmas
 mod MemberLemmas
-mod GroupLemmas
+pub mod GroupLemmas
 mod ReadLemmas
-mod KeyLemmas
+pub mod KeyLemmas
 mod JoinLemmas

@@ -1,5 +1,6 @@
 -- What operations give over the cells of a group.
-use Rattle.std.specs.Prelude.{◌≡◌, refl, ℕ, ◌+◌, ◌-◌, ◌*◌, ◌/◌, ◌%◌, ℤ, pos, ◌+ℤ◌, ◌*ℤ◌, int_le, not, true, Option, Some, None, List, [], ◌∷◌, map, take, length, count_by, filter_map, slice_get, slice_index_or, codes, if◌then◌else◌}
+use Rattle.std.specs.Prelude.{◌≡◌, refl, ℕ, ◌+◌, ◌-◌, ◌*◌, ◌/◌, ◌%◌, ◌^◌, ℤ, pos, ◌+ℤ◌, ◌*ℤ◌, int_le, not, true, Option, Some, None, List}
+use Rattle.std.specs.Prelude.{[], ◌∷◌, map, take, length, count_by, filter_map, slice_get, slice_index_or, codes, if◌then◌else◌}
 use Rattle.std.specs.Option.{option_map, option_map_or}
 use Rattle.fixed_num.specs.Number.{million, rounded, floor_quotient}
 use Rattle.fixed_num.specs.Ranges.{in_range}
@@ -10,6 +11,10 @@ use Rattle.cell_value.specs.Cell.{same_cells}
 use Rattle.expr_eval.specs.Numbers.{the_number, number_or_null}
 use Rattle.expr_eval.specs.Builtins.{least_of, greatest_of}
 use Rattle.plain_groups.specs.Groups.{firsts}
+
+-- how many cells an operation takes
+abbrev pub most_cells : ℕ
+most_cells = 2 ^ 40
 
 -- the numbers among cells, in their order
 abbrev pub numbers_among : List Cell → List ℤ

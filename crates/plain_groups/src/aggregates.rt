@@ -5,9 +5,8 @@ ghost use Rattle.cell_value.specs.declared.cell.Cell.TheVariants.{Null as NullCe
 ghost use Rattle.cell_value.specs.Cell.{same_cells};
 ghost use Rattle.expr_eval.specs.Answers.{Evaluates};
 ghost use Rattle.expr_eval.specs.Numbers.{number_or_null};
-ghost use Rattle.plain_rows.specs.Rows.{most_listed};
 ghost use Rattle.plain_groups.specs.Groups.{firsts};
-ghost use Rattle.plain_groups.specs.Aggregates.{count_cell, sum, sum_of, aggregate_of, of_numbers, mean_of, quartile_of};
+ghost use Rattle.plain_groups.specs.Aggregates.{most_cells, count_cell, sum, sum_of, aggregate_of, of_numbers, mean_of, quartile_of};
 ghost use Rattle.expr_eval.specs.Builtins.{least_of, greatest_of};
 
 use crate::numbers::{greatest_of, least_of, mean_of, numbers_among, quartile_of, sum_of};
@@ -18,9 +17,12 @@ use fixed_num::Num;
 use std::alloc::Global;
 use text_kit::OutOfMemory;
 
+/// How many cells an operation takes. No memory holds more.
+const MOST_CELLS: usize = 1_099_511_627_776;
+
 // How many as a cell.
 fn count_cell(n: usize) -> Cell
-    requires { n ≤ most_listed }
+    requires { n ≤ most_cells }
     ensures { result ≡ count_cell n }
 {
     match Num::of_millionths(n as i128 * 1_000_000) {
@@ -69,7 +71,7 @@ fn different(alloc: Global, cells: &[Cell]) -> Result<usize, OutOfMemory>
 
 // The sum of the numbers as a cell. `Overflow` exactly where it is out of range.
 fn sum_cell(alloc: Global, cells: &[Cell]) -> Result<Cell, EvalError>
-    requires { length cells.now ≤ most_listed }
+    requires { length cells.now ≤ most_cells }
     ensures { Evaluates result (sum cells.now) }
 {
     let numbers = numbers_among(alloc, cells)?;
@@ -91,7 +93,7 @@ fn number_or_null(found: Option<Num>) -> Cell
 
 // The mean of the numbers as a cell.
 fn mean(alloc: Global, cells: &[Cell]) -> Result<Cell, EvalError>
-    requires { length cells.now ≤ most_listed }
+    requires { length cells.now ≤ most_cells }
     ensures { Evaluates result (of_numbers mean_of cells.now) }
 {
     Ok(number_or_null(mean_of(&numbers_among(alloc, cells)?)))
@@ -99,7 +101,7 @@ fn mean(alloc: Global, cells: &[Cell]) -> Result<Cell, EvalError>
 
 // The least number as a cell.
 fn min(alloc: Global, cells: &[Cell]) -> Result<Cell, EvalError>
-    requires { length cells.now ≤ most_listed }
+    requires { length cells.now ≤ most_cells }
     ensures { Evaluates result (of_numbers least_of cells.now) }
 {
     Ok(number_or_null(least_of(&numbers_among(alloc, cells)?)))
@@ -107,7 +109,7 @@ fn min(alloc: Global, cells: &[Cell]) -> Result<Cell, EvalError>
 
 // The greatest number as a cell.
 fn max(alloc: Global, cells: &[Cell]) -> Result<Cell, EvalError>
-    requires { length cells.now ≤ most_listed }
+    requires { length cells.now ≤ most_cells }
     ensures { Evaluates result (of_numbers greatest_of cells.now) }
 {
     Ok(number_or_null(greatest_of(&numbers_among(alloc, cells)?)))
@@ -115,18 +117,18 @@ fn max(alloc: Global, cells: &[Cell]) -> Result<Cell, EvalError>
 
 // The number at so many quarters of the way from the least to the greatest number as a cell.
 fn quartile(alloc: Global, cells: &[Cell], quarters: usize) -> Result<Cell, EvalError>
-    requires few { length cells.now ≤ most_listed }
+    requires few { length cells.now ≤ most_cells }
     requires within { quarters ≤ 4 }
     ensures { Evaluates result (of_numbers (quartile_of quarters) cells.now) }
 {
     Ok(number_or_null(quartile_of(quarters, numbers_among(alloc, cells)?)))
 }
 
-/// What the operation of a code gives over at most 1,600,000 cells; null where the code is of no aggregate. `Overflow` comes
-/// exactly where a sum is out of range.
+/// What the operation of a code gives over at most 2^40 cells; null where the code is of no aggregate. `Overflow` comes exactly
+/// where a sum is out of range.
 #[tactic(auto, unfolding(crate::specs::Aggregates::aggregates))]
 pub(crate) fn aggregate_of(alloc: Global, op: u16, cells: &[Cell]) -> Result<Cell, EvalError>
-    requires { length cells.now ≤ most_listed }
+    requires { length cells.now ≤ most_cells }
     ensures { Evaluates result (aggregate_of op cells.now) }
 {
     match op {
@@ -143,4 +145,15 @@ pub(crate) fn aggregate_of(alloc: Global, op: u16, cells: &[Cell]) -> Result<Cel
         11 => quartile(alloc, cells, 3),
         _ => Ok(Cell::Null),
     }
+}
+
+/// What the operation of a code among `case_table::OPERATIONS` gives over cells; null where the code is of no aggregate. `Overflow`
+/// comes exactly where a sum is out of range.
+pub fn aggregate_cells(alloc: Global, op: u16, cells: &[Cell]) -> Result<Cell, EvalError>
+    ensures { Evaluates result (aggregate_of op cells.now) }
+{
+    if cells.len() > MOST_CELLS {
+        return Err(EvalError::Memory);
+    }
+    aggregate_of(alloc, op, cells)
 }

@@ -7,5 +7,7 @@ mod joins;
 mod numbers;
 mod places;
 
+pub use aggregates::aggregate_cells;
 pub use group_rows::aggregate;
 pub use joins::join_aggregate;
+pub use places::{empty_lists, leaders};

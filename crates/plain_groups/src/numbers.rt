@@ -4,8 +4,7 @@ ghost use Rattle.fixed_num.specs.Number.{limit, IsNumber, rounded};
 ghost use Rattle.std.specs.Int.{int_min, int_max};
 ghost use Rattle.expr_eval.specs.Numbers.{the_number};
 ghost use Rattle.expr_eval.specs.Builtins.{least_of, greatest_of};
-ghost use Rattle.plain_rows.specs.Rows.{most_listed};
-ghost use Rattle.plain_groups.specs.Aggregates.{numbers_among, sum_of, mean_of, sorted, at_quarters, quartile_of};
+ghost use Rattle.plain_groups.specs.Aggregates.{most_cells, numbers_among, sum_of, mean_of, sorted, at_quarters, quartile_of};
 
 use cell_value::Cell;
 use fixed_num::Num;
@@ -36,9 +35,9 @@ pub(crate) fn numbers_among(alloc: Global, cells: &[Cell]) -> Result<Vec<Num>, O
     Ok(numbers)
 }
 
-/// The sum of at most 1,600,000 numbers, which is exact.
+/// The sum of at most 2^40 numbers, which is exact.
 pub(crate) fn sum_of(numbers: &[Num]) -> i128
-    requires { length numbers.now ≤ most_listed }
+    requires { length numbers.now ≤ most_cells }
     ensures value { result ≡ sum_of numbers.now }
     ensures bound { unsigned_abs result ≤ length numbers.now * limit }
 {
@@ -51,18 +50,18 @@ pub(crate) fn sum_of(numbers: &[Num]) -> i128
 
 // `p` by `q`, rounded to the nearest, the middle going upward.
 fn rounded(p: i128, q: u64) -> i128
-    requires p_in_reach { unsigned_abs p ≤ most_listed * limit }
+    requires p_in_reach { unsigned_abs p ≤ most_cells * limit }
     requires q_above_zero { 0 < q }
-    requires q_in_reach { q ≤ most_listed }
+    requires q_in_reach { q ≤ most_cells }
     ensures value { result ≡ rounded p q }
     ensures bound { unsigned_abs p ≤ q * limit → IsNumber result }
 {
     (2 * p + i128::from(q)).div_euclid(2 * i128::from(q))
 }
 
-/// The mean of at most 1,600,000 numbers; None exactly where there is none.
+/// The mean of at most 2^40 numbers; None exactly where there is none.
 pub(crate) fn mean_of(numbers: &[Num]) -> Option<Num>
-    requires { length numbers.now ≤ most_listed }
+    requires { length numbers.now ≤ most_cells }
     ensures { result ≡ mean_of numbers.now }
 {
     if numbers.is_empty() {
@@ -160,10 +159,10 @@ fn at_quarters(numbers: &[Num], quarters: usize) -> Option<Num>
     Num::of_millionths(rounded(four_times_between(low, high, quarters % 4), 4))
 }
 
-/// The number at so many quarters of the way from the least to the greatest of at most 1,600,000 numbers; None exactly where
+/// The number at so many quarters of the way from the least to the greatest of at most 2^40 numbers; None exactly where
 /// there is none.
 pub(crate) fn quartile_of(quarters: usize, numbers: Vec<Num>) -> Option<Num>
-    requires few { length numbers.items ≤ most_listed }
+    requires few { length numbers.items ≤ most_cells }
     requires within { quarters ≤ 4 }
     ensures { result ≡ quartile_of quarters numbers.items }
 {

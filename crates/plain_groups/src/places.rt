@@ -68,11 +68,7 @@ fn key_cells(alloc: Global, row: &Keyed, fields: &[Text]) -> Result<Vec<Cell>, O
 }
 
 /// For each row the place of the first row with its cells in the fields.
-pub(crate) fn leaders(
-    alloc: Global,
-    rows: &[Keyed],
-    fields: &[Text],
-) -> Result<Seq<usize>, OutOfMemory>
+pub fn leaders(alloc: Global, rows: &[Keyed], fields: &[Text]) -> Result<Seq<usize>, OutOfMemory>
     requires { AreRows rows.now }
     ensures value { IfOk result (λ found. found ≡ leaders (map (key_cells fields.now) rows.now)) }
     ensures within { IfOk result (All (λ place. place < length rows.now)) }
@@ -99,8 +95,8 @@ pub(crate) fn heads(alloc: Global, leaders: &[usize]) -> Result<Seq<usize>, OutO
     Ok(heads)
 }
 
-// So many empty lists.
-fn empty_lists(alloc: Global, n: usize) -> Result<Vec<Seq<usize>>, OutOfMemory>
+/// So many empty lists.
+pub fn empty_lists(alloc: Global, n: usize) -> Result<Vec<Seq<usize>>, OutOfMemory>
     ensures { IfOk result (λ lists. lists.items ≡ replicate n []) }
 {
     let mut lists = Vec::with_capacity(alloc, n)?;

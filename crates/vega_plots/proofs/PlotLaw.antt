@@ -1,5 +1,6 @@
 -- Where the test of a plot holds, it has a meaning and keeps the rules.
-use Rattle.std.proofs.Common.{◌≡◌, ℕ, ◌*◌, ◌^◌, ◌<◌, ◌&&◌, ℤ, pos, ◌≤ℤ◌, Bool, true, false, IsTrue, IfSome, List, [], ◌∷◌, Option, Some, None, unwrap_or, nat_lt, length, refl, sym, ap, ◌∙◌, arith}
+use Rattle.std.proofs.Common.{◌≡◌, ℕ, ◌*◌, ◌^◌, ◌<◌, ◌&&◌, ◌||◌, ℤ, pos, ◌≤ℤ◌, Bool, true, false, IsTrue, IfSome, List, [], ◌∷◌, Option}
+use Rattle.std.proofs.Common.{Some, None, unwrap_or, nat_lt, length, refl, sym, ap, ◌∙◌, arith}
 use Rattle.std.specs.Option.{option_map_or}
 use Rattle.std.specs.List.{All, list_all}
 use Rattle.std.proofs.lemmas.Int.{ints}
@@ -21,12 +22,13 @@ use Rattle.vega_lists.specs.Transforms.{transforms_of, has_names, OfTransforms}
 use Rattle.vega_lists.specs.Transforms as transforms
 use Rattle.vega_lists.specs.Products.{no_folds}
 use Rattle.scale_kit.specs.Scale.{IsPadding, IsPixel, IsRange}
-use Rattle.vega_scales.specs.Scales.{given_ends, is_domain_built, KeepsBounds}
+use Rattle.vega_scales.specs.Scales.{given_ends, is_domain_built, is_ordinal, KeepsBounds}
 use Rattle.vega_scales.specs.Scales as scaling
 use Rattle.mark_encode.specs.Items as items
 use Rattle.vega_plots.specs.Plots.{data_of, scales_in, marks_in}
 use Rattle.vega_plots.specs.Built.{is_bare, IsBuilt, KeepsRules, IsSizeKept}
-use Rattle.vega_plots.specs.Tested.{is_padding, is_pixel, is_range, is_transform, is_set, is_scale, is_size, is_space, is_plot_group, is_one_plot, are_new, is_plot}
+use Rattle.vega_plots.specs.Tested.{is_padding, is_pixel, is_range, is_transform, is_set, has_places, is_scale, is_size, is_space}
+use Rattle.vega_plots.specs.Tested.{is_plot_group, is_one_plot, are_new, is_plot}
 use Rattle.vega_plots.proofs.FitLaw as fit
 use Rattle.vega_plots.proofs.NewNames.{apart}
 
@@ -56,6 +58,10 @@ places (Some ends) e =
     let h = both (is_pixel ends.0) (is_pixel ends.1) e in
     (within (pos 0) (pos (10 ^ 11 * million)) ends.0 h.0, within (pos 0) (pos (10 ^ 11 * million)) ends.1 h.1)
 
+either : (a b : Bool) → (a || b) ≡ true → a ≡ false → b ≡ true
+either true b e f = absurd (false≢true (sym f))
+either false b e f = e
+
 size_kept : (s : Option Size) → is_size s ≡ true → IsSizeKept s
 size_kept None e = tt
 size_kept (Some (size.Number n)) e = within (pos 0) (pos (10 ^ 11 * million)) n e
@@ -78,7 +84,7 @@ named_set set e =
 
 module _ (s : VegaScale) (e : is_scale s ≡ true) where
   rest_of_domain : (is_domain_built s.domain && (option_map_or is_padding s.padding true && (option_map_or is_padding s.padding_inner true
-      && (option_map_or is_padding s.padding_outer true && option_map_or is_range (given_ends s.range) true)))) ≡ true
+      && (option_map_or is_padding s.padding_outer true && has_places s)))) ≡ true
   rest_of_domain = (both (scaling.is_built s) _ e).1
 
   built_scale : IsTrue (scaling.is_built s)
@@ -93,7 +99,12 @@ module _ (s : VegaScale) (e : is_scale s ≡ true) where
       let b = both (option_map_or is_padding s.padding true) _ a in
       let c = both (option_map_or is_padding s.padding_inner true) _ b.1 in
       let d = both (option_map_or is_padding s.padding_outer true) _ c.1 in
-      record { both = given s.padding b.0; inner = given s.padding_inner c.0; outer = given s.padding_outer d.0; ends = places (given_ends s.range) d.1 }
+      record {
+        both = given s.padding b.0;
+        inner = given s.padding_inner c.0;
+        outer = given s.padding_outer d.0;
+        ends = λ other. places (given_ends s.range) (either (is_ordinal s) _ d.1 other);
+      }
 
 pub law : (g : VgSpec) → is_plot g ≡ true → IsBuilt g × KeepsRules g × (length (marks_in (out-Group g.group)) < 2 ^ 32)
 law g e =

@@ -1,5 +1,6 @@
 -- Whether a specification is a plot that has a meaning so far and keeps the rules, as a test.
-use Rattle.std.specs.Prelude.{◌≡◌, refl, codes, false, ℕ, ◌*◌, ◌^◌, ◌<◌, ◌&&◌, Bool, true, not, ℤ, pos, Option, Some, None, List, [], ◌∷◌, ◌++◌, is_none, unwrap_or}
+use Rattle.std.specs.Prelude.{◌≡◌, refl, codes, false, ℕ, ◌*◌, ◌^◌, ◌<◌, ◌&&◌, ◌||◌, Bool, true, not, ℤ, pos, Option, Some, None, List}
+use Rattle.std.specs.Prelude.{[], ◌∷◌, ◌++◌, is_none, unwrap_or}
 use Rattle.std.specs.Prelude.{nat_lt, length}
 use Rattle.std.specs.List.{list_all, list_any}
 use Rattle.std.specs.Str.{bytes_eq}
@@ -18,7 +19,7 @@ use Rattle.vega_spec.specs.Names.{sources_of}
 use Rattle.vega_lists.specs.Transforms.{transforms_of, has_names}
 use Rattle.vega_lists.specs.Transforms as transforms
 use Rattle.vega_lists.specs.Products.{no_folds}
-use Rattle.vega_scales.specs.Scales.{given_ends, is_domain_built}
+use Rattle.vega_scales.specs.Scales.{given_ends, is_domain_built, is_ordinal}
 use Rattle.vega_scales.specs.Scales as scaling
 use Rattle.mark_encode.specs.Items as items
 use Rattle.vega_plots.specs.Plots.{data_of, scales_in, marks_in}
@@ -44,11 +45,15 @@ is_transform t = transforms.is_built t && has_names t
 abbrev pub is_set : DataSet → Bool
 is_set set = list_all is_transform (transforms_of set)
 
+-- the ends of a range are places; an ordinal scale has none
+abbrev pub has_places : VegaScale → Bool
+has_places s = is_ordinal s || option_map_or is_range (given_ends s.range) true
+
 -- a scale and its domain have a meaning, and its numbers are those that specifications may have
 abbrev pub is_scale : VegaScale → Bool
 is_scale s =
     scaling.is_built s && (is_domain_built s.domain && (option_map_or is_padding s.padding true && (option_map_or is_padding s.padding_inner true
-    && (option_map_or is_padding s.padding_outer true && option_map_or is_range (given_ends s.range) true))))
+    && (option_map_or is_padding s.padding_outer true && has_places s))))
 
 -- a written size is a place
 abbrev pub is_size : Option Size → Bool

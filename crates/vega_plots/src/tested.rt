@@ -10,7 +10,8 @@ ghost use Rattle.vega_scales.specs.Ranges.{two_numbers};
 ghost use Rattle.vega_scales.specs.Scales.{given_ends};
 ghost use Rattle.mark_encode.specs.Items as items;
 ghost use Rattle.vega_plots.specs.Built.{is_empty, is_bare};
-ghost use Rattle.vega_plots.specs.Tested.{is_padding, is_pixel, is_range, is_transform, is_set, is_scale, is_size, is_space, is_plot_group, is_one_plot, are_new, is_plot, PlotsAreTested};
+ghost use Rattle.vega_plots.specs.Tested.{is_padding, is_pixel, is_range, is_transform, is_set, has_places, is_scale, is_size, is_space};
+ghost use Rattle.vega_plots.specs.Tested.{is_plot_group, is_one_plot, are_new, is_plot, PlotsAreTested};
 
 use crate::folds::{folds_fit, transforms_of};
 use crate::names::are_new;
@@ -19,7 +20,7 @@ use cell_value::Cell;
 use fixed_num::Num;
 use std::alloc::Global;
 use text_kit::{OutOfMemory, Seq};
-use vega_scales::{is_built, is_domain_built};
+use vega_scales::{is_built, is_domain_built, is_ordinal};
 use vega_spec::{
     DataSet, Group, MarkFrom, MarkType, Range, Scale, Size, Transform, VgMark, VgSpec, sources_of,
 };
@@ -163,6 +164,13 @@ fn is_range_given(range: &Range) -> bool
     }
 }
 
+// So are those of a scale; an ordinal scale has none.
+fn has_places(scale: &Scale) -> bool
+    ensures { result ≡ has_places scale.now }
+{
+    is_ordinal(scale) || is_range_given(&scale.range)
+}
+
 // A scale has a meaning, and its numbers are those that specifications may have.
 fn is_scale(scale: &Scale) -> bool
     ensures { result ≡ is_scale scale.now }
@@ -172,7 +180,7 @@ fn is_scale(scale: &Scale) -> bool
         && is_padding_given(scale.padding)
         && is_padding_given(scale.padding_inner)
         && is_padding_given(scale.padding_outer)
-        && is_range_given(&scale.range)
+        && has_places(scale)
 }
 
 // A mark has a meaning.

@@ -1,16 +1,19 @@
--- A source of three rows, and a data set without transforms.
-use Rattle.std.proofs.Common.{◌≡◌, ℕ, ◌<◌, ◌≤◌, List, [], ◌∷◌, Option, Some, None, length, All, inl, lit<, lit≤, subst, sym, ap, arith}
+-- Sources of three rows, and data sets without transforms.
+use Rattle.std.proofs.Common.{◌≡◌, ℕ, ◌<◌, ◌≤◌, Bool, List, [], ◌∷◌, Option, Some, None, All, inl, lit<, lit≤, subst, sym, arith}
+use Rattle.std.specs.Prelude.{unwrap_or}
 use Rattle.std.proofs.lemmas.List.Kept.{AllPairs-cons}
 use Rattle.std.proofs.lemmas.List.Elements.{All-cons, All-nil}
 use Rattle.cell_value.specs.declared.state.Key.{Key}
 use Rattle.cell_value.specs.declared.state.Keyed.{Keyed}
 use Rattle.cell_value.specs.declared.state.Named.{Named}
 use Rattle.cell_value.specs.State.{greatest_id}
-use Rattle.plain_rows.specs.Rows.{AreRows, AreKeys, IsBefore, keys_of}
+use Rattle.plain_rows.specs.Rows.{AreKeys, IsBefore}
 use Rattle.vega_spec.specs.declared.data.DataSet.{DataSet}
-use Rattle.vega_lists.specs.Transforms.{is_built, has_names, OfTransforms}
-use Rattle.vega_lists.specs.Products.{KeysFit, FoldsFit, no_folds}
+use Rattle.vega_spec.specs.declared.transforms.Transform.{Transform}
+use Rattle.vega_lists.specs.Transforms.{is_built, has_names, AllTransforms, OfTransforms}
+use Rattle.vega_lists.specs.Products.{KeysFit, ProductsFit, FoldsFit, no_folds}
 use Rattle.vega_lists.specs.Held.{AreSources}
+use Rattle.vega_scale_tests.specs.Sources.{IsSource, IsPlain}
 
 abbrev numbered : ℕ → Key
 numbered id = record { id = id; branch = 0 }
@@ -45,23 +48,40 @@ three_fit = record {
       (All-cons IsFirst (numbered 2) (numbered 3 ∷ []) (lit< tt) (All-cons IsFirst (numbered 3) [] (lit< tt) (All-nil IsFirst)));
 }
 
-pub three_are_sources : (name : List ℕ) (a b c : Keyed) → a.key ≡ numbered 1 → b.key ≡ numbered 2 → c.key ≡ numbered 3
-    → AreSources (record { name = name; rows = a ∷ b ∷ c ∷ [] } ∷ [])
-three_are_sources name a b c p q r =
+pub three_are_a_source : (name : List ℕ) (a b c : Keyed) → a.key ≡ numbered 1 → b.key ≡ numbered 2 → c.key ≡ numbered 3
+    → IsSource (record { name = name; rows = a ∷ b ∷ c ∷ [] })
+three_are_a_source name a b c p q r =
     let same : a.key ∷ b.key ∷ c.key ∷ [] ≡ three = λ i. p i ∷ q i ∷ r i ∷ [] in
-    let IsSource : Named → Type 0 = λ source. AreRows source.rows × KeysFit 1 (keys_of source.rows) in
-    All-cons IsSource (record { name = name; rows = a ∷ b ∷ c ∷ [] }) []
-    (subst AreKeys (sym same) three_keys, subst (KeysFit 1) (sym same) three_fit) (All-nil IsSource)
+    (subst AreKeys (sym same) three_keys, subst (KeysFit 1) (sym same) three_fit)
 
--- a data set without transforms
-abbrev pub plain : List ℕ → DataSet
-plain name = record { name = name; values = None; url = None; format = None; source = None; transform = None }
+-- what holds of four holds of all of a list of them
+all_four : {X : Type 0} (P : X → Type 0) (a b c d : X) → P a → P b → P c → P d → All P (a ∷ b ∷ c ∷ d ∷ [])
+all_four P a b c d p q r s =
+    All-cons P a (b ∷ c ∷ d ∷ []) p (All-cons P b (c ∷ d ∷ []) q (All-cons P c (d ∷ []) r (All-cons P d [] s (All-nil P))))
 
-pub one_built : (name : List ℕ) → All (OfTransforms is_built) (plain name ∷ [])
-one_built name = All-cons (OfTransforms is_built) (plain name) [] (All-nil _) (All-nil (OfTransforms is_built))
+pub four_are_sources : (a b c d : Named) → IsSource a → IsSource b → IsSource c → IsSource d → AreSources (a ∷ b ∷ c ∷ d ∷ [])
+four_are_sources a b c d p q r s = all_four IsSource a b c d p q r s
 
-pub one_named : (name : List ℕ) → All (OfTransforms has_names) (plain name ∷ [])
-one_named name = All-cons (OfTransforms has_names) (plain name) [] (All-nil _) (All-nil (OfTransforms has_names))
+-- without transforms, what is asked of each holds
+none_asks : (test : Transform → Bool) (transforms : Option (List Transform)) → transforms ≡ None
+    → AllTransforms test (unwrap_or transforms [])
+none_asks test None e = All-nil _
+none_asks test (Some ts) e = cc
 
-pub one_folds : (name : List ℕ) → FoldsFit no_folds (plain name ∷ [])
-one_folds name = (All-nil _, tt)
+pub all_built : (a b c d : DataSet) → IsPlain a → IsPlain b → IsPlain c → IsPlain d → All (OfTransforms is_built) (a ∷ b ∷ c ∷ d ∷ [])
+all_built a b c d p q r s =
+    all_four (OfTransforms is_built) a b c d (none_asks is_built a.transform p) (none_asks is_built b.transform q)
+    (none_asks is_built c.transform r) (none_asks is_built d.transform s)
+
+pub all_named : (a b c d : DataSet) → IsPlain a → IsPlain b → IsPlain c → IsPlain d → All (OfTransforms has_names) (a ∷ b ∷ c ∷ d ∷ [])
+all_named a b c d p q r s =
+    all_four (OfTransforms has_names) a b c d (none_asks has_names a.transform p) (none_asks has_names b.transform q)
+    (none_asks has_names c.transform r) (none_asks has_names d.transform s)
+
+none_folds : (product : ℕ) (transforms : Option (List Transform)) → transforms ≡ None → ProductsFit product (unwrap_or transforms [])
+none_folds product None e = All-nil _
+none_folds product (Some ts) e = cc
+
+pub all_folds : (a b c d : DataSet) → IsPlain a → IsPlain b → IsPlain c → IsPlain d → FoldsFit no_folds (a ∷ b ∷ c ∷ d ∷ [])
+all_folds a b c d p q r s =
+    (none_folds _ a.transform p, (none_folds _ b.transform q, (none_folds _ c.transform r, (none_folds _ d.transform s, tt))))

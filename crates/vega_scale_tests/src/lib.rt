@@ -2,4 +2,14 @@
 #![tactic(auto)]
 
 #[cfg(test)]
-mod scales;
+mod asked;
+#[cfg(test)]
+mod lines;
+#[cfg(test)]
+mod sources;
+#[cfg(test)]
+mod stops;
+#[cfg(test)]
+mod tests;
+#[cfg(test)]
+mod texts;

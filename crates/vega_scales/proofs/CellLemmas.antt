@@ -1,5 +1,6 @@
 -- Why a set tells which cells were seen, and holds the distinct ones in order.
-use Rattle.std.proofs.Common.{◌≡◌, ℕ, ◌+◌, ◌<◌, ◌≤◌, ◌||◌, ◌++◌, Bool, true, false, if◌then◌else◌, List, [], ◌∷◌, length, take, drop, get_or, refl, sym, ap, ◌∙◌, subst}
+use Rattle.std.proofs.Common.{◌≡◌, ℕ, ◌+◌, ◌<◌, ◌≤◌, ◌||◌, ◌++◌, Bool, true, false, if◌then◌else◌, List, [], ◌∷◌, length, take, drop}
+use Rattle.std.proofs.Common.{get_or, refl, sym, ap, ◌∙◌}
 use Rattle.std.specs.List.{list_any}
 use Rattle.std.specs.Ordering.{is_eq, ordering_reverse}
 use Rattle.std.specs.declared.cmp.Ordering.{Ordering}
@@ -17,7 +18,7 @@ flipped o Less e = ap is_eq e
 flipped o Equal e = ap is_eq e
 flipped o Greater e = ap is_eq e
 
-same_cells-flips : (a b : Cell) → same_cells a b ≡ same_cells b a
+pub same_cells-flips : (a b : Cell) → same_cells a b ≡ same_cells b a
 same_cells-flips a b = flipped (cell_cmp a b) (cell_cmp b a) (cell_cmp_total.antisymm a b)
 
 either : (b old : Bool) → (if b then true else old) ≡ (old || b)

@@ -1,5 +1,5 @@
 -- How the cells of rows are gathered.
-use Rattle.std.proofs.Common.{◌≡◌, ℕ, ◌+◌, ◌<◌, ◌≤◌, ◌++◌, List, [], ◌∷◌, map, length, drop, get_or, refl, sym, ap, ◌∙◌, subst, arith}
+use Rattle.std.proofs.Common.{◌≡◌, ℕ, ◌+◌, ◌<◌, ◌≤◌, ◌++◌, List, [], ◌∷◌, map, length, drop, get_or, sym, ap, ◌∙◌, subst, arith}
 use Rattle.std.proofs.lemmas.List.{append_assoc, append-nil, drop_all, drop_more, get_or-map, length-map}
 use Rattle.cell_value.specs.declared.cell.Cell.{Cell}
 use Rattle.cell_value.specs.declared.state.Key.{Key}
@@ -7,7 +7,9 @@ use Rattle.cell_value.specs.declared.state.Keyed.{Keyed}
 use Rattle.cell_value.specs.State.{greatest_id}
 use Rattle.cell_value.specs.Datum.{datum_of, cell_at}
 use Rattle.plain_rows.specs.Rows.{AreRows}
-use Rattle.vega_scales.specs.Domains.{column_of}
+use Rattle.vega_scales.specs.declared.keyed.Entry.{Entry}
+use Rattle.vega_scales.specs.Domains.{column_of, entries_among}
+use Rattle.vega_scales.specs.inner.Held.{entry_at}
 
 abbrev key_of : Keyed → Key
 key_of keyed = keyed.key
@@ -36,3 +38,21 @@ pub column_all : (name : List ℕ) (rows : List Keyed) (i : ℕ) (out whole : Li
     → out ++ column_of name (map datum_of (drop i rows)) ≡ whole → out ≡ whole
 column_all name rows i out whole past so_far =
     sym (append-nil out) ∙ ap (λ d. out ++ column_of name (map datum_of d)) (sym (drop_all i rows past)) ∙ so_far
+
+-- one entry more
+pub entry_more : (key value : List ℕ) (rows : List Keyed) (i : ℕ) (row : Keyed) (entry : Entry) (out now whole : List Entry)
+    → i < length rows → row ≡ get_or rows i row → entry ≡ entry_at key value row → now ≡ out ++ entry ∷ []
+    → out ++ entries_among key value (map datum_of (drop i rows)) ≡ whole
+    → now ++ entries_among key value (map datum_of (drop (i + 1) rows)) ≡ whole
+entry_more key value rows i row entry out now whole l at is pushed so_far =
+    let rest : drop i rows ≡ row ∷ drop (i + 1) rows = drop_more rows i row l ∙ ap (λ x. x ∷ drop (i + 1) rows) (sym at) in
+    ap (λ l. l ++ entries_among key value (map datum_of (drop (i + 1) rows))) (pushed ∙ ap (λ x. out ++ x ∷ []) is)
+    ∙ append_assoc out (entry_at key value row ∷ []) (entries_among key value (map datum_of (drop (i + 1) rows)))
+    ∙ ap (λ d. out ++ entries_among key value (map datum_of d)) (sym rest)
+    ∙ so_far
+
+-- at the end all entries are there
+pub entries_all : (key value : List ℕ) (rows : List Keyed) (i : ℕ) (out whole : List Entry) → length rows ≤ i
+    → out ++ entries_among key value (map datum_of (drop i rows)) ≡ whole → out ≡ whole
+entries_all key value rows i out whole past so_far =
+    sym (append-nil out) ∙ ap (λ d. out ++ entries_among key value (map datum_of d)) (sym (drop_all i rows past)) ∙ so_far

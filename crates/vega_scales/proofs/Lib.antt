@@ -1,4 +1,7 @@
 mod CellLemmas
-mod NumberLemmas
 mod ColumnLemmas
+mod EntryLemmas
+mod HeldLemmas
+mod NumberLemmas
 mod ScaleLemmas
+mod TimeLemmas

@@ -1,12 +1,17 @@
 -- Why the numbers of a scale stay within their bounds.
-use Rattle.std.proofs.Common.{Bool, true, false, ℤ, pos, Option, Some, None, List, IfSome, unwrap_or, arith}
+use Rattle.std.proofs.Common.{◌≡◌, ◌↔◌, ◌&&◌, not, Bool, true, false, ℤ, pos, Option, Some, None, List, [], ◌∷◌, length, IfSome, IsTrue}
+use Rattle.std.proofs.Common.{unwrap_or, refl, sym, subst, arith}
+use Rattle.cell_value.specs.declared.cell.Cell.{Cell}
+use Rattle.std.proofs.lemmas.Bool.Decides.{Decides-eqb}
 use Rattle.std.proofs.lemmas.Int.{ints}
 use Rattle.vega_spec.specs.declared.scales.Range.{Range}
 use Rattle.vega_spec.specs.declared.scales.Range.TheVariants.{Cells, Width, Height, Category, Ramp, Symbol}
 use Rattle.vega_spec.specs.declared.scales.Scale.{Scale}
 use Rattle.scale_kit.specs.Scale.{IsPadding, IsPixel, IsRange}
 use Rattle.vega_scales.specs.Ranges.{two_numbers, ends_in, turned, padding_of}
-use Rattle.vega_scales.specs.Scales.{is_discrete, is_set, ends_of, given_ends, KeepsBounds}
+use Rattle.vega_scales.specs.Entries.{entries_of, category_colors, symbol_shapes}
+use Rattle.vega_scales.specs.Scales.{is_discrete, is_ordinal, is_set, ends_of, given_ends, has_entries, fits_range, is_built, ordinal}
+use Rattle.vega_scales.specs.Scales.{KeepsBounds}
 
 pub padding_kept : (own both : Option ℤ) → IfSome own IsPadding → IfSome both IsPadding → IsPadding (padding_of own both)
 padding_kept (Some p) both h i = h
@@ -37,6 +42,36 @@ turned_kept : (reverse : Bool) (ends : ℤ × ℤ) → IsRange ends → IsRange 
 turned_kept true ends h = (h.1, h.0)
 turned_kept false ends h = h
 
--- the ends of a scale's range are such as ranges have
-pub ends_of_kept : (s : Scale) (width height : ℤ) → KeepsBounds s → IsPixel width → IsPixel height → IsRange (ends_of s width height)
-ends_of_kept s width height kept w h = turned_kept (is_set s.reverse) _ (ends_kept (is_discrete s) width height s.range kept.ends w h)
+-- the ends of a scale's range are such as ranges have, where it isn't ordinal
+pub ends_of_kept : (s : Scale) (width height : ℤ) → KeepsBounds s → IsPixel width → IsPixel height → is_ordinal s ≡ false
+    → IsRange (ends_of s width height)
+ends_of_kept s width height kept w h other =
+    turned_kept (is_set s.reverse) _ (ends_kept (is_discrete s) width height s.range (kept.ends other) w h)
+
+front : (a b : Bool) → (a && b) ≡ true → a ≡ true
+front true b e = refl
+front false b e = e
+
+-- an ordinal scale that is built has a range of entries
+pub entries_fit : (s : Scale) → IsTrue (is_built s) → is_ordinal s ≡ true → IsTrue (has_entries s.range)
+entries_fit s built e =
+    subst (λ k. fits_range k s.range ≡ true) ((Decides-eqb s.type_ ordinal).0 e) (front (fits_range s.type_ s.range) _ built)
+
+-- only over no cells does such a range have no entries
+pub entries_there : (range : Range) (cells : List Cell) → IsTrue (has_entries range) → entries_of range (length cells) ≡ [] → cells ≡ []
+unfolding category_colors symbol_shapes
+entries_there (Cells []) cells h e = cc
+entries_there (Cells (first ∷ others)) cells h e = cc
+entries_there Width cells h e = cc
+entries_there Height cells h e = cc
+entries_there Category cells h e = cc
+entries_there Ramp [] h e = refl
+entries_there Ramp (first ∷ others) h e = cc
+entries_there Symbol cells h e = cc
+
+-- a list has entries exactly where it isn't empty
+pub entries_or_none : (cells : List Cell) (b : Bool) → (IsTrue b ↔ (cells ≡ [])) → not b ≡ has_entries (Cells cells)
+entries_or_none [] true h = refl
+entries_or_none [] false h = sym (h.1 refl)
+entries_or_none (first ∷ others) true h = let none : first ∷ others ≡ [] = h.0 refl in cc
+entries_or_none (first ∷ others) false h = refl

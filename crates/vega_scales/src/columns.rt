@@ -1,42 +1,19 @@
 // The cells of rows.
-ghost use Rattle.std.specs.Prelude.{◌≡◌, ◌≤◌, ◌*◌, ◌++◌, [], pos, map, flat_map, IfOk, OnOk};
-ghost use Rattle.fixed_num.specs.Number.{million};
+ghost use Rattle.std.specs.Prelude.{◌≡◌, ◌≤◌, ◌++◌, map, IfOk, OnOk};
 ghost use Rattle.cell_value.specs.State.{greatest_id};
-ghost use Rattle.cell_value.specs.Datum.{datum_of, cell_at};
+ghost use Rattle.cell_value.specs.Datum.{datum_of};
 ghost use Rattle.plain_rows.specs.Rows.{AreRows};
 ghost use Rattle.vega_lists.specs.Held.{rows_named, scope_in, AreLists};
-ghost use Rattle.vega_scales.specs.Domains.{column_of, referred};
+ghost use Rattle.vega_scales.specs.Domains.{column_of, cells_referred, entries_among, entries_referred};
+ghost use Rattle.vega_scales.specs.inner.Held.{entry_at};
 
+use crate::keyed::Entry;
 use cell_value::{Cell, Keyed, Named};
-use fixed_num::Num;
+use plain_rows::cell_of;
+use std::alloc::Global;
 use text_kit::{OutOfMemory, Seq};
 use vega_lists::Lists;
 use vega_spec::Reference;
-
-// An id as a number.
-fn id_number(id: u64) -> Num
-    requires { id ≤ greatest_id }
-    ensures { result ≡ pos (id * million) }
-{
-    match Num::of_millionths(i128::from(id) * 1_000_000) {
-        Some(number) => number,
-        None => unreachable!(),
-    }
-}
-
-// The cell that a row reads under a name.
-fn cell_of(keyed: &Keyed, name: &str) -> Result<Cell, OutOfMemory>
-    requires { keyed.now.key.id ≤ greatest_id }
-    ensures { IfOk result (λ cell. cell ≡ cell_at keyed.now name.now) }
-{
-    if name == "_vgsid_" {
-        return Ok(Cell::Number(id_number(keyed.key.id)));
-    }
-    match keyed.row.get(name) {
-        Some(cell) => cell.copy(),
-        None => Ok(Cell::Null),
-    }
-}
 
 // Adds the cells of rows under a name.
 fn push_column(out: &mut Seq<Cell>, rows: &[Keyed], name: &str) -> Result<(), OutOfMemory>
@@ -59,8 +36,8 @@ fn rows_named<'a>(sources: &'a [Named], lists: &'a Lists, name: &str) -> &'a [Ke
     }
 }
 
-/// Adds the cells of a field of a named list.
-pub(crate) fn push_referred(
+// Adds the cells of a field of a named list.
+fn push_referred(
     out: &mut Seq<Cell>,
     sources: &[Named],
     lists: &Lists,
@@ -73,24 +50,92 @@ pub(crate) fn push_referred(
     push_column(out, rows_named(sources, lists, list), field)
 }
 
-/// Adds the cells of references, reference after reference.
-pub(crate) fn push_references(
-    out: &mut Seq<Cell>,
+/// The cells of references, reference after reference.
+pub(crate) fn cells_referred(
+    alloc: Global,
     sources: &[Named],
     lists: &Lists,
     references: &[Reference],
-) -> Result<(), OutOfMemory>
+) -> Result<Seq<Cell>, OutOfMemory>
     requires { AreLists sources.now lists.now }
-    ensures { OnOk result (out.new ≡ out.old ++ flat_map (referred (scope_in sources.now lists.now)) references.now) }
+    ensures { IfOk result (λ cells. cells ≡ cells_referred (scope_in sources.now lists.now) references.now) }
 {
+    let mut out = Seq::new(alloc);
     for reference in references {
         push_referred(
-            out,
+            &mut out,
             sources,
             lists,
             reference.data_.as_str(),
             reference.field.as_str(),
         )?;
     }
+    Ok(out)
+}
+
+// The cell of a row under one name, as a key, and that under another, as its value.
+fn entry_of(row: &Keyed, key: &str, value: &str) -> Result<Entry, OutOfMemory>
+    requires { row.now.key.id ≤ greatest_id }
+    ensures { IfOk result (λ entry. entry ≡ entry_at key.now value.now row.now) }
+{
+    Ok(Entry {
+        key: cell_of(row, key)?,
+        value: cell_of(row, value)?,
+    })
+}
+
+// Adds the entries of rows.
+fn push_entries(
+    out: &mut Seq<Entry>,
+    rows: &[Keyed],
+    key: &str,
+    value: &str,
+) -> Result<(), OutOfMemory>
+    requires { AreRows rows.now }
+    ensures { OnOk result (out.new ≡ out.old ++ entries_among key.now value.now (map datum_of rows.now)) }
+{
+    for row in rows {
+        out.push(entry_of(row, key, value)?)?;
+    }
     Ok(())
+}
+
+// Adds the entries of a named list.
+fn push_referred_entries(
+    out: &mut Seq<Entry>,
+    sources: &[Named],
+    lists: &Lists,
+    list: &str,
+    key: &str,
+    value: &str,
+) -> Result<(), OutOfMemory>
+    requires { AreLists sources.now lists.now }
+    ensures { OnOk result (out.new ≡ out.old ++ entries_among key.now value.now (scope_in sources.now lists.now list.now)) }
+{
+    push_entries(out, rows_named(sources, lists, list), key, value)
+}
+
+/// For each row of references, reference after reference, its cell as a key, and its cell in another field as the value.
+pub(crate) fn entries_referred(
+    alloc: Global,
+    sources: &[Named],
+    lists: &Lists,
+    field: &str,
+    references: &[Reference],
+) -> Result<Seq<Entry>, OutOfMemory>
+    requires { AreLists sources.now lists.now }
+    ensures { IfOk result (λ entries. entries ≡ entries_referred (scope_in sources.now lists.now) field.now references.now) }
+{
+    let mut out = Seq::new(alloc);
+    for reference in references {
+        push_referred_entries(
+            &mut out,
+            sources,
+            lists,
+            reference.data_.as_str(),
+            reference.field.as_str(),
+            field,
+        )?;
+    }
+    Ok(out)
 }

@@ -1,18 +1,22 @@
 // The domains of scales.
-ghost use Rattle.std.specs.Prelude.{◌≡◌, ◌≤ℤ◌, [], ◌∷◌, flat_map, IfOk, IfSome, IsTrue};
+ghost use Rattle.std.specs.Prelude.{◌≡◌, ◌≤ℤ◌, [], ◌∷◌, IfOk, IfSome};
 ghost use Rattle.std.specs.Option.{option_map};
 ghost use Rattle.expr_eval.specs.Answers.{Evaluates};
 ghost use Rattle.expr_eval.specs.Plain.{null_row};
 ghost use Rattle.expr_eval.specs.Value.{value_of};
 ghost use Rattle.vega_lists.specs.Held.{scope_in, AreLists};
-ghost use Rattle.vega_scales.specs.Domains.{cells_in, referred, reference_of, cells_of_domain, in_direction, in_order, as_asked};
-ghost use Rattle.vega_scales.specs.Domains.{discrete_domain, raw_domain, extent_of_domain, widened_domain};
-ghost use Rattle.vega_scales.specs.Scales.{is_set, is_domain_built, numbers_of_scale};
+ghost use Rattle.vega_scales.specs.Cells.{in_first_order};
+ghost use Rattle.vega_scales.specs.Domains.{cells_in, reference_of, cells_referred, entries_referred, in_order, discrete_domain};
+ghost use Rattle.vega_scales.specs.Domains.{cells_of_domain, counting_in, raw_domain, extent_of_domain, widened_domain};
+ghost use Rattle.vega_scales.specs.Counting.{extent_among, widened_as_asked};
+ghost use Rattle.vega_scales.specs.Orders.{in_direction, by_operation};
+ghost use Rattle.vega_scales.specs.Scales.{is_set, is_time, numbers_of_scale};
 
-use crate::cells::{ascending, descending, in_first_order};
-use crate::columns::{push_references, push_referred};
+use crate::counting::{Counting, extent_among, numbers_or_instants, pair_in};
 use crate::evaluation::eval_alone;
-use crate::numbers::{extent_of, pair_in, widened_as_asked};
+use crate::scales::{is_set, is_time};
+use crate::widening::widened_as_asked;
+use crate::{cells, columns, orders};
 use cell_value::{Cell, Named};
 use expr_eval::{EvalError, ParamReader};
 use expr_syntax::Expr;
@@ -20,7 +24,7 @@ use fixed_num::Num;
 use std::alloc::Global;
 use text_kit::{OutOfMemory, Seq, copy_list};
 use vega_lists::Lists;
-use vega_spec::{Domain, DomainOrder, FieldDomain, FieldsDomain, Order, Scale};
+use vega_spec::{Domain, DomainOrder, FieldDomain, Order, Reference, Scale};
 
 // A list of one cell.
 fn one_cell(alloc: Global, cell: Cell) -> Result<Seq<Cell>, OutOfMemory>
@@ -60,43 +64,114 @@ fn cells_of_value<P: ParamReader>(
     Ok(cells_in(alloc, value)?)
 }
 
-// The cells of one field.
-fn cells_of_field(
-    alloc: Global,
-    of: &FieldDomain,
-    sources: &[Named],
-    lists: &Lists,
-) -> Result<Seq<Cell>, OutOfMemory>
-    requires { AreLists sources.now lists.now }
-    ensures { IfOk result (λ cells. cells ≡ referred (scope_in sources.now lists.now) (reference_of of.now)) }
+// The one reference of a domain over one field.
+fn one_reference(alloc: Global, of: &FieldDomain) -> Result<Seq<Reference>, OutOfMemory>
+    ensures { IfOk result (λ references. references ≡ reference_of of.now ∷ []) }
 {
-    let mut cells = Seq::new(alloc);
-    push_referred(
-        &mut cells,
-        sources,
-        lists,
-        of.data_.as_str(),
-        of.field.as_str(),
-    )?;
-    Ok(cells)
+    let reference = Reference {
+        data_: of.data_.copy()?,
+        field: of.field.copy()?,
+    };
+    let mut references = Seq::new(alloc);
+    references.push(reference)?;
+    Ok(references)
 }
 
-// The cells of several fields.
-fn cells_of_fields(
+// The distinct cells of references by their first rows.
+fn by_first_rows(
     alloc: Global,
-    of: &FieldsDomain,
     sources: &[Named],
     lists: &Lists,
+    references: &[Reference],
 ) -> Result<Seq<Cell>, OutOfMemory>
     requires { AreLists sources.now lists.now }
-    ensures { IfOk result (λ cells. cells ≡ flat_map (referred (scope_in sources.now lists.now)) of.now.fields) }
+    ensures { IfOk result (λ out. out ≡ in_first_order (cells_referred (scope_in sources.now lists.now) references.now)) }
 {
-    let mut cells = Seq::new(alloc);
-    push_references(&mut cells, sources, lists, of.fields.as_slice())?;
-    Ok(cells)
+    let cells = columns::cells_referred(alloc, sources, lists, references)?;
+    cells::in_first_order(alloc, cells.as_slice())
 }
 
-// The cells of which a domain is made.
+// The distinct cells of references by themselves.
+fn by_cells(
+    alloc: Global,
+    sources: &[Named],
+    lists: &Lists,
+    references: &[Reference],
+    direction: Option<Order>,
+) -> Result<Seq<Cell>, OutOfMemory>
+    requires { AreLists sources.now lists.now }
+    ensures { IfOk result (λ out. out ≡ in_direction direction (cells_referred (scope_in sources.now lists.now) references.now)) }
+{
+    let cells = columns::cells_referred(alloc, sources, lists, references)?;
+    orders::in_direction(alloc, direction, cells)
+}
+
+// The distinct cells of references by an operation over a field.
+fn by_field(
+    alloc: Global,
+    sources: &[Named],
+    lists: &Lists,
+    references: &[Reference],
+    direction: Option<Order>,
+    op: u16,
+    field: &str,
+) -> Result<Seq<Cell>, EvalError>
+    requires { AreLists sources.now lists.now }
+    ensures { Evaluates result (by_operation direction op (entries_referred (scope_in sources.now lists.now) field.now references.now)) }
+{
+    let entries = columns::entries_referred(alloc, sources, lists, field, references)?;
+    orders::by_operation(alloc, direction, op, entries.as_slice())
+}
+
+// The distinct cells of references in their order.
+fn in_order(
+    alloc: Global,
+    sources: &[Named],
+    lists: &Lists,
+    references: &[Reference],
+    sort: &Option<DomainOrder>,
+) -> Result<Seq<Cell>, EvalError>
+    requires { AreLists sources.now lists.now }
+    ensures { Evaluates result (in_order (scope_in sources.now lists.now) references.now sort.now) }
+{
+    match sort {
+        None => Ok(by_first_rows(alloc, sources, lists, references)?),
+        Some(DomainOrder::True) => Ok(by_cells(alloc, sources, lists, references, None)?),
+        Some(DomainOrder::Cells(direction)) => {
+            Ok(by_cells(alloc, sources, lists, references, *direction)?)
+        }
+        Some(DomainOrder::Operation(direction, op, field)) => {
+            let field = field.as_str();
+            by_field(alloc, sources, lists, references, *direction, *op, field)
+        }
+    }
+}
+
+/// The cells of a discrete domain: a list and the cells that the value of an expression stands for as they are, those of references
+/// distinct and in their order: by their first rows, ascending or descending, or by an operation over a field of the rows that have the
+/// cell. `Overflow` comes exactly where the expression overflows, or a sum by which the cells stand.
+pub fn discrete_domain<P: ParamReader>(
+    alloc: Global,
+    domain: &Domain,
+    sources: &[Named],
+    lists: &Lists,
+    params: &P,
+) -> Result<Seq<Cell>, EvalError>
+    requires { AreLists sources.now lists.now }
+    ensures { Evaluates result (discrete_domain (P.values params.now) (scope_in sources.now lists.now) domain.now) }
+{
+    match domain {
+        Domain::Cells(cells) => Ok(copy_list(alloc, cells.as_slice())?),
+        Domain::Signal(e) => cells_of_value(alloc, e, params),
+        Domain::Field(of) => {
+            let references = one_reference(alloc, of)?;
+            in_order(alloc, sources, lists, references.as_slice(), &of.sort)
+        }
+        Domain::Fields(of) => in_order(alloc, sources, lists, of.fields.as_slice(), &of.sort),
+    }
+}
+
+// The cells of which the domain of a continuous scale is made.
 fn cells_of_domain<P: ParamReader>(
     alloc: Global,
     domain: &Domain,
@@ -110,102 +185,80 @@ fn cells_of_domain<P: ParamReader>(
     match domain {
         Domain::Cells(cells) => Ok(copy_list(alloc, cells.as_slice())?),
         Domain::Signal(e) => cells_of_value(alloc, e, params),
-        Domain::Field(of) => Ok(cells_of_field(alloc, of, sources, lists)?),
-        Domain::Fields(of) => Ok(cells_of_fields(alloc, of, sources, lists)?),
+        Domain::Field(of) => {
+            let references = one_reference(alloc, of)?;
+            Ok(columns::cells_referred(alloc, sources, lists, references.as_slice())?)
+        }
+        Domain::Fields(of) => {
+            let references = of.fields.as_slice();
+            Ok(columns::cells_referred(alloc, sources, lists, references)?)
+        }
     }
 }
 
-// The distinct cells in a direction.
-fn in_direction(
-    alloc: Global,
-    direction: Option<Order>,
-    cells: Seq<Cell>,
-) -> Result<Seq<Cell>, OutOfMemory>
-    ensures { IfOk result (λ out. out ≡ in_direction direction cells) }
+// Which cells of a domain count.
+fn counting_in(of_time: bool, domain: &Domain) -> Counting
+    ensures { result ≡ counting_in of_time domain.now }
 {
-    match direction {
-        None => ascending(alloc, cells),
-        Some(Order::Ascending) => ascending(alloc, cells),
-        Some(Order::Descending) => descending(alloc, cells),
+    if !of_time {
+        return Counting::Numbers;
     }
-}
-
-// The distinct cells of references in their order.
-fn in_order(
-    alloc: Global,
-    sort: &Option<DomainOrder>,
-    cells: Seq<Cell>,
-) -> Result<Seq<Cell>, OutOfMemory>
-    ensures { IfOk result (λ out. out ≡ in_order sort.now cells) }
-{
-    match sort {
-        None => in_first_order(alloc, cells.as_slice()),
-        Some(DomainOrder::True) => ascending(alloc, cells),
-        Some(DomainOrder::Cells(direction)) => in_direction(alloc, *direction, cells),
-        Some(DomainOrder::Operation(_, _, _)) => in_first_order(alloc, cells.as_slice()),
-    }
-}
-
-// The cells of a domain as a discrete scale has them.
-fn as_asked(alloc: Global, domain: &Domain, cells: Seq<Cell>) -> Result<Seq<Cell>, OutOfMemory>
-    ensures { IfOk result (λ out. out ≡ as_asked domain.now cells) }
-{
     match domain {
-        Domain::Cells(_) | Domain::Signal(_) => Ok(cells),
-        Domain::Field(of) => in_order(alloc, &of.sort, cells),
-        Domain::Fields(of) => in_order(alloc, &of.sort, cells),
+        Domain::Cells(_) => Counting::ListedInstants,
+        Domain::Signal(_) | Domain::Field(_) | Domain::Fields(_) => Counting::Instants,
     }
 }
 
-/// The cells of a discrete domain: a list and the value of an expression as they are, those of references distinct and in their order.
-/// The domain has no order by an operation. `Overflow` comes exactly where the expression overflows.
-pub fn discrete_domain<P: ParamReader>(
-    alloc: Global,
-    domain: &Domain,
-    sources: &[Named],
-    lists: &Lists,
-    params: &P,
-) -> Result<Seq<Cell>, EvalError>
-    requires lists { AreLists sources.now lists.now }
-    requires built { IsTrue (is_domain_built domain.now) }
-    ensures { Evaluates result (discrete_domain (P.values params.now) (scope_in sources.now lists.now) domain.now) }
-{
-    let cells = cells_of_domain(alloc, domain, sources, lists, params)?;
-    Ok(as_asked(alloc, domain, cells)?)
-}
-
-// The domain that a raw domain gives, if its value is a pair.
+// The domain that the raw domain of a scale gives, if its value is a pair.
 fn raw_domain<P: ParamReader>(
     alloc: Global,
-    raw: &Option<Expr>,
+    scale: &Scale,
     params: &P,
 ) -> Result<Option<(Num, Num)>, EvalError>
-    ensures value { Evaluates result (raw_domain (P.values params.now) raw.now) }
+    ensures value { Evaluates result (raw_domain (P.values params.now) (is_time scale.now) scale.now.domain_raw) }
     ensures ordered { IfOk result (λ given. IfSome given (λ ends. ends.0 ≤ℤ ends.1)) }
 {
-    match raw {
+    match &scale.domain_raw {
         Some(e) => {
             let value = eval_alone(alloc, e, params)?;
-            Ok(pair_in(&value))
+            Ok(pair_in(numbers_or_instants(is_time(scale)), &value))
         }
         None => Ok(None),
     }
 }
 
-// The least and the greatest number among the cells of a domain.
+// The least and the greatest number among cells of the domain of a scale.
+fn extent_in(scale: &Scale, cells: &[Cell]) -> (Num, Num)
+    ensures value { result ≡ extent_among (counting_in (is_time scale.now) scale.now.domain) cells.now }
+    ensures ordered { result.0 ≤ℤ result.1 }
+{
+    extent_among(counting_in(is_time(scale), &scale.domain), cells)
+}
+
+// The least and the greatest number among the cells of the domain of a scale.
 fn extent_of_domain<P: ParamReader>(
     alloc: Global,
-    domain: &Domain,
+    scale: &Scale,
     sources: &[Named],
     lists: &Lists,
     params: &P,
 ) -> Result<(Num, Num), EvalError>
     requires { AreLists sources.now lists.now }
-    ensures value { Evaluates result (extent_of_domain (P.values params.now) (scope_in sources.now lists.now) domain.now) }
+    ensures value { Evaluates result (extent_of_domain (P.values params.now) (scope_in sources.now lists.now) (is_time scale.now)
+        scale.now.domain) }
     ensures ordered { IfOk result (λ ends. ends.0 ≤ℤ ends.1) }
 {
-    let cells = cells_of_domain(alloc, domain, sources, lists, params)?;
-    Ok(extent_of(cells.as_slice()))
+    let cells = cells_of_domain(alloc, &scale.domain, sources, lists, params)?;
+    Ok(extent_in(scale, cells.as_slice()))
+}
+
+// A domain widened as a scale asks.
+fn widened(scale: &Scale, ends: (Num, Num)) -> Option<(Num, Num)>
+    requires { ends.0 ≤ℤ ends.1 }
+    ensures value { result ≡ widened_as_asked (is_time scale.now) (is_set scale.now.zero) (is_set scale.now.nice) ends }
+    ensures ordered { IfSome result (λ ends. ends.0 ≤ℤ ends.1) }
+{
+    widened_as_asked(is_time(scale), is_set(scale.zero), is_set(scale.nice), ends)
 }
 
 // The domain that the cells of a domain give.
@@ -217,27 +270,21 @@ fn widened_domain<P: ParamReader>(
     params: &P,
 ) -> Result<(Num, Num), EvalError>
     requires { AreLists sources.now lists.now }
-    ensures value { Evaluates result (widened_domain (P.values params.now) (scope_in sources.now lists.now) (is_set scale.now.zero)
-        (is_set scale.now.nice) scale.now.domain) }
+    ensures value { Evaluates result (widened_domain (P.values params.now) (scope_in sources.now lists.now) (is_time scale.now)
+        (is_set scale.now.zero) (is_set scale.now.nice) scale.now.domain) }
     ensures ordered { IfOk result (λ ends. ends.0 ≤ℤ ends.1) }
 {
-    let ends = extent_of_domain(alloc, &scale.domain, sources, lists, params)?;
-    match widened_as_asked(is_set(scale.zero), is_set(scale.nice), ends) {
+    let ends = extent_of_domain(alloc, scale, sources, lists, params)?;
+    match widened(scale, ends) {
         Some(domain) => Ok(domain),
         None => Err(EvalError::Overflow),
     }
 }
 
-// Whether a flag is there and true.
-pub(crate) fn is_set(flag: Option<bool>) -> bool
-    ensures { result ≡ is_set flag }
-{
-    flag.unwrap_or(false)
-}
-
 /// The numbers between which the domain of a continuous scale runs: the raw domain as it is where its value is a pair, else the least and
-/// the greatest number of the domain, 0 and 1 where it has none, which take in 0 and are widened to round numbers as the scale asks.
-/// `Overflow` comes exactly where an expression that is needed overflows or the domain is widened out of range.
+/// the greatest number of the domain, 0 and 1 where it has none, which take in 0 and are widened to round numbers as the scale asks. On a
+/// time scale only instants in range count, and what is widened is cut to that range. `Overflow` comes exactly where an expression that is
+/// needed overflows or the domain is widened out of range.
 pub(crate) fn continuous_domain<P: ParamReader>(
     alloc: Global,
     scale: &Scale,
@@ -249,7 +296,7 @@ pub(crate) fn continuous_domain<P: ParamReader>(
     ensures value { Evaluates result (numbers_of_scale (P.values params.now) (scope_in sources.now lists.now) scale.now) }
     ensures ordered { IfOk result (λ ends. ends.0 ≤ℤ ends.1) }
 {
-    match raw_domain(alloc, &scale.domain_raw, params) {
+    match raw_domain(alloc, scale, params) {
         Ok(Some(given)) => Ok(given),
         Ok(None) => widened_domain(alloc, scale, sources, lists, params),
         Err(e) => Err(e),

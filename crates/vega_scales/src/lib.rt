@@ -1,14 +1,19 @@
-//! The scales of a Vega specification, from its lists of rows: the cells or the numbers of their domains, the ends of their ranges, and
-//! their paddings.
+//! The scales of a Vega specification, from its lists of rows: the cells or the numbers of their domains, the ends of their ranges or
+//! their colours and signs, and their paddings.
 #![tactic(auto)]
 
 mod cells;
 mod columns;
+mod counting;
 mod domains;
+mod entries;
 mod evaluation;
+mod keyed;
 mod numbers;
+mod orders;
 mod ranges;
 mod scales;
+mod widening;
 
 pub use domains::discrete_domain;
-pub use scales::{domain_length, is_built, is_discrete, is_domain_built, scale_of};
+pub use scales::{domain_length, is_built, is_discrete, is_domain_built, is_ordinal, scale_of};

@@ -1,22 +1,11 @@
 // The ranges and the paddings of scales.
 ghost use Rattle.std.specs.Prelude.{◌≡◌, pos};
-ghost use Rattle.expr_eval.specs.Numbers.{the_number};
 ghost use Rattle.vega_scales.specs.Ranges.{two_numbers, ends_in, turned, padding_of};
 
-use crate::numbers::zero;
+use crate::numbers::{the_number, zero};
 use cell_value::Cell;
 use fixed_num::Num;
 use vega_spec::Range;
-
-// The number in a cell, if it is one.
-fn the_number(cell: &Cell) -> Option<Num>
-    ensures { result ≡ the_number cell.now }
-{
-    match cell {
-        Cell::Number(n) => Some(*n),
-        Cell::Null | Cell::Flag(_) | Cell::Text(_) | Cell::Pair(_, _) => None,
-    }
-}
 
 // The ends of a list of two numbers.
 fn two_numbers(cells: &[Cell]) -> Option<(Num, Num)>

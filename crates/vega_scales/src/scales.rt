@@ -1,13 +1,16 @@
 // Scales.
-ghost use Rattle.std.specs.Prelude.{◌≡◌, pos, length, IfOk, IsTrue};
+ghost use Rattle.std.specs.Prelude.{◌≡◌, ◌≤ℤ◌, false, pos, length, IfOk, IsTrue};
 ghost use Rattle.std.specs.Option.{option_map};
 ghost use Rattle.expr_eval.specs.Answers.{Evaluates};
 ghost use Rattle.vega_lists.specs.Held.{scope_in, AreLists};
-ghost use Rattle.scale_kit.specs.Scale.{IsPixel, IsRange, IsScale};
-ghost use Rattle.vega_scales.specs.Scales.{is_discrete, ends_of, over_cells, over_numbers, cells_of_scale, numbers_of_scale, scale_of};
-ghost use Rattle.vega_scales.specs.Scales.{domain_length, is_order_built, is_domain_built, has_ends, is_built, KeepsBounds};
+ghost use Rattle.scale_kit.specs.Scale.{IsPixel, IsRange, IsScale, AreInstants};
+ghost use Rattle.vega_scales.specs.Scales.{is_discrete, is_ordinal, is_time, is_set, ends_of, banded, ordinal_over, over_numbers};
+ghost use Rattle.vega_scales.specs.Scales.{cells_of_scale};
+ghost use Rattle.vega_scales.specs.Scales.{numbers_of_scale, scale_of, domain_length, is_order_built, is_domain_built, has_ends};
+ghost use Rattle.vega_scales.specs.Scales.{has_entries, is_ramp, fits_range, is_built, KeepsBounds};
 
-use crate::domains::{continuous_domain, discrete_domain, is_set};
+use crate::domains::{continuous_domain, discrete_domain};
+use crate::entries::{color_from, color_to, entries_of};
 use crate::numbers::zero;
 use crate::ranges::{ends_in, padding_of, turned};
 use cell_value::{Cell, Named};
@@ -15,12 +18,14 @@ use expr_eval::{EvalError, ParamReader};
 use fixed_num::Num;
 use scale_kit::Scale;
 use std::alloc::Global;
-use text_kit::Seq;
+use text_kit::{OutOfMemory, Seq};
 use vega_lists::Lists;
 use vega_spec::{Domain, DomainOrder, Range};
 
 // The codes of the kinds of scales.
 const LINEAR: u16 = 0;
+
+const TIME: u16 = 1;
 
 const BAND: u16 = 2;
 
@@ -35,6 +40,30 @@ pub fn is_discrete(scale: &vega_spec::Scale) -> bool
     scale.type_ == BAND || scale.type_ == POINT || scale.type_ == ORDINAL
 }
 
+/// Whether a scale is an ordinal one.
+pub fn is_ordinal(scale: &vega_spec::Scale) -> bool
+    ensures { result ≡ is_ordinal scale.now }
+{
+    scale.type_ == ORDINAL
+}
+
+/// Whether a scale is one of time.
+pub(crate) fn is_time(scale: &vega_spec::Scale) -> bool
+    ensures { result ≡ is_time scale.now }
+{
+    scale.type_ == TIME
+}
+
+/// Whether a flag is there and true.
+pub(crate) fn is_set(flag: Option<bool>) -> bool
+    ensures { result ≡ is_set flag }
+{
+    flag.unwrap_or(false)
+}
+
+/// How many of the operations, from the first, are aggregates.
+const AGGREGATES: u16 = 12;
+
 // Whether an order of cells is built.
 fn is_order_built(sort: &Option<DomainOrder>) -> bool
     ensures { result ≡ is_order_built sort.now }
@@ -43,11 +72,11 @@ fn is_order_built(sort: &Option<DomainOrder>) -> bool
         None => true,
         Some(DomainOrder::True) => true,
         Some(DomainOrder::Cells(_)) => true,
-        Some(DomainOrder::Operation(_, _, _)) => false,
+        Some(DomainOrder::Operation(_, op, _)) => *op < AGGREGATES,
     }
 }
 
-/// Whether a domain is built as that of a discrete scale: it has no order by an operation.
+/// Whether a domain is built as that of a discrete scale: an operation by which its cells stand is an aggregate.
 pub fn is_domain_built(domain: &Domain) -> bool
     ensures { result ≡ is_domain_built domain.now }
 {
@@ -65,21 +94,55 @@ fn has_ends(range: &Range) -> bool
     ends_in(true, zero(), zero(), range).is_some()
 }
 
-/// Whether a scale is built: it is linear, or it is a band or a point scale whose domain is built, and its range is the width, the height
-/// or two numbers.
+// Whether a range is one of entries.
+#[tactic(auto, using(crate::proofs::ScaleLemmas::entries_or_none))]
+fn has_entries(range: &Range) -> bool
+    ensures { result ≡ has_entries range.now }
+{
+    match range {
+        Range::Cells(cells) => !cells.is_empty(),
+        Range::Category | Range::Ramp | Range::Symbol => true,
+        Range::Width | Range::Height => false,
+    }
+}
+
+// Whether a range is the one of a ramp.
+fn is_ramp(range: &Range) -> bool
+    ensures { result ≡ is_ramp range.now }
+{
+    match range {
+        Range::Ramp => true,
+        Range::Cells(_) | Range::Width | Range::Height | Range::Category | Range::Symbol => false,
+    }
+}
+
+// Whether scales of a kind may have a range.
+fn fits_range(kind: u16, range: &Range) -> bool
+    ensures { result ≡ fits_range kind range.now }
+{
+    if kind == LINEAR || kind == TIME {
+        is_ramp(range) || has_ends(range)
+    } else if kind == BAND || kind == POINT {
+        has_ends(range)
+    } else {
+        kind == ORDINAL && has_entries(range)
+    }
+}
+
+/// Whether a scale is built. A linear or a time scale has the width, the height, two numbers or a ramp as its range, a band or a point
+/// scale one of the first three, and an ordinal scale a list with entries or one of the ranges of colours and signs; and the domain of a
+/// discrete scale is built.
 pub fn is_built(scale: &vega_spec::Scale) -> bool
     ensures { result ≡ is_built scale.now }
 {
-    let is_kind_built = scale.type_ == LINEAR
-        || ((scale.type_ == BAND || scale.type_ == POINT) && is_domain_built(&scale.domain));
-    is_kind_built && has_ends(&scale.range)
+    fits_range(scale.type_, &scale.range) && (!is_discrete(scale) || is_domain_built(&scale.domain))
 }
 
 // The ends of the range of a scale.
 #[tactic(auto, using(crate::proofs::ScaleLemmas::ends_of_kept))]
 fn ends_of(scale: &vega_spec::Scale, width: Num, height: Num) -> (Num, Num)
     ensures value { result ≡ ends_of scale.now width height }
-    ensures kept { KeepsBounds scale.now → IsPixel width → IsPixel height → IsRange result }
+    ensures kept { KeepsBounds scale.now → IsPixel width → IsPixel height → is_ordinal scale.now ≡ false → IsRange result }
 {
     let ends = ends_in(is_discrete(scale), width, height, &scale.range);
     turned(is_set(scale.reverse), ends.unwrap_or((zero(), zero())))
@@ -87,8 +150,8 @@ fn ends_of(scale: &vega_spec::Scale, width: Num, height: Num) -> (Num, Num)
 
 // A band or a point for each cell.
 #[tactic(auto, using(crate::proofs::ScaleLemmas::padding_kept))]
-fn over_cells(scale: &vega_spec::Scale, ends: (Num, Num), cells: Seq<Cell>) -> Scale
-    ensures value { result ≡ over_cells scale.now ends cells }
+fn banded(scale: &vega_spec::Scale, ends: (Num, Num), cells: Seq<Cell>) -> Scale
+    ensures value { result ≡ banded scale.now ends cells }
     ensures kept { KeepsBounds scale.now → IsRange ends → IsScale result }
 {
     let outer = padding_of(scale.padding_outer, scale.padding);
@@ -110,8 +173,42 @@ fn over_cells(scale: &vega_spec::Scale, ends: (Num, Num), cells: Seq<Cell>) -> S
     }
 }
 
-// A discrete scale.
-fn discrete_scale<P: ParamReader>(
+// An entry of the range for each cell.
+#[tactic(auto, using(crate::proofs::ScaleLemmas::entries_there))]
+fn ordinal_over(
+    alloc: Global,
+    scale: &vega_spec::Scale,
+    cells: Seq<Cell>,
+) -> Result<Scale, OutOfMemory>
+    ensures value { IfOk result (λ made. made ≡ ordinal_over scale.now cells) }
+    ensures kept { IsTrue (has_entries scale.now.range) → IfOk result IsScale }
+{
+    let range = entries_of(alloc, &scale.range, cells.len())?;
+    Ok(Scale::Ordinal {
+        domain: cells,
+        range,
+    })
+}
+
+// An ordinal scale.
+fn ordinal_scale<P: ParamReader>(
+    alloc: Global,
+    scale: &vega_spec::Scale,
+    sources: &[Named],
+    lists: &Lists,
+    params: &P,
+) -> Result<Scale, EvalError>
+    requires { AreLists sources.now lists.now }
+    ensures value { Evaluates result (option_map (ordinal_over scale.now)
+        (cells_of_scale (P.values params.now) (scope_in sources.now lists.now) scale.now)) }
+    ensures kept { IsTrue (has_entries scale.now.range) → IfOk result IsScale }
+{
+    let cells = discrete_domain(alloc, &scale.domain, sources, lists, params)?;
+    Ok(ordinal_over(alloc, scale, cells)?)
+}
+
+// A band or a point scale.
+fn banded_scale<P: ParamReader>(
     alloc: Global,
     scale: &vega_spec::Scale,
     sources: &[Named],
@@ -119,14 +216,36 @@ fn discrete_scale<P: ParamReader>(
     ends: (Num, Num),
     params: &P,
 ) -> Result<Scale, EvalError>
-    requires lists { AreLists sources.now lists.now }
-    requires built { IsTrue (is_domain_built scale.now.domain) }
-    ensures value { Evaluates result (option_map (over_cells scale.now ends)
+    requires { AreLists sources.now lists.now }
+    ensures value { Evaluates result (option_map (banded scale.now ends)
         (cells_of_scale (P.values params.now) (scope_in sources.now lists.now) scale.now)) }
     ensures kept { KeepsBounds scale.now → IsRange ends → IfOk result IsScale }
 {
     let cells = discrete_domain(alloc, &scale.domain, sources, lists, params)?;
-    Ok(over_cells(scale, ends, cells))
+    Ok(banded(scale, ends, cells))
+}
+
+// The numbers or the instants of a domain, laid over a range of places or over the colours of a ramp.
+fn over_numbers(scale: &vega_spec::Scale, ends: (Num, Num), d0: Num, d1: Num) -> Scale
+    requires ordered { d0 ≤ℤ d1 }
+    requires in_time { IsTrue (is_time scale.now) → AreInstants (d0, d1) }
+    ensures value { result ≡ over_numbers scale.now ends (d0, d1) }
+    ensures kept { IsRange ends → IsScale result }
+{
+    let (r0, r1) = ends;
+    if is_ramp(&scale.range) {
+        Scale::Ramp {
+            time: is_time(scale),
+            d0,
+            d1,
+            from: color_from(is_set(scale.reverse)),
+            to: color_to(is_set(scale.reverse)),
+        }
+    } else if is_time(scale) {
+        Scale::Time { d0, d1, r0, r1 }
+    } else {
+        Scale::Linear { d0, d1, r0, r1 }
+    }
 }
 
 // A continuous scale.
@@ -139,21 +258,17 @@ fn continuous_scale<P: ParamReader>(
     params: &P,
 ) -> Result<Scale, EvalError>
     requires { AreLists sources.now lists.now }
-    ensures value { Evaluates result (option_map (over_numbers ends)
+    ensures value { Evaluates result (option_map (over_numbers scale.now ends)
         (numbers_of_scale (P.values params.now) (scope_in sources.now lists.now) scale.now)) }
     ensures kept { IsRange ends → IfOk result IsScale }
 {
     let (d0, d1) = continuous_domain(alloc, scale, sources, lists, params)?;
-    Ok(Scale::Linear {
-        d0,
-        d1,
-        r0: ends.0,
-        r1: ends.1,
-    })
+    Ok(over_numbers(scale, ends, d0, d1))
 }
 
 /// The scale of a specification in a plot of this width and height, from the lists of rows. `Overflow` comes exactly where an expression
-/// that its domain needs overflows, or its domain is widened out of range.
+/// that its domain needs overflows, or a sum by which the cells of its domain stand, or its domain is widened out of range.
+#[tactic(auto, using(crate::proofs::ScaleLemmas::entries_fit))]
 pub fn scale_of<P: ParamReader>(
     alloc: Global,
     scale: &vega_spec::Scale,
@@ -169,16 +284,19 @@ pub fn scale_of<P: ParamReader>(
     // What callers of a scale ask of it holds where its numbers are those that specifications may have.
     ensures kept { KeepsBounds scale.now → IsPixel width → IsPixel height → IfOk result IsScale }
 {
+    if is_ordinal(scale) {
+        return ordinal_scale(alloc, scale, sources, lists, params);
+    }
     let ends = ends_of(scale, width, height);
     if is_discrete(scale) {
-        discrete_scale(alloc, scale, sources, lists, ends, params)
+        banded_scale(alloc, scale, sources, lists, ends, params)
     } else {
         continuous_scale(alloc, scale, sources, lists, ends, params)
     }
 }
 
-/// How long the domain of a scale is: as many cells as a discrete one has, and 2 otherwise. The domain of a discrete scale has no order
-/// by an operation. `Overflow` comes exactly where the expression of a discrete scale's domain overflows.
+/// How long the domain of a scale is: as many cells as a discrete one has, and 2 otherwise. `Overflow` comes exactly where the
+/// expression of a discrete scale's domain overflows, or a sum by which its cells stand.
 pub fn domain_length<P: ParamReader>(
     alloc: Global,
     scale: &vega_spec::Scale,

@@ -1,7 +1,7 @@
 use Rattle.std.proofs.Common.{refl}
-use Rattle.chart_tool.specs.declared.stop.Stop.TheVariants as stop
-use Rattle.chart_tool.specs.Ends.{Done, Words, ReadFault, WriteFault, NoMemory, LongScript}
-use Rattle.chart_tool.proofs.Ended.{end_so, end_done}
+use Rattle.chart_run.specs.declared.stop.Stop.TheVariants as stop
+use Rattle.chart_run.specs.Ends.{Done, Words, ReadFault, WriteFault, NoMemory, LongScript}
+use Rattle.chart_run.proofs.Ended.{end_so, end_done}
 use Rattle.chart_tool.proofs.tool.ended.Goals as goal
 
 pub returns-in-Ok-clause-ended : goal.returns-in-Ok-clause-ended

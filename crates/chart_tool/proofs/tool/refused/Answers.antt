@@ -1,5 +1,5 @@
 use Rattle.std.proofs.Common.{rules, refl, inl, inr, ◌∙◌}
-use Rattle.chart_tool.specs.Ends.{Refused, NoMemory, end_note, IsNoted}
+use Rattle.chart_run.specs.Ends.{Refused, NoMemory, end_note, IsNoted}
 use Rattle.chart_tool.proofs.tool.refused.Goals as goal
 
 pub returns-in-Ok-clause-ended : goal.returns-in-Ok-clause-ended

@@ -4,8 +4,8 @@ use Rattle.chart_opening.specs.declared.refusal.Refusal.{Refusal}
 use Rattle.chart_opening.specs.declared.refusal.Refusal.TheVariants as refusal
 use Rattle.chart_opening.specs.inner.Reading.{the_reading}
 use Rattle.chart_opening.proofs.JsonLemmas.{right}
-use Rattle.chart_tool.specs.Refusals.{refusal_status}
-use Rattle.chart_tool.specs.Ends.{End, Done, Words, Refused, ReadFault, WriteFault, NoMemory, LongScript, end_status}
+use Rattle.chart_run.specs.Refusals.{refusal_status}
+use Rattle.chart_run.specs.Ends.{End, Done, Words, Refused, ReadFault, WriteFault, NoMemory, LongScript, end_status}
 use Rattle.chart_tool.proofs.tool.tests.scripts.sure.Goals as goal
 
 -- a status of a run that no fault ended

@@ -1,0 +1,15 @@
+-- What a run does, by its answer. No public clause cites this.
+use Rattle.std.specs.Prelude.{ℕ, Option, List, Result, OnOk}
+use Rattle.chart_io.specs.Outside.{Files, Appended, AppendedPrefix}
+use Rattle.chart_opening.specs.inner.Reading.{the_reading}
+use Rattle.chart_run.specs.declared.stop.Stop.{Stop}
+use Rattle.chart_run.specs.Words.{Ask}
+use Rattle.chart_run.specs.Wanted.{IsWanted}
+
+-- there is a text that is wanted, a beginning of it was appended, and all of it with Ok
+pub record IsTexted (ask : Ask) (files : Files) (script : List ℕ) (result : Result (Unit {0}) Stop)
+    (out out_now : Option (List ℕ)) : Type 0 where
+  pub text : List ℕ
+  pub wanted : IsWanted the_reading ask files script text
+  pub begun : AppendedPrefix out out_now text
+  pub whole : OnOk result (Appended out out_now text)

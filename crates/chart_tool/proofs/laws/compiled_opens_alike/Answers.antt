@@ -1,7 +1,0 @@
-use Rattle.first_form.proofs.BarPlots.{bars_are_plots}
-use Rattle.chart_opening.proofs.FormOpenings.{form_opens}
-use Rattle.chart_tool.proofs.Alike.{compiled_opens_alike}
-use Rattle.chart_tool.proofs.laws.compiled_opens_alike.Goals as goal
-
-pub returns : goal.returns
-returns c = compiled_opens_alike form_opens bars_are_plots

@@ -1,0 +1,4 @@
+pub mod HalfLemmas
+pub mod EachLemmas
+pub mod SymbolLemmas
+pub mod CutLemmas

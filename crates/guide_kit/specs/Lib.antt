@@ -1,0 +1,9 @@
+pub mod Answers
+pub mod Measures
+pub mod Items
+pub mod Ticks
+pub mod Sides
+pub mod Axes
+pub mod Signs
+pub mod Legends
+pub mod Titles

@@ -1,0 +1,4 @@
+pub mod Widths
+pub mod Formats
+pub mod Numbers
+pub mod Labels

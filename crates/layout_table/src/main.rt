@@ -1,0 +1,138 @@
+//! A table of trees of boxes, each with its layout: the places of the plots, the width and the height, a tab, and the tree. A box is
+//! its six numbers with commas; a grid is its cells between brackets, and then its columns, its spacing and whether it has a title. It
+//! writes each line whose tree has another layout, and how many lines there were. `bench/layout_table.py` writes the table.
+#![tactic(auto)]
+
+use fixed_num::Num;
+use std::alloc::Global;
+use std::io;
+use text_kit::{OutOfMemory, Seq, Text};
+use view_layout::{BoxOf, BoxTree, Laid, lay_out};
+
+// The number of a decimal.
+fn number_by(decimal: &str) -> Option<Num> {
+    Num::read_decimal(decimal.as_bytes()).ok()
+}
+
+// The box of six decimals.
+fn box_by(word: &str) -> Option<BoxOf> {
+    let mut parts = word.split(',');
+    let left = number_by(parts.next()?)?;
+    let top = number_by(parts.next()?)?;
+    let width = number_by(parts.next()?)?;
+    let height = number_by(parts.next()?)?;
+    let right = number_by(parts.next()?)?;
+    let bottom = number_by(parts.next()?)?;
+    Some(BoxOf {
+        left,
+        top,
+        width,
+        height,
+        right,
+        bottom,
+    })
+}
+
+// The columns, the spacing and the title of a grid.
+fn grid_by(word: &str) -> Option<(u64, Num, bool)> {
+    let mut parts = word.split(',');
+    let columns = parts.next()?.parse::<u64>().ok()?;
+    let spacing = number_by(parts.next()?)?;
+    Some((columns, spacing, parts.next()? == "title"))
+}
+
+// The grid that ends with a word.
+fn grid_of(word: &str, cells: Seq<BoxTree>) -> Option<BoxTree> {
+    let (columns, spacing, title) = grid_by(word)?;
+    Some(BoxTree::Grid {
+        columns,
+        spacing,
+        title,
+        cells,
+    })
+}
+
+// The box or the grid that ends with a word; a grid takes the cells that were opened last.
+fn ended_by(word: &str, open: &mut Seq<Seq<BoxTree>>) -> Option<BoxTree> {
+    match word.strip_prefix(")") {
+        Some(grid) => grid_of(grid, open.pop()?),
+        None => Some(BoxTree::Leaf(box_by(word)?)),
+    }
+}
+
+// Adds a tree to the cells that were opened last.
+fn add(tree: BoxTree, open: &mut Seq<Seq<BoxTree>>) -> Result<(), OutOfMemory> {
+    if let Some(mut cells) = open.pop() {
+        cells.push(tree)?;
+        open.push(cells)?;
+    }
+    Ok(())
+}
+
+// Takes a word of a tree.
+fn take_word(alloc: Global, word: &str, open: &mut Seq<Seq<BoxTree>>) -> Result<(), OutOfMemory> {
+    if word == "(" {
+        return open.push(Seq::new(alloc));
+    }
+    match ended_by(word, open) {
+        Some(tree) => add(tree, open),
+        None => Ok(()),
+    }
+}
+
+// The tree of a text; None where it is none.
+fn tree_by(alloc: Global, text: &str) -> Result<Option<BoxTree>, OutOfMemory> {
+    let mut open = Seq::new(alloc);
+    open.push(Seq::new(alloc))?;
+    for word in text.split(' ') {
+        take_word(alloc, word, &mut open)?;
+    }
+    match open.pop() {
+        Some(mut trees) => Ok(trees.pop()),
+        None => Ok(None),
+    }
+}
+
+// Adds a number.
+fn say(text: &mut Text, number: Num) -> Result<(), OutOfMemory> {
+    text.push_str(number.decimal().as_str())?;
+    text.push_str(" ")
+}
+
+// How a layout is spelled.
+fn said(alloc: Global, laid: &Laid) -> Result<Text, OutOfMemory> {
+    let mut text = Text::new(alloc);
+    for place in laid.places.as_slice() {
+        say(&mut text, place.0)?;
+        say(&mut text, place.1)?;
+    }
+    text.push_str("| ")?;
+    say(&mut text, laid.width)?;
+    say(&mut text, laid.height)?;
+    Ok(text)
+}
+
+// What is found for a tree.
+fn found(alloc: Global, text: &str) -> Result<Text, OutOfMemory> {
+    match tree_by(alloc, text)? {
+        Some(tree) => said(alloc, &lay_out(alloc, &tree)?),
+        None => Text::of(alloc, "no tree"),
+    }
+}
+
+fn main(rt: HostRuntime) -> io::Result<()> {
+    let alloc = rt.alloc();
+    let mut count: u64 = 0;
+    for line in rt.lines(alloc) {
+        let line = line?;
+        count = count.saturating_add(1);
+        if let Some((expected, tree)) = line.as_str().split_once('\t') {
+            match found(alloc, tree) {
+                Ok(answer) if answer.as_str() == expected => {}
+                Ok(answer) => println!(rt; "{} at {line}", answer.as_str())?,
+                Err(_) => println!(rt; "no memory at {line}")?,
+            }
+        }
+    }
+    println!(rt; "{count} lines")
+}

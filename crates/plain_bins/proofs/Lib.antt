@@ -1,0 +1,4 @@
+pub mod ExtentLemmas
+pub mod StepLemmas
+pub mod BinLemmas
+pub mod BinnedLemmas

@@ -1,0 +1,6 @@
+mod SortLemmas
+mod EntryLemmas
+mod RankLemmas
+pub mod OrderLemmas
+mod KeyOrder
+mod PartitionLemmas

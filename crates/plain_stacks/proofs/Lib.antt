@@ -1,0 +1,3 @@
+mod SumLemmas
+mod StackLemmas
+mod RowLemmas

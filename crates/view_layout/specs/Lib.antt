@@ -1,0 +1,4 @@
+pub mod Lengths
+pub mod Grid
+pub mod Layout
+pub mod inner

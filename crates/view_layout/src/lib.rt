@@ -1,0 +1,13 @@
+//! Layout: where plots stand that are put side by side and one below the other in grids, grids in grids among them, and how large the
+//! whole is. Lengths are in pixels, and each sum of lengths is cut at 10^15.
+#![tactic(auto)]
+
+mod boxes;
+mod grid;
+mod layout;
+mod lengths;
+mod plan;
+mod spans;
+
+pub use boxes::{BoxOf, BoxTree, Laid};
+pub use layout::lay_out;
