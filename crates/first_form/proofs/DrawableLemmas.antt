@@ -25,7 +25,7 @@ use Rattle.tick_kit.specs.Domains.{placed_in, ascending, least, greatest, extent
 use Rattle.tick_kit.specs.Steps.{nice_of}
 use Rattle.scale_kit.specs.Bands.{width_of_band}
 use Rattle.scale_kit.specs.Places.{place_of, base_of}
-use Rattle.vega_plots.specs.Plots.{scene_with}
+use Rattle.vega_guides.specs.Plots.{plain_scene}
 use Rattle.first_form.specs.declared.form.FirstForm.{FirstForm}
 use Rattle.first_form.specs.declared.form.Value.{Value}
 use Rattle.first_form.specs.Bars.{with_ids, Reading, reading_of, readings_of, amounts_of, categories_of, pixels, default_color}
@@ -222,14 +222,14 @@ bars_drawn domain n (r ∷ rs) all =
 abbrev pub scene_with_bars : List Reading → ℤ × ℤ → Option Scene
 scene_with_bars rs domain =
     all_found (map (bar_of (x_scale (categories_of rs)) domain) rs) >>= (λ bars.
-    Some (scene_with (pixels 5) (plot_width (length (categories_of rs))) plot_height (Some 0) (filter_map (λ bar. bar) bars)))
+    Some (plain_scene (pixels 5) (plot_width (length (categories_of rs))) plot_height (Some 0) (filter_map (λ bar. bar) bars)))
 
 scene_drawn : (rs : List Reading) → IsScene rs → (scene : Scene) × (scene_of rs ≡ Some scene)
 scene_drawn rs is =
     let bars = bars_drawn (categories_of rs) is.end rs is.bars in (
-      scene_with (pixels 5) (plot_width (length (categories_of rs))) plot_height (Some 0) (filter_map (λ bar. bar) bars.0),
+      plain_scene (pixels 5) (plot_width (length (categories_of rs))) plot_height (Some 0) (filter_map (λ bar. bar) bars.0),
       ap (λ o. o >>= scene_with_bars rs) is.domain
-          ∙ ap (λ o. o >>= (λ bars. Some (scene_with (pixels 5) (plot_width (length (categories_of rs))) plot_height (Some 0)
+          ∙ ap (λ o. o >>= (λ bars. Some (plain_scene (pixels 5) (plot_width (length (categories_of rs))) plot_height (Some 0)
           (filter_map (λ bar. bar) bars)))) bars.1,
     )
 

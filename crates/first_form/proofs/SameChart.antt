@@ -1,5 +1,5 @@
 -- Why the Vega chart of a form in its opening state is the form's chart.
-use Rattle.std.proofs.Common.{◌≡◌, ◌≢◌, ◌≤◌, ◌*◌, ℕ, ℤ, pos, ◌*ℤ◌, ◌+ℤ◌, ◌-ℤ◌, Bool, true, false, if◌then◌else◌, List, [], ◌∷◌, ◌++◌}
+use Rattle.std.proofs.Common.{◌≡◌, ◌≢◌, ◌≤◌, ◌*◌, ◌^◌, ℕ, ℤ, pos, negsuc, ◌*ℤ◌, ◌+ℤ◌, ◌-ℤ◌, ◌≤ℤ◌, int_lt, Bool, true, false, if◌then◌else◌, List, [], ◌∷◌, ◌++◌}
 use Rattle.std.proofs.Common.{map, length, Option, Some, None, refl, sym}
 use Rattle.std.proofs.Common.{ap, ◌∙◌, arith, unsigned_abs, codes}
 use Rattle.std.specs.Prelude.{unwrap_or}
@@ -15,7 +15,10 @@ use Rattle.std.proofs.lemmas.List.Elements.{All-head, All-tail}
 use Rattle.std.proofs.lemmas.Slice.Eq.{bytes_eq-Decides}
 use Rattle.fixed_num.specs.Number.{million, IsNumber, rounded}
 use Rattle.fixed_num.specs.Ranges.{◌>>=◌, in_range, all_found}
-use Rattle.fixed_num.specs.Bands.{space_of}
+use Rattle.fixed_num.specs.Bands.{space_of, steps_of}
+use Rattle.std.specs.Ordering.{int_eq}
+use Rattle.std.proofs.lemmas.Bool.{cond_both, false≢true}
+use Rattle.scale_kit.specs.Scale.{IsPixel}
 use Rattle.cell_value.specs.declared.cell.Cell.{Cell}
 use Rattle.cell_value.specs.declared.cell.Cell.TheVariants.{Null, Number, Text}
 use Rattle.cell_value.specs.declared.state.Key.{Key}
@@ -65,7 +68,9 @@ use Rattle.mark_encode.specs.Spans.{span_of}
 use Rattle.mark_encode.specs.Items.{rect_over, item_with, item_for, items_for}
 use Rattle.vega_plots.specs.Parameters.{values_with}
 use Rattle.vega_plots.specs.Sizes.{size_in, size_of, padding_round}
-use Rattle.vega_plots.specs.Plots.{data_of, scales_in, marks_in, lengths_of, scale_set, rows_from, items_of_marks, first_unit, scene_with}
+use Rattle.vega_plots.specs.Plots.{data_of, scales_in, marks_in, lengths_of, scale_set, rows_from, items_of_marks, first_unit}
+use Rattle.vega_guides.specs.Plots.{plain_scene, scene_of as guided_scene}
+use Rattle.vega_guides.proofs.BareLaw.{law as bare_law}
 use Rattle.first_form.specs.declared.form.FirstForm.{FirstForm}
 use Rattle.first_form.specs.declared.form.Value.{Value}
 use Rattle.first_form.specs.Bars.{with_ids, Reading, category_of, amount_of, reading_of, readings_of, amounts_of, categories_of, pixels}
@@ -290,7 +295,7 @@ scene_in g top scope =
     size_of (values_with [] lengths) g.height >>= (λ height.
     scale_set no_params scope width height (scales_in top) >>= (λ scales.
     items_of_marks no_params scope scales 0 (marks_in top) >>= (λ items.
-    Some (scene_with (padding_round g.padding) width height (first_unit (marks_in top)) items))))))
+    guided_scene top scales (padding_round g.padding) width height (first_unit (marks_in top)) items)))))
 
 -- the scene of an object over sources
 abbrev plot_in : VgSpec → List Dataset → Group-F Group VgMark → Option Scene
@@ -307,9 +312,12 @@ module _ (form : FirstForm) where
   abbrev lengths : List Datum → List (List ℕ × ℕ)
   lengths rows = (codes "x", length (cells_along rows)) ∷ (codes "y", 2) ∷ []
 
-  abbrev with_items : ℤ → Option (List Item) → Option Scene
-  with_items width items =
-      (items >>= (λ own. Some (own ++ []))) >>= (λ items. Some (scene_with (pixels 5) width plot_height (Some 0) items))
+  -- the scene of the bars over some scales, round these items
+  abbrev guided : ScaleSet → ℤ → List Item → Option Scene
+  guided scales width items = guided_scene (bars_parts form) scales (pixels 5) width plot_height (Some 0) items
+
+  abbrev with_items : ScaleSet → ℤ → Option (List Item) → Option Scene
+  with_items scales width items = (items >>= (λ own. Some (own ++ []))) >>= guided scales width
 
   abbrev items_over : List Datum → ScaleSet → Option (List Item)
   items_over rows scales = items_for mark.Rect 0 (channel_values scales (Some (encode_of form))) no_params rows
@@ -317,7 +325,7 @@ module _ (form : FirstForm) where
   abbrev with_width : List Datum → ℤ → Option Scene
   with_width rows width =
       scale_set no_params (λ name. rows) width plot_height (x_scale_of form ∷ y_scale_of form ∷ []) >>= (λ scales.
-      with_items width (items_over rows scales))
+      with_items scales width (items_over rows scales))
 
   abbrev rows_scene : List Datum → Option Scene
   rows_scene rows = size_of (values_with [] (lengths rows)) (Some (size.Signal width_expr)) >>= with_width rows
@@ -326,7 +334,7 @@ module _ (form : FirstForm) where
   scene_opened scope = λ i.
       size_of (values_with [] (lengths (scope form.name))) (Some (size.Signal width_expr)) >>= (λ width.
       scale_set no_params scope width plot_height (x_scale_of form ∷ y_scale_of form ∷ []) >>= (λ scales.
-      with_items width (items_for (opened_mark form i).type_ 0 (channel_values scales (opened_mark form i).encode) no_params
+      with_items scales width (items_for (opened_mark form i).type_ 0 (channel_values scales (opened_mark form i).encode) no_params
       (rows_from scope (opened_mark form i).from))))
 
   -- the name stands for the rows of the one source
@@ -348,13 +356,13 @@ module _ (form : FirstForm) where
 
   scales_known : (rows : List Datum) (width : ℤ) (d : ℤ × ℤ)
       → nice_of 10 (with_zero (extent_of (numbers_among (cells_under form.y rows)))) ≡ Some d
-      → with_width rows width ≡ with_items width (items_over rows (scales_over (cells_along rows) width d))
+      → with_width rows width ≡ with_items (scales_over (cells_along rows) width d) width (items_over rows (scales_over (cells_along rows) width d))
   scales_known rows width d e =
       ap (λ o. option_map (λ made. record { scales = made }) (all_found (
       Some (record { panel = None; name = codes "x"; scale = Band (cells_along rows) inner_padding outer_padding (pos 0) width })
       ∷ option_map (λ made. record { panel = None; name = codes "y"; scale = made })
       (option_map (over_numbers (y_scale_of form) (plot_height, pos 0)) o) ∷ []))
-      >>= (λ scales. with_items width (items_over rows scales))) e
+      >>= (λ scales. with_items scales width (items_over rows scales))) e
 
   items_known : (cells : List Cell) (n : ℕ) (few : length cells ≤ 1000) → form.x ≢ form.y → (vs : List (ℕ × Value))
       → All (IsBar cells n) (map (reading_of form.x form.y) vs)
@@ -371,10 +379,35 @@ module _ (form : FirstForm) where
       λ i. first i ∷ rest i
 
 -- what is kept of a list is a list
-kept : {A B C : Type 0} (f : A → List B) (g : List B → C) (o : Option A)
-    → ((option_map f o >>= (λ own. Some (own ++ []))) >>= (λ items. Some (g items))) ≡ (o >>= (λ a. Some (g (f a))))
-kept f g None = refl
-kept f g (Some a) = ap (λ items. Some (g items)) (append-nil (f a))
+kept : {A B C : Type 0} (f : A → List B) (h : List B → Option C) (g : List B → C) → ((bs : List B) → h bs ≡ Some (g bs)) → (o : Option A)
+    → ((option_map f o >>= (λ own. Some (own ++ []))) >>= h) ≡ (o >>= (λ a. Some (g (f a))))
+kept f h g is None = refl
+kept f h g is (Some a) = ap h (append-nil (f a)) ∙ is (f a)
+
+-- a number above 0, twenty times
+twenty_times : (s : ℤ) → int_lt (pos 0) s ≡ true → pos 0 ≤ℤ (pos 20 *ℤ s)
+twenty_times (pos n) e = omega (arith, ints)
+twenty_times (negsuc n) e = absurd (false≢true e)
+
+-- the space of bands is not below 0
+space_above : (n : ℕ) → pos 0 ≤ℤ (pos 20 *ℤ space_of (pos (n * million)) inner_padding outer_padding)
+space_above n =
+    let steps = steps_of (pos (n * million)) inner_padding outer_padding in
+    cond_both (int_eq (pos (n * million)) (pos 0)) (pos 0) (if int_lt (pos 0) steps then steps else pos million)
+    (λ (x : ℤ). pos 0 ≤ℤ (pos 20 *ℤ x)) (λ _. omega (arith, ints))
+    (λ _. cond_both (int_lt (pos 0) steps) steps (pos million) (λ (x : ℤ). pos 0 ≤ℤ (pos 20 *ℤ x)) (twenty_times steps)
+    (λ _. omega (arith, ints)))
+
+-- the width of a plot is from 0 to 10^11 pixels
+cut_width : (w : ℤ) → pos 0 ≤ℤ w → IsPixel (int_min w (pos (10 ^ 11 * million)))
+cut_width w above = omega (arith, ints, clamps, above)
+
+-- the bars have no axes, legends and title
+bare : (form : FirstForm) (scales : ScaleSet) (width : ℤ) → IsPixel width → (items : List Item)
+    → guided form scales width items ≡ Some (plain_scene (pixels 5) width plot_height (Some 0) items)
+bare form scales width pixel items =
+    bare_law (bars_parts form) scales (pixels 5) width plot_height (Some 0) items refl (omega (arith, ints), omega (arith, ints)) pixel
+    (omega (arith, ints), omega (arith, ints))
 
 same_scene : (form : FirstForm) → IsDrawable form
     → rows_scene form (map datum_of (map (value_row form.x form.y) (with_ids 1 form.values))) ≡ scene_of (readings_of form)
@@ -391,13 +424,16 @@ same_scene form drawable =
     let nice : nice_of 10 (with_zero (extent_of (numbers_among (cells_under form form.y rows)))) ≡ Some (pos 0, pos known.end) =
     ap (λ ns. nice_of 10 (with_zero (extent_of ns)))
     (ap numbers_among (append-nil (column_of form.y rows)) ∙ amounts form.x form.y drawable.apart vs) ∙ known.domain in
+    let scales = scales_over cells (plot_width (length cells)) (pos 0, pos known.end) in
+    let wide_enough : IsPixel (plot_width (length cells)) = cut_width _ (space_above (length cells)) in
     ap (λ o. o >>= with_width form rows) wide
     ∙ scales_known form rows (plot_width (length cells)) (pos 0, pos known.end) nice
-    ∙ ap (λ c. with_items form (plot_width (length cells))
+    ∙ ap (λ c. with_items form (scales_over c (plot_width (length cells)) (pos 0, pos known.end)) (plot_width (length cells))
     (items_over form rows (scales_over c (plot_width (length cells)) (pos 0, pos known.end)))) along
-    ∙ ap (λ bars. with_items form (plot_width (length cells)) (option_map (filter_map (λ found. found)) (all_found bars)))
+    ∙ ap (λ bars. with_items form scales (plot_width (length cells)) (option_map (filter_map (λ found. found)) (all_found bars)))
     (items_known form cells known.end known.few drawable.apart vs known.bars)
-    ∙ kept (filter_map (λ found. found)) (scene_with (pixels 5) (plot_width (length cells)) plot_height (Some 0))
+    ∙ kept (filter_map (λ found. found)) (guided form scales (plot_width (length cells)))
+    (plain_scene (pixels 5) (plot_width (length cells)) plot_height (Some 0)) (bare form scales (plot_width (length cells)) wide_enough)
     (all_found (map (bar_of (x_scale cells) (pos 0, pos known.end)) rs))
     ∙ sym (ap (λ o. o >>= scene_with_bars rs) known.domain)
 

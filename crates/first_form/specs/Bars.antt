@@ -23,7 +23,7 @@ use Rattle.scene_tree.specs.declared.scene.Item.{Item}
 use Rattle.scene_tree.specs.declared.shape.Shape.TheVariants.{Rect}
 use Rattle.scene_tree.specs.Outcome.{Outcome, outcome_map, in_reach}
 use Rattle.svg_text.specs.SceneText.{svg_of}
-use Rattle.vega_plots.specs.Plots.{scene_with}
+use Rattle.vega_guides.specs.Plots.{plain_scene}
 use Rattle.first_form.specs.declared.form.FirstForm.{FirstForm}
 use Rattle.first_form.specs.declared.form.Value.{Value}
 
@@ -130,7 +130,7 @@ abbrev pub scene_of : List Reading → Option Scene
 scene_of readings = do
   domain ← y_domain (amounts_of readings)
   bars ← all_found (map (bar_of (x_scale (categories_of readings)) domain) readings)
-  Some (scene_with (pixels 5) (plot_width (length (categories_of readings))) plot_height (Some 0) (filter_map (λ bar. bar) bars))
+  Some (plain_scene (pixels 5) (plot_width (length (categories_of readings))) plot_height (Some 0) (filter_map (λ bar. bar) bars))
 
 -- the chart of the first form, as its SVG text
 abbrev pub chart_of : FirstForm → Outcome (List ℕ)

@@ -181,7 +181,7 @@ fn answer_by(alloc: Global, w: &[&str]) -> Result<Text, OutOfMemory> {
 }
 
 /// The answer to a question: what is asked, the kind, the numbers, the domain and the range of a scale, and then what its guide shows.
-pub fn answer_to(alloc: Global, question: &str) -> Result<Text, OutOfMemory> {
+pub(crate) fn answer_to(alloc: Global, question: &str) -> Result<Text, OutOfMemory> {
     let mut words = Seq::new(alloc);
     for word in question.split('\t') {
         words.push(word)?;

@@ -6,7 +6,7 @@ use std::alloc::Global;
 use text_kit::{OutOfMemory, Seq, Text};
 
 /// The number of a decimal.
-pub fn number_by(decimal: &str) -> Option<Num> {
+pub(crate) fn number_by(decimal: &str) -> Option<Num> {
     Num::read_decimal(decimal.as_bytes()).ok()
 }
 
@@ -47,7 +47,7 @@ fn pair_of(words: &str) -> Cell {
 }
 
 /// The cells of words with commas between them.
-pub fn cells_of(alloc: Global, words: &str) -> Result<Seq<Cell>, OutOfMemory> {
+pub(crate) fn cells_of(alloc: Global, words: &str) -> Result<Seq<Cell>, OutOfMemory> {
     let mut cells = Seq::new(alloc);
     if words.is_empty() {
         return Ok(cells);
@@ -134,7 +134,7 @@ fn discrete(kind: &str, n: &[Num], domain: Seq<Cell>, range: Seq<Cell>) -> Optio
 }
 
 /// The scale of a kind, by numbers, the cells of its domain and those of its range.
-pub fn scale_of(
+pub(crate) fn scale_of(
     alloc: Global,
     kind: &str,
     numbers: &str,

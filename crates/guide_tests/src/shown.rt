@@ -136,7 +136,7 @@ fn push_items(alloc: Global, out: &mut Text, items: &[Item]) -> Result<(), OutOf
 }
 
 /// An axis in words.
-pub fn said_of_axis(alloc: Global, guide: &Guide) -> Result<Text, OutOfMemory> {
+pub(crate) fn said_of_axis(alloc: Global, guide: &Guide) -> Result<Text, OutOfMemory> {
     let mut out = Text::new(alloc);
     out.push_str(guide.extent.decimal().as_str())?;
     out.push_str(" grid ")?;
@@ -147,7 +147,7 @@ pub fn said_of_axis(alloc: Global, guide: &Guide) -> Result<Text, OutOfMemory> {
 }
 
 /// A legend in words.
-pub fn said_of_legend(alloc: Global, block: &Block) -> Result<Text, OutOfMemory> {
+pub(crate) fn said_of_legend(alloc: Global, block: &Block) -> Result<Text, OutOfMemory> {
     let mut out = Text::new(alloc);
     out.push_str(block.width.decimal().as_str())?;
     push_numbers(&mut out, &[block.height])?;
@@ -157,7 +157,7 @@ pub fn said_of_legend(alloc: Global, block: &Block) -> Result<Text, OutOfMemory>
 }
 
 /// An item in words.
-pub fn said_of_item(alloc: Global, item: &Item) -> Result<Text, OutOfMemory> {
+pub(crate) fn said_of_item(alloc: Global, item: &Item) -> Result<Text, OutOfMemory> {
     let mut out = Text::new(alloc);
     push_item(alloc, &mut out, item)?;
     Ok(out)

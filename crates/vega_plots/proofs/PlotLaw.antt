@@ -29,6 +29,8 @@ use Rattle.vega_plots.specs.Plots.{data_of, scales_in, marks_in}
 use Rattle.vega_plots.specs.Built.{is_bare, IsBuilt, KeepsRules, IsSizeKept}
 use Rattle.vega_plots.specs.Tested.{is_padding, is_pixel, is_range, is_transform, is_set, has_places, is_scale, is_size, is_space}
 use Rattle.vega_plots.specs.Tested.{is_plot_group, is_one_plot, are_new, is_plot}
+use Rattle.vega_guides.specs.Plots.{has_kept_axes}
+use Rattle.vega_guides.proofs.TestedLaw.{law as axes_law}
 use Rattle.vega_plots.proofs.FitLaw as fit
 use Rattle.vega_plots.proofs.NewNames.{apart}
 
@@ -112,7 +114,8 @@ law g e =
     let parts = both (is_one_plot g) (are_new [] (sources_of g)) e in
     let whole = both (is_plot_group top) _ parts.0 in
     let bare = both (is_bare top) _ whole.0 in
-    let sets = both (list_all is_set (data_of top)) _ bare.1 in
+    let axes = both (has_kept_axes top) _ bare.1 in
+    let sets = both (list_all is_set (data_of top)) _ axes.1 in
     let scales = both (list_all is_scale (scales_in top)) _ sets.1 in
     let marks = both (list_all items.is_built (marks_in top)) _ scales.1 in
     let width = both (is_size g.width) _ whole.1 in
@@ -132,6 +135,7 @@ law g e =
         bounds = each is_scale KeepsBounds kept_bounds (scales_in top) scales.0;
         width = size_kept g.width width.0;
         height = size_kept g.height height.0;
+        axes = axes_law top axes.0;
         apart = apart (sources_of g) parts.1;
         padding_low = kept.0;
         padding_high = kept.1;

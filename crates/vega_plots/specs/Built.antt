@@ -1,4 +1,4 @@
--- Which specifications have a meaning so far: one plot without guides, signals and groups.
+-- Which specifications have a meaning so far: one plot without signals and groups.
 use Rattle.std.specs.Prelude.{◌≢◌, ◌&&◌, Bool, true, false, IsTrue, Option, Some, None, List, [], ◌∷◌, ◌≤ℤ◌, ◌*◌, pos, is_none, unwrap_or}
 use Rattle.std.specs.List.{All, AllPairs, list_all}
 use Rattle.fixed_num.specs.Number.{million}
@@ -16,6 +16,7 @@ use Rattle.scale_kit.specs.Scale.{IsPixel}
 use Rattle.vega_scales.specs.Scales.{KeepsBounds}
 use Rattle.vega_scales.specs.Scales as scaling
 use Rattle.mark_encode.specs.Items as items
+use Rattle.vega_guides.specs.Plots.{HasKeptAxes}
 use Rattle.vega_plots.specs.Plots.{data_of, scales_in, marks_in}
 
 -- whether a list that may be absent has nothing
@@ -24,9 +25,9 @@ is_empty None = true
 is_empty (Some []) = true
 is_empty (Some (x ∷ xs)) = false
 
--- an object without signals, layout, guides and title
+-- an object without signals and layout
 abbrev pub is_bare : Group-F Group VgMark → Bool
-is_bare g = is_empty g.signals && is_none g.layout && is_empty g.axes && is_empty g.legends && is_none g.title
+is_bare g = is_empty g.signals && is_none g.layout
 
 -- a written size is one that specifications may have
 abbrev pub IsSizeKept : Option Size → Type 0
@@ -51,4 +52,5 @@ pub record KeepsRules (g : VgSpec) : Type 0 where
   pub height : IsSizeKept g.height
   pub padding_low : pos 0 ≤ℤ unwrap_or g.padding (pos 0)
   pub padding_high : unwrap_or g.padding (pos 0) ≤ℤ pos (1000 * million)
+  pub axes : HasKeptAxes (out-Group g.group)
   pub apart : AllPairs (λ a b. a ≢ b) (sources_of g)

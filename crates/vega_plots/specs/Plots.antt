@@ -22,7 +22,8 @@ use Rattle.scale_kit.specs.declared.scale.ScaleSet.{ScaleSet}
 use Rattle.vega_scales.specs.Scales.{scale_of, domain_length}
 use Rattle.mark_encode.specs.Items.{items_of}
 use Rattle.vega_plots.specs.Parameters.{values_with}
-use Rattle.vega_plots.specs.Sizes.{size_of, padding_round, with_padding}
+use Rattle.vega_guides.specs.Plots.{scene_of}
+use Rattle.vega_plots.specs.Sizes.{size_of, padding_round}
 
 -- the data sets, the scales and the marks of an object
 abbrev pub data_of : Group-F Group VgMark → List DataSet
@@ -75,16 +76,8 @@ abbrev pub first_unit : List VgMark → Option ℕ
 first_unit [] = None
 first_unit (mark ∷ marks) = Some 0
 
--- a plot of this size with its padding round it
-abbrev pub scene_with : ℤ → ℤ → ℤ → Option ℕ → List Item → Scene
-scene_with padding width height unit items = record {
-  width = with_padding padding width;
-  height = with_padding padding height;
-  panels = record { x = padding; y = padding; width = width; height = height; view = unit; facet = None; items = items } ∷ [];
-}
-
 -- a plot whose lists of rows are there: its size is read first, which may ask how long the domains of scales are, and then its scales, over
--- which its marks stand
+-- which its marks and its guides stand
 abbrev pub scene_over : VgSpec → List (List ℕ × Cell) → Scope → Option Scene
 scene_over g params scope = do
   lengths ← lengths_of (values_with params []) scope (scales_in (out-Group g.group))
@@ -92,7 +85,7 @@ scene_over g params scope = do
   height ← size_of (values_with params lengths) g.height
   scales ← scale_set (values_with params []) scope width height (scales_in (out-Group g.group))
   items ← items_of_marks (values_with params []) scope scales 0 (marks_in (out-Group g.group))
-  Some (scene_with (padding_round g.padding) width height (first_unit (marks_in (out-Group g.group))) items)
+  scene_of (out-Group g.group) scales (padding_round g.padding) width height (first_unit (marks_in (out-Group g.group))) items
 
 -- the scene of a specification over sources of rows and values of parameters; None where a number is out of range
 abbrev pub plot_over : VgSpec → List Dataset → List (List ℕ × Cell) → Option Scene

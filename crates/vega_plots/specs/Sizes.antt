@@ -26,14 +26,7 @@ size_of values (Some (size.Signal e)) = option_map size_in (value_of null_row va
 abbrev pub padding_round : Option ℤ → ℤ
 padding_round given = unwrap_or given (pos (5 * million))
 
--- the size of a picture: that of its content with the padding on both sides, cut to 10^15 pixels
-abbrev pub with_padding : ℤ → ℤ → ℤ
-with_padding padding size = int_min (size +ℤ pos 2 *ℤ padding) (pos limit)
-
 -- The rules at work.
 
 sizes_of_cells : (size_in (Number (negsuc 0)) ≡ pos 0) × (size_in Null ≡ pos 0) × (size_in (Number (pos limit)) ≡ pos (10 ^ 11 * million))
 sizes_of_cells = (refl, refl, refl)
-
-five_pixels_on_each_side : with_padding (padding_round None) (pos (60 * million)) ≡ pos (70 * million)
-five_pixels_on_each_side = refl

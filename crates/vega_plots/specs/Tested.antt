@@ -22,6 +22,7 @@ use Rattle.vega_lists.specs.Products.{no_folds}
 use Rattle.vega_scales.specs.Scales.{given_ends, is_domain_built, is_ordinal}
 use Rattle.vega_scales.specs.Scales as scaling
 use Rattle.mark_encode.specs.Items as items
+use Rattle.vega_guides.specs.Plots.{has_kept_axes}
 use Rattle.vega_plots.specs.Plots.{data_of, scales_in, marks_in}
 use Rattle.vega_plots.specs.Built.{is_bare, IsBuilt, KeepsRules}
 use Rattle.vega_plots.specs.Fitting.{folds_fit}
@@ -68,8 +69,8 @@ is_space n = is_within (pos 0) (pos (1000 * million)) n
 -- whether all of these hold of an object
 abbrev pub is_plot_group : Group-F Group VgMark → Bool
 is_plot_group g =
-    is_bare g && (list_all is_set (data_of g) && (list_all is_scale (scales_in g) && (list_all items.is_built (marks_in g)
-    && nat_lt (length (marks_in g)) (2 ^ 32))))
+    is_bare g && (has_kept_axes g && (list_all is_set (data_of g) && (list_all is_scale (scales_in g)
+    && (list_all items.is_built (marks_in g) && nat_lt (length (marks_in g)) (2 ^ 32)))))
 
 -- whether each name is none of those before it, which follow others
 abbrev pub are_new : List (List ℕ) → List (List ℕ) → Bool

@@ -1,24 +1,27 @@
 // The scene of a specification that is one plot.
-ghost use Rattle.std.specs.Prelude.{◌≡◌, ◌<◌, ◌≤ℤ◌, ◌*◌, ◌^◌, pos, map, length, IfOk};
-ghost use Rattle.fixed_num.specs.Number.{million};
+ghost use Rattle.std.specs.Prelude.{◌≡◌, ◌<◌, ◌^◌, map, length};
 ghost use Rattle.cell_value.specs.State.{dataset_of};
 ghost use Rattle.expr_eval.specs.Answers.{Evaluates};
-ghost use Rattle.scale_kit.specs.Scale.{IsPixel};
+ghost use Rattle.scale_kit.specs.Scale.{AreScales};
 ghost use Rattle.vega_spec.specs.declared.spec.Group.{out-Group};
 ghost use Rattle.vega_lists.specs.Held.{AreSources, AreLists, scope_in};
-ghost use Rattle.vega_plots.specs.Plots.{data_of, scales_in, marks_in, first_unit, scene_with, scene_over, plot_over};
+ghost use Rattle.vega_plots.specs.Plots.{data_of, scales_in, marks_in, first_unit, scene_over, plot_over};
+ghost use Rattle.vega_plots.specs.Sizes.{padding_round};
+ghost use Rattle.vega_guides.specs.Plots.{HasKeptAxes, scene_of as guided_scene};
 ghost use Rattle.vega_plots.specs.Built.{IsBuilt, KeepsRules};
 
 use crate::PlotParams;
 use crate::marks::items_of_marks;
 use crate::scales::{lengths_of, scale_set};
-use crate::sizes::{padding_round, size_of, with_padding};
+use crate::sizes::{padding_round, size_of};
 use cell_value::{Cell, Named};
 use expr_eval::EvalError;
 use fixed_num::Num;
-use scene_tree::{Item, Panel, Scene};
+use guide_kit::GuideError;
+use scale_kit::ScaleSet;
+use scene_tree::{Item, Scene};
 use std::alloc::Global;
-use text_kit::{OutOfMemory, Seq, Text};
+use text_kit::{Seq, Text};
 use vega_lists::{Lists, lists_of};
 use vega_spec::{DataSet, Group, Scale, VgMark, VgSpec};
 
@@ -62,35 +65,26 @@ fn first_unit(marks: &[VgMark]) -> Option<u32>
     }
 }
 
-// A plot of this size with its padding round it.
-fn scene_with(
+// The scene of a plot with its guides, of this size and over these scales, round the items of its marks.
+fn guided(
     alloc: Global,
-    padding: Num,
+    g: &VgSpec,
+    scales: &ScaleSet,
     size: &(Num, Num),
-    unit: Option<u32>,
     items: Seq<Item>,
-) -> Result<Scene, OutOfMemory>
-    requires low { pos 0 ≤ℤ padding }
-    requires high { padding ≤ℤ pos (1000 * million) }
-    requires width { IsPixel size.now.0 }
-    requires height { IsPixel size.now.1 }
-    ensures { IfOk result (λ scene. scene ≡ scene_with padding size.now.0 size.now.1 unit items) }
+) -> Result<Scene, EvalError>
+    requires axes { HasKeptAxes (out-Group g.now.group) }
+    requires scales { AreScales scales.now }
+    ensures { Evaluates result (guided_scene (out-Group g.now.group) scales.now (padding_round g.now.padding) size.now.0 size.now.1
+        (first_unit (marks_in (out-Group g.now.group))) items) }
 {
-    let mut panels = Seq::new(alloc);
-    panels.push(Panel {
-        x: padding,
-        y: padding,
-        width: size.0,
-        height: size.1,
-        view: unit,
-        facet: None,
-        items,
-    })?;
-    Ok(Scene {
-        width: with_padding(padding, size.0),
-        height: with_padding(padding, size.1),
-        panels,
-    })
+    let padding = padding_round(g.padding);
+    let unit = first_unit(marks_in(&g.group));
+    match vega_guides::scene_of(alloc, &g.group, scales, padding, size, unit, items) {
+        Ok(scene) => Ok(scene),
+        Err(GuideError::Overflow) => Err(EvalError::Overflow),
+        Err(GuideError::Memory) => Err(EvalError::Memory),
+    }
 }
 
 // The scene of a plot whose lists of rows are there.
@@ -130,18 +124,12 @@ fn scene_over(
     let size = (width, height);
     let marks = marks_in(&g.group);
     let items = items_of_marks(alloc, marks, sources, lists, &scales, &size, &plain)?;
-    Ok(scene_with(
-        alloc,
-        padding_round(g.padding),
-        &size,
-        first_unit(marks),
-        items,
-    )?)
+    guided(alloc, g, &scales, &size, items)
 }
 
 /// The scene of a specification that is one plot, over sources of rows and values of parameters: the lists of rows of its data sets, its
-/// width and height in pixels, its scales, and the items of its marks in their order. `Overflow` comes exactly where a number that is
-/// needed is out of range, also of a list that nothing reads.
+/// width and height in pixels, its scales, the items of its marks in their order, and its axes, legends and title. `Overflow` comes exactly
+/// where a number that is needed is out of range, also of a list that nothing reads.
 pub fn scene_of(
     alloc: Global,
     g: &VgSpec,

@@ -1,9 +1,9 @@
-// How wide and how high a plot is, and the picture round it.
+// How wide and how high a plot is, and the space round it.
 ghost use Rattle.std.specs.Prelude.{◌≡◌, ◌≤ℤ◌, ◌*◌, pos, neg_ℤ, IfOk};
 ghost use Rattle.fixed_num.specs.Number.{limit, million};
 ghost use Rattle.expr_eval.specs.Answers.{Evaluates};
 ghost use Rattle.scale_kit.specs.Scale.{IsPixel};
-ghost use Rattle.vega_plots.specs.Sizes.{size_in, size_of, padding_round, with_padding};
+ghost use Rattle.vega_plots.specs.Sizes.{size_in, size_of, padding_round};
 ghost use Rattle.vega_plots.specs.Built.{IsSizeKept};
 
 use crate::evaluation::eval_alone;
@@ -15,9 +15,6 @@ use vega_spec::Size;
 
 /// The greatest size of a plot, in millionths of a pixel.
 const GREATEST_SIZE: i128 = 100_000_000_000_000_000;
-
-/// The greatest number, in millionths.
-const LIMIT: i128 = 1_000_000_000_000_000_000_000;
 
 // So many millionths, which are a number.
 fn number(millionths: i128) -> Num
@@ -70,14 +67,4 @@ pub(crate) fn padding_round(given: Option<Num>) -> Num
         Some(padding) => padding,
         None => number(5_000_000),
     }
-}
-
-/// The size of a picture: that of its content with the padding on both sides, cut to 10^15 pixels.
-pub(crate) fn with_padding(padding: Num, size: Num) -> Num
-    requires low { pos 0 ≤ℤ padding }
-    requires high { padding ≤ℤ pos (1000 * million) }
-    requires size { IsPixel size }
-    ensures { result ≡ with_padding padding size }
-{
-    number((size.millionths() + 2 * padding.millionths()).min(LIMIT))
 }

@@ -20,6 +20,7 @@ use cell_value::Cell;
 use fixed_num::Num;
 use std::alloc::Global;
 use text_kit::{OutOfMemory, Seq};
+use vega_guides::has_kept_axes;
 use vega_scales::{is_built, is_domain_built, is_ordinal};
 use vega_spec::{
     DataSet, Group, MarkFrom, MarkType, Range, Scale, Size, Transform, VgMark, VgSpec, sources_of,
@@ -245,15 +246,11 @@ fn is_empty<T>(list: &Option<Seq<T>>) -> bool
     }
 }
 
-// An object without signals, layout, guides and title.
+// An object without signals and layout.
 fn is_bare(group: &Group) -> bool
     ensures { result ≡ is_bare (out-Group group.now) }
 {
-    is_empty(&group.signals)
-        && group.layout.is_none()
-        && is_empty(&group.axes)
-        && is_empty(&group.legends)
-        && group.title.is_none()
+    is_empty(&group.signals) && group.layout.is_none()
 }
 
 // An object is a plot.
@@ -261,6 +258,7 @@ fn is_plot_group(group: &Group) -> bool
     ensures { result ≡ is_plot_group (out-Group group.now) }
 {
     is_bare(group)
+        && has_kept_axes(group)
         && are_sets(data_of(group))
         && are_scales(scales_in(group))
         && are_marks(marks_in(group))

@@ -43,6 +43,15 @@ const NO_BARS: &str =
 </svg>
 ";
 
+// The picture of no rows with the line of an axis.
+const ONE_LINE: &str =
+    "<svg xmlns=\"http://www.w3.org/2000/svg\" version=\"1.1\" width=\"70\" height=\"210\" viewBox=\"0 0 70 210\">
+<g transform=\"translate(5,5)\">
+<line x1=\"0\" y1=\"0\" x2=\"0\" y2=\"200\" stroke=\"#888\" stroke-width=\"1\"/>
+</g>
+</svg>
+";
+
 // A specification of bars over these data, with these members at its end.
 fn vega_of(alloc: Global, data: &str, end: &str) -> Result<String, Fail> {
     let mut text = String::from_str(alloc, HEAD)?;
@@ -87,7 +96,7 @@ fn run_over(
 }
 
 // Words, data, the members at the end, the file `d`, the status with the note, and the output.
-const RUNS: [(&[&str], &str, &str, &str, (u8, &str), &str); 18] = [
+const RUNS: [(&[&str], &str, &str, &str, (u8, &str), &str); 19] = [
     (&["render", "s.json"], THREE_ROWS, "", "", DONE, PICTURE),
     (
         &["render", "s.json"],
@@ -198,10 +207,18 @@ const RUNS: [(&[&str], &str, &str, &str, (u8, &str), &str); 18] = [
     (
         &["render", "s.json"],
         "{\"name\":\"t\"}",
-        ",\"axes\":[{\"scale\":\"y\",\"orient\":\"left\"}]",
+        ",\"signals\":[{\"name\":\"k\",\"value\":1}]",
         "",
         (4, "chart: spec unsupported \n"),
         "",
+    ),
+    (
+        &["render", "s.json"],
+        "{\"name\":\"t\"}",
+        ",\"axes\":[{\"scale\":\"y\",\"orient\":\"left\",\"labels\":false,\"ticks\":false}]",
+        "",
+        DONE,
+        ONE_LINE,
     ),
     (
         &["render", "s.json"],

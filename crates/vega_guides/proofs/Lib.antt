@@ -1,0 +1,4 @@
+mod AxisLemmas
+pub mod BareLaw
+mod LeafLemmas
+pub mod TestedLaw
