@@ -123,4 +123,5 @@ def table():
                 line(kind, fields, ops, rows)
 
 
-table()
+if __name__ == "__main__":
+    table()

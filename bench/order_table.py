@@ -144,4 +144,5 @@ def table():
                 line(offset, groupby, [(name, chance.random() < 0.5) for name in names], "v", outs, cells)
 
 
-table()
+if __name__ == "__main__":
+    table()

@@ -22,7 +22,8 @@ use Rattle.vega_spec.specs.declared.signals.Signal.{Signal}
 use Rattle.vega_spec.specs.declared.spec.Group.{out-Group}
 use Rattle.vega_spec.specs.declared.spec.VgSpec.{VgSpec}
 use Rattle.vega_spec.specs.Names.{signals_of, kind_of, parameter_of}
-use Rattle.vega_meaning.specs.States.{IsStateOf, is_settable, settable_names}
+use Rattle.param_flow.specs.Settings.{is_settable}
+use Rattle.vega_meaning.specs.States.{IsStateOf, settable_names}
 use Rattle.chart_opening.specs.declared.refusal.Refusal.{Refusal}
 use Rattle.chart_opening.specs.declared.sources.Given.{Given}
 use Rattle.chart_opening.specs.declared.refusal.Refusal.TheVariants as refusal

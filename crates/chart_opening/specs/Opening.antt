@@ -16,7 +16,7 @@ use Rattle.vega_spec.specs.declared.signals.Signal.{Signal}
 use Rattle.vega_spec.specs.declared.spec.Group.{out-Group}
 use Rattle.vega_spec.specs.declared.spec.VgSpec.{VgSpec}
 use Rattle.vega_spec.specs.Names.{signals_of, kind_of}
-use Rattle.vega_meaning.specs.States.{is_settable}
+use Rattle.param_flow.specs.Settings.{is_settable}
 use Rattle.chart_opening.specs.declared.refusal.Refusal.{Refusal}
 use Rattle.chart_opening.specs.declared.refusal.Refusal.TheVariants as refusal
 use Rattle.chart_opening.specs.declared.sources.Given.{Given}

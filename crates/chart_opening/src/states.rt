@@ -3,7 +3,7 @@ ghost use Rattle.std.specs.Prelude.{◌≡◌, ◌+◌, ◌≤◌, ◌^◌, ◌+
 ghost use Rattle.cell_value.specs.declared.cell.Cell.TheVariants.{Null};
 ghost use Rattle.cell_value.specs.State.{most_rows};
 ghost use Rattle.vega_spec.specs.Names.{kind_of};
-ghost use Rattle.vega_meaning.specs.States.{is_settable};
+ghost use Rattle.param_flow.specs.Settings.{is_settable};
 ghost use Rattle.chart_opening.specs.Sources.{source_sets};
 ghost use Rattle.chart_opening.specs.Opening.{keyed_rows, sources_from, own_value, values_of, first_values, count_rows, state_with};
 

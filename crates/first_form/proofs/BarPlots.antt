@@ -5,7 +5,7 @@ use Rattle.vega_spec.specs.Names.{sources_here, mark_sources_here, mark_sources,
 use Rattle.vega_spec.specs.declared.spec.Group.{out-Group, out-roll-Group, fold-roll-Group}
 use Rattle.vega_spec.specs.declared.spec.VgMark.{out-VgMark, out-roll-VgMark, fold-roll-VgMark}
 use Rattle.vega_lists.specs.Products.{no_folds}
-use Rattle.vega_plots.specs.Plots.{data_of}
+use Rattle.vega_signals.specs.Signals.{data_of}
 use Rattle.vega_plots.specs.Fitting.{folds_fit}
 use Rattle.vega_plots.specs.Tested.{is_plot_group, is_size, is_space, is_one_plot, are_new}
 use Rattle.first_form.specs.declared.form.FirstForm.{FirstForm}

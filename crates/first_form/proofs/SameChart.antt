@@ -66,9 +66,10 @@ use Rattle.mark_encode.specs.Channels.{channel_values}
 use Rattle.mark_encode.specs.Values.{share_of_band, moved, shown}
 use Rattle.mark_encode.specs.Spans.{span_of}
 use Rattle.mark_encode.specs.Items.{rect_over, item_with, item_for, items_for}
-use Rattle.vega_plots.specs.Parameters.{values_with}
+use Rattle.vega_signals.specs.Parameters.{values_with}
+use Rattle.vega_signals.specs.Signals.{data_of, signal_values}
 use Rattle.vega_plots.specs.Sizes.{size_in, size_of, padding_round}
-use Rattle.vega_plots.specs.Plots.{data_of, scales_in, marks_in, lengths_of, scale_set, rows_from, items_of_marks, first_unit}
+use Rattle.vega_plots.specs.Plots.{scales_in, marks_in, lengths_of, scale_set, rows_from, items_of_marks, first_unit}
 use Rattle.vega_guides.specs.Plots.{plain_scene, scene_of as guided_scene}
 use Rattle.vega_guides.proofs.BareLaw.{law as bare_law}
 use Rattle.first_form.specs.declared.form.FirstForm.{FirstForm}
@@ -287,19 +288,21 @@ module _ (x y : List ℕ) (apart : x ≢ y) where
 
 -- ---- the scene
 
--- the scene of an object over its lists of rows
-abbrev scene_in : VgSpec → Group-F Group VgMark → Scope → Option Scene
-scene_in g top scope =
-    lengths_of no_params scope (scales_in top) >>= (λ lengths.
-    size_of (values_with [] lengths) g.width >>= (λ width.
-    size_of (values_with [] lengths) g.height >>= (λ height.
-    scale_set no_params scope width height (scales_in top) >>= (λ scales.
-    items_of_marks no_params scope scales 0 (marks_in top) >>= (λ items.
+-- the scene of an object whose signals have these values, over its lists of rows
+abbrev scene_in : VgSpec → Group-F Group VgMark → List (List ℕ × Cell) → Scope → Option Scene
+scene_in g top signals scope =
+    lengths_of (values_with signals []) scope (scales_in top) >>= (λ lengths.
+    size_of (values_with signals lengths) g.width >>= (λ width.
+    size_of (values_with signals lengths) g.height >>= (λ height.
+    scale_set (values_with signals []) scope width height (scales_in top) >>= (λ scales.
+    items_of_marks (values_with signals []) scope scales 0 (marks_in top) >>= (λ items.
     guided_scene top scales (padding_round g.padding) width height (first_unit (marks_in top)) items)))))
 
 -- the scene of an object over sources
 abbrev plot_in : VgSpec → List Dataset → Group-F Group VgMark → Option Scene
-plot_in g sources top = lists_of no_params sources no_lists (data_of top) >>= scene_in g top
+plot_in g sources top =
+    signal_values top sources [] >>= (λ signals.
+    lists_of (values_with signals []) sources no_lists (data_of top) >>= scene_in g top signals)
 
 module _ (form : FirstForm) where
   -- the cells of the one reference of a domain
@@ -330,7 +333,7 @@ module _ (form : FirstForm) where
   abbrev rows_scene : List Datum → Option Scene
   rows_scene rows = size_of (values_with [] (lengths rows)) (Some (size.Signal width_expr)) >>= with_width rows
 
-  scene_opened : (scope : Scope) → scene_in (bars_of form) (bars_parts form) scope ≡ rows_scene (scope form.name)
+  scene_opened : (scope : Scope) → scene_in (bars_of form) (bars_parts form) [] scope ≡ rows_scene (scope form.name)
   scene_opened scope = λ i.
       size_of (values_with [] (lengths (scope form.name))) (Some (size.Signal width_expr)) >>= (λ width.
       scale_set no_params scope width plot_height (x_scale_of form ∷ y_scale_of form ∷ []) >>= (λ scales.

@@ -6,10 +6,12 @@ mod command;
 mod event;
 mod param_error;
 mod reply;
+mod settings;
 mod unit_rows;
 
 pub use command::{ChangeOf, Command, Modify};
 pub use event::Event;
 pub use param_error::ParamError;
 pub use reply::{Cause, Reply};
+pub use settings::set;
 pub use unit_rows::UnitRows;

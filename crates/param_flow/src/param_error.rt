@@ -1,4 +1,8 @@
 // Why parameters are not set.
+ghost use Rattle.std.specs.Prelude.{◌≡◌};
+ghost use Rattle.param_flow.specs.declared.param_error.ParamError.TheVariants as error;
+
+use text_kit::OutOfMemory;
 
 /// Why a parameter is not set.
 #[derive(Clone, Copy, Debug, PartialEq, Eq)]
@@ -9,4 +13,12 @@ pub enum ParamError {
     Computed,
     /// Memory was refused.
     Memory,
+}
+
+impl From<OutOfMemory> for ParamError {
+    ghost from_gives = { λ _ e. e ≡ error.Memory };
+
+    fn from(_: OutOfMemory) -> ParamError {
+        ParamError::Memory
+    }
 }

@@ -27,7 +27,7 @@ use Rattle.row_edits.proofs.EditLemmas.{one_if, count_next}
 use Rattle.vega_spec.specs.declared.spec.VgSpec.{VgSpec}
 use Rattle.vega_lists.specs.Held.{AreSources}
 use Rattle.vega_lists.proofs.StateLemmas.{sources_of_state}
-use Rattle.vega_plots.specs.Parameters.{values_with}
+use Rattle.vega_signals.specs.Parameters.{values_with}
 use Rattle.plain_engine.specs.inner.Sources.{rows_at, with_rows, data_at, with_data, state_in, count_in, rows_changed, sources_changed}
 use Rattle.plain_engine.specs.inner.Sources.{staying_in_all, is_past, reply_to_sources, reply_at, sources_if, IsLeft}
 use Rattle.plain_engine.proofs.Places.{few_at, read_at, read_with}
@@ -66,7 +66,7 @@ few_here sources index =
     let read = ap length (read_at sources index) in
     omega (arith, few, read, length-map (rows_at sources index) datum_of)
 
-module _ (next_id : ℕ) (params : List (List ℕ × Cell)) (sources : List Named) (index : ℕ) (change : ChangeOf) where
+module _ (next_id : ℕ) (params signals : List (List ℕ × Cell)) (sources : List Named) (index : ℕ) (change : ChangeOf) where
   -- the rows of a source fit a chart
   pub rows_fit : index < length sources → IsState (state_in next_id params (map dataset_of sources)) → Fits (rows_at sources index)
   rows_fit within h =
@@ -75,7 +75,7 @@ module _ (next_id : ℕ) (params : List (List ℕ × Cell)) (sources : List Name
       record {
         few = omega (arith, few, h.few_rows);
         ids = low_ids next_id (rows_at sources index) h.next_id_to
-            (subst (λ rows. All (λ id. id < next_id) (ids_of rows)) (sym (read_at sources index)) (ids_at next_id params
+            (subst (λ rows. All (λ id. id < next_id) (ids_of rows)) (sym (read_at sources index)) (ids_at next_id params signals
             (map dataset_of sources)
             index change here h));
       }
@@ -83,25 +83,25 @@ module _ (next_id : ℕ) (params : List (List ℕ × Cell)) (sources : List Name
   -- the limit
   pub past_is : (all others staying more : ℕ) (past : Bool) → all ≡ count_in (map dataset_of sources)
       → others + length (rows_at sources index) ≡ all
-      → staying ≡ count_staying (values_with params []) change.remove (map datum_of (rows_at sources index)) → more ≡ length change.insert
+      → staying ≡ count_staying (values_with signals []) change.remove (map datum_of (rows_at sources index)) → more ≡ length change.insert
       → past ≡ (nat_lt most_rows ((others + staying) + more) || nat_lt (greatest_id + 1) (next_id + more))
-      → past ≡ is_past next_id params (map dataset_of sources) index change
+      → past ≡ is_past next_id signals (map dataset_of sources) index change
   past_is all others staying more past is rest count long e =
       let read = read_at sources index in
       let rows = ap length read in
-      let left = count ∙ ap (count_staying (values_with params []) change.remove) read in
-      let same : others + staying ≡ staying_in_all next_id params (map dataset_of sources) index change =
+      let left = count ∙ ap (count_staying (values_with signals []) change.remove) read in
+      let same : others + staying ≡ staying_in_all next_id signals (map dataset_of sources) index change =
       omega (arith, is, rest, rows, left, length-map (rows_at sources index) datum_of) in
       e ∙ (λ i. nat_lt most_rows (same i + long i) || nat_lt (greatest_id + 1) (next_id + long i))
 
   module _ (edits : Edits) (is : data_edited edits (rows_at sources index)
-      ≡ rows_after (values_with params []) change (map datum_of (rows_at sources index))) where
-    found : data_edited edits (rows_at sources index) ≡ rows_after (values_with params []) change (data_at (map dataset_of sources) index)
-    found = is ∙ ap (rows_after (values_with params []) change) (read_at sources index)
+      ≡ rows_after (values_with signals []) change (map datum_of (rows_at sources index))) where
+    found : data_edited edits (rows_at sources index) ≡ rows_after (values_with signals []) change (data_at (map dataset_of sources) index)
+    found = is ∙ ap (rows_after (values_with signals []) change) (read_at sources index)
 
     -- the sources after edits of which none is out of range
     module _ (more : List Keyed) (known : edits.overflows ≡ false) (new : more ≡ new_rows next_id change.insert) where
-      changed_by : rows_changed next_id params (map dataset_of sources) index change
+      changed_by : rows_changed next_id signals (map dataset_of sources) index change
           ≡ Some (map datum_of (edited edits.each (rows_at sources index) ++ more))
       changed_by =
           let read : List Datum = map datum_of (edited edits.each (rows_at sources index)) in
@@ -110,7 +110,7 @@ module _ (next_id : ℕ) (params : List (List ℕ × Cell)) (sources : List Name
           ∙ ap (λ more. Some (read ++ map datum_of more)) (sym new)
           ∙ ap Some (sym (map-append datum_of (edited edits.each (rows_at sources index)) more))
 
-      pub sources_by : sources_changed next_id params (map dataset_of sources) index change
+      pub sources_by : sources_changed next_id signals (map dataset_of sources) index change
           ≡ Some (map dataset_of (with_rows sources index (edited edits.each (rows_at sources index) ++ more)))
       sources_by =
           ap (option_map (with_data (map dataset_of sources) index)) changed_by
@@ -118,11 +118,11 @@ module _ (next_id : ℕ) (params : List (List ℕ × Cell)) (sources : List Name
 
       -- they are those of a state
       pub fit_by : index < length sources → IsState (state_in next_id params (map dataset_of sources))
-          → is_past next_id params (map dataset_of sources) index change ≡ false
+          → is_past next_id signals (map dataset_of sources) index change ≡ false
           → AreSources (with_rows sources index (edited edits.each (rows_at sources index) ++ more))
       fit_by within h free =
           let rows : List Keyed = edited edits.each (rows_at sources index) ++ more in
-          let still = still_state next_id params (map dataset_of sources) index change (within_data sources index within) h
+          let still = still_state next_id params signals (map dataset_of sources) index change (within_data sources index within) h
           (map datum_of rows) free changed_by in
           let now : ChartState = record {
             next_id = next_id + length change.insert;
@@ -134,7 +134,7 @@ module _ (next_id : ℕ) (params : List (List ℕ × Cell)) (sources : List Name
           (subst (λ sources. IsState (state_in (next_id + length change.insert) params sources)) (sym (read_with sources index rows)) still)
 
     -- where one is
-    pub out_of_range_by : edits.overflows ≡ true → sources_changed next_id params (map dataset_of sources) index change ≡ None
+    pub out_of_range_by : edits.overflows ≡ true → sources_changed next_id signals (map dataset_of sources) index change ≡ None
     out_of_range_by over =
         ap (λ found. option_map (with_data (map dataset_of sources) index) (option_map
         (λ left. left ++ new_data next_id change.insert) found))
@@ -142,16 +142,16 @@ module _ (next_id : ℕ) (params : List (List ℕ × Cell)) (sources : List Name
         ∙ ap (λ overflows. if overflows then None else Some (map datum_of (edited edits.each (rows_at sources index)))) over)
 
   -- the reply to a change that is past the limit
-  pub reply_past : (g : VgSpec) → is_past next_id params (map dataset_of sources) index change ≡ true
-      → Refused cause.Limit ≡ reply_at g next_id params (map dataset_of sources) index change
+  pub reply_past : (g : VgSpec) → is_past next_id signals (map dataset_of sources) index change ≡ true
+      → Refused cause.Limit ≡ reply_at g next_id params signals (map dataset_of sources) index change
   reply_past g past =
       ap (λ past. if past then Refused cause.Limit
-      else reply_to_sources g params (sources_changed next_id params (map dataset_of sources) index change)) (sym past)
+      else reply_to_sources g params (sources_changed next_id signals (map dataset_of sources) index change)) (sym past)
 
   -- and to one that isn't
-  pub reply_by : (g : VgSpec) (after : Option (List Dataset)) → is_past next_id params (map dataset_of sources) index change ≡ false
-      → sources_changed next_id params (map dataset_of sources) index change ≡ after
-      → reply_at g next_id params (map dataset_of sources) index change ≡ reply_to_sources g params after
+  pub reply_by : (g : VgSpec) (after : Option (List Dataset)) → is_past next_id signals (map dataset_of sources) index change ≡ false
+      → sources_changed next_id signals (map dataset_of sources) index change ≡ after
+      → reply_at g next_id params signals (map dataset_of sources) index change ≡ reply_to_sources g params after
   reply_by g after free changed = λ i. if free i then Refused cause.Limit else reply_to_sources g params (changed i)
 
 -- sources that are put where others were read as changed

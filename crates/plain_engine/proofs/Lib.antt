@@ -4,3 +4,4 @@ pub mod MentionLemmas
 pub mod Places
 pub mod Changes
 pub mod Replies
+pub mod SettingLemmas

@@ -31,7 +31,7 @@ use Rattle.vega_spec.specs.declared.spec.VgSpec.{VgSpec}
 use Rattle.vega_spec.specs.Names.{sources_of}
 use Rattle.vega_plots.specs.Plots.{plot_over}
 use Rattle.vega_plots.specs.Tested.{is_plot}
-use Rattle.vega_meaning.specs.Semantics.{vega_semantics, values_in}
+use Rattle.vega_meaning.specs.Semantics.{vega_semantics, signals_in, values_in}
 use Rattle.vega_meaning.specs.States.{IsStateOf}
 use Rattle.play_script.specs.Meaning.{Meaning}
 use Rattle.plain_engine.specs.inner.Kept.{IsKept}
@@ -63,12 +63,15 @@ module _ (meaning : Semantics) (st : State) (c : Command) (param : List ℕ) (va
   pub asked_set : reply_to_set meaning st name value ≡ reply_of meaning st c
   asked_set = ap (λ name. reply_to_set meaning st name value) named ∙ ap (reply_of meaning st) (sym is)
 
-  pub done_set : (reply : Reply) → reply ≡ reply_to_set meaning st name value → state_if reply st (Some (state_set st name value)) ≡ st
-      → st ≡ state_after meaning st c
-  done_set reply replied stays =
-      sym stays ∙ ap (λ reply. state_if reply st (Some (state_set st name value))) replied
-      ∙ ap (λ name. state_if (reply_to_set meaning st name value) st (Some (state_set st name value))) named
-      ∙ ap (state_after meaning st) (sym is)
+  pub done_set : {M E : Type 0} (meant : State → M) (now : M) (result : Result Reply E)
+      → IfOk result (λ reply. reply ≡ reply_to_set meaning st name value)
+      → IfOk result (λ reply. now ≡ meant (state_if reply st (Some (state_set st name value))))
+      → OnOk result (now ≡ meant (state_after meaning st c))
+  done_set meant now (Ok reply) replied stands =
+      stands ∙ ap (λ reply. meant (state_if reply st (Some (state_set st name value)))) replied
+      ∙ ap (λ name. meant (state_if (reply_to_set meaning st name value) st (Some (state_set st name value)))) named
+      ∙ ap (λ c. meant (state_after meaning st c)) (sym is)
+  done_set meant now (Err e) replied stands = tt
 
 -- what is meant after a change
 pub meant_by : {E : Type 0} (g : VgSpec) (st now : State) (found other : Option State) → other ≡ found → (result : Result Reply E)
@@ -81,7 +84,7 @@ meant_by g st now found other same (Ok reply) h =
 meant_by g st now found other same (Err e) h = tt
 
 -- a picture's text is drawn where the picture is
-to_drawn : (scene : Outcome Scene) → reply_to_chart (outcome_map svg_of scene) ≡ reply_to_chart scene
+pub to_drawn : (scene : Outcome Scene) → reply_to_chart (outcome_map svg_of scene) ≡ reply_to_chart scene
 to_drawn (Drawn scene) = refl
 to_drawn Overflow = refl
 to_drawn (Panels n) = refl
@@ -135,24 +138,24 @@ module _ (g : VgSpec) (st : ChartState) (name : List ℕ) (change : ChangeOf) (h
         made (Some sources) = refl
 
         -- the state after it
-        pub changed : state_changed (values_in (state_of st)) (state_of st) name change ≡ state_at (state_of st) index change
+        pub changed : state_changed (values_in g (state_of st)) (state_of st) name change ≡ state_at (signals_in g (state_of st)) (state_of st) index change
         changed =
             let place = placed name st.sources index e in
-            let found = changed_at (values_in (state_of st)) name change (new_data st.next_id change.insert)
+            let found = changed_at (values_in g (state_of st)) name change (new_data st.next_id change.insert)
             (map dataset_of st.sources) index
             (omega (arith, place.within, length-map st.sources dataset_of)) own_names place.named in
             made _ ∙ ap (option_map state_now) found
 
         -- the limit
-        limit : is_past_limit (values_in (state_of st)) (state_of st) name change ≡ is_past st.next_id st.params
+        limit : is_past_limit (values_in g (state_of st)) (state_of st) name change ≡ is_past st.next_id (signals_in g (state_of st))
             (map dataset_of st.sources) index change
         limit =
             let place = placed name st.sources index e in
-            let count = counted_at (values_in (state_of st)) name change [] (map dataset_of st.sources) index
+            let count = counted_at (values_in g (state_of st)) name change [] (map dataset_of st.sources) index
             (omega (arith, place.within, length-map st.sources dataset_of)) own_names place.named in
             let few = few_at (map dataset_of st.sources) index in
-            let same : sum_by (count_left (values_in (state_of st)) name change) (map dataset_of st.sources)
-            ≡ staying_in_all st.next_id st.params (map dataset_of st.sources) index change = omega (arith, count, few) in
+            let same : sum_by (count_left (values_in g (state_of st)) name change) (map dataset_of st.sources)
+            ≡ staying_in_all st.next_id (signals_in g (state_of st)) (map dataset_of st.sources) index change = omega (arith, count, few) in
             ap (λ n. nat_lt most_rows (n + length change.insert) || nat_lt (greatest_id + 1) (st.next_id + length change.insert)) same
 
         reply_to_found : (found : Option (List Dataset))
@@ -162,14 +165,14 @@ module _ (g : VgSpec) (st : ChartState) (name : List ℕ) (change : ChangeOf) (h
         reply_to_found (Some sources) = to_drawn (in_reach (plot_over g sources st.params))
 
         -- the reply
-        pub replied : reply_at g st.next_id st.params (map dataset_of st.sources) index change
+        pub replied : reply_at g st.next_id st.params (signals_in g (state_of st)) (map dataset_of st.sources) index change
             ≡ reply_to_change (vega_semantics g) (state_of st) name change
         replied =
             let last = ap (reply_to_state (vega_semantics g)) changed
-            ∙ reply_to_found (sources_changed st.next_id st.params (map dataset_of st.sources) index change) in
-            let whole : (if is_past_limit (values_in (state_of st)) (state_of st) name change then Refused cause.Limit
-            else reply_to_state (vega_semantics g) (state_changed (values_in (state_of st)) (state_of st) name change))
-            ≡ reply_at g st.next_id st.params (map dataset_of st.sources) index change =
+            ∙ reply_to_found (sources_changed st.next_id (signals_in g (state_of st)) (map dataset_of st.sources) index change) in
+            let whole : (if is_past_limit (values_in g (state_of st)) (state_of st) name change then Refused cause.Limit
+            else reply_to_state (vega_semantics g) (state_changed (values_in g (state_of st)) (state_of st) name change))
+            ≡ reply_at g st.next_id st.params (signals_in g (state_of st)) (map dataset_of st.sources) index change =
             λ i. if limit i then Refused cause.Limit else last i in
             rw (has_all, good) (sym whole)
 
@@ -183,7 +186,7 @@ done_is_free : (past : Bool) (reply : Reply) → Done ≡ (if past then Refused 
 done_is_free true reply h = absurd (cc)
 done_is_free false reply h = refl
 
-module _ (g : VgSpec) (st : ChartState) (index : ℕ) (change : ChangeOf) (within : index < length st.sources) (h : IsStateOf g
+module _ (g : VgSpec) (st : ChartState) (signals : List (List ℕ × Cell)) (index : ℕ) (change : ChangeOf) (within : index < length st.sources) (h : IsStateOf g
     (state_of st)) where
   -- the state without its selections, of which it has none
   pub plain_state : IsState (state_in st.next_id st.params (map dataset_of st.sources))
@@ -194,8 +197,8 @@ module _ (g : VgSpec) (st : ChartState) (index : ℕ) (change : ChangeOf) (withi
 
   -- what is kept after a change that is done
   pub kept_done : (sources : List Named) (scene : Scene) → is_plot g ≡ true
-      → sources_changed st.next_id st.params (map dataset_of st.sources) index change ≡ Some (map dataset_of sources)
-      → Done ≡ reply_at g st.next_id st.params (map dataset_of st.sources) index change
+      → sources_changed st.next_id signals (map dataset_of st.sources) index change ≡ Some (map dataset_of sources)
+      → Done ≡ reply_at g st.next_id st.params signals (map dataset_of st.sources) index change
       → plot_over g (map dataset_of sources) st.params ≡ Some scene
       → (let now : ChartState = record {
         next_id = st.next_id + length change.insert;
@@ -207,9 +210,9 @@ module _ (g : VgSpec) (st : ChartState) (index : ℕ) (change : ChangeOf) (withi
       IsKept g now scene)
   kept_done sources scene plot changed replied drawn =
       let free = done_is_free _ _ replied in
-      let found = some_of (rows_changed st.next_id st.params (map dataset_of st.sources) index change) (map dataset_of st.sources)
+      let found = some_of (rows_changed st.next_id signals (map dataset_of st.sources) index change) (map dataset_of st.sources)
       (map dataset_of sources) index changed in
-      let still = still_state st.next_id st.params (map dataset_of st.sources) index change
+      let still = still_state st.next_id st.params signals (map dataset_of st.sources) index change
       (omega (arith, within, length-map st.sources dataset_of)) plain_state found.0 free found.1 in
       let none = h.stores in
       let same = found.2 in
@@ -230,3 +233,17 @@ module _ (g : VgSpec) (st : ChartState) (index : ℕ) (change : ChangeOf) (withi
         };
         drawn = ap in_reach drawn;
       }
+
+-- a state whose sources and scene are as they were is kept
+pub kept_same : (g : VgSpec) (st : ChartState) (scene drawn : Scene) (sources : List Named) → IsKept g st scene → sources ≡ st.sources
+    → drawn ≡ scene
+    → (let now : ChartState = record { next_id = st.next_id; sources = sources; params = st.params; stores = st.stores } in IsKept g now drawn)
+kept_same g st scene drawn sources h same shown =
+    let at : List Named → Type 0 = λ sources. (let now : ChartState = record {
+      next_id = st.next_id;
+      sources = sources;
+      params = st.params;
+      stores = st.stores;
+    } in
+    IsKept g now drawn) in
+    subst at (sym same) (subst (IsKept g st) (sym shown) h)

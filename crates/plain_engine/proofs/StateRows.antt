@@ -21,7 +21,7 @@ use Rattle.data_rows.specs.JsonRows.{row_of_json}
 use Rattle.param_flow.specs.declared.command.ChangeOf.{ChangeOf}
 use Rattle.param_flow.specs.Change.{rows_after}
 use Rattle.param_flow.specs.Machine.{new_rows}
-use Rattle.vega_plots.specs.Parameters.{values_with}
+use Rattle.vega_signals.specs.Parameters.{values_with}
 use Rattle.plain_engine.specs.inner.Sources.{data_at, with_data, state_in, rows_changed, staying_in_all, is_past}
 use Rattle.plain_engine.proofs.LeftRows.{IsLeftOf, what_is_left, how_many_left, all_left, to_ids, from_ids, pairs_first, pairs_rest}
 use Rattle.plain_engine.proofs.LeftRows.{pairs_cons, pairs_left, left_of_itself, left_of_both}
@@ -180,7 +180,7 @@ new_of : (found : Option (List Datum)) (more new : List Datum) → option_map (�
 new_of None more new h = absurd (cc)
 new_of (Some left) more new h = (left, refl, cc)
 
-module _ (next_id : ℕ) (params : List (List ℕ × Cell)) (sources : List Dataset) (index : ℕ) (change : ChangeOf)
+module _ (next_id : ℕ) (params signals : List (List ℕ × Cell)) (sources : List Dataset) (index : ℕ) (change : ChangeOf)
     (within : index < length sources)
     (h : IsState (state_in next_id params sources)) where
   -- the rows of all sources are those of one source and the others
@@ -201,11 +201,11 @@ module _ (next_id : ℕ) (params : List (List ℕ × Cell)) (sources : List Data
       (subst (All (λ id. id < next_id)) (map-append (λ (datum : Datum). datum.key.id) old parts.later) later)
 
   -- a state stays one
-  pub still_state : (new : List Datum) → is_past next_id params sources index change ≡ false
-      → rows_changed next_id params sources index change ≡ Some new
+  pub still_state : (new : List Datum) → is_past next_id signals sources index change ≡ false
+      → rows_changed next_id signals sources index change ≡ Some new
       → IsState (state_in (next_id + length change.insert) params (with_data sources index new))
   still_state new free changed =
-      let values = values_with params [] in
+      let values = values_with signals [] in
       let old = data_at sources index in
       let parts = split sources index within in
       let all = parts_of_all in
@@ -246,7 +246,7 @@ module _ (next_id : ℕ) (params : List (List ℕ × Cell)) (sources : List Data
       let left_below = all_former (λ id. id < next_id) (ids_of left) (ids_of parts.later) ids_left_later in
       let new_rise = subst (λ rows. AllPairs (λ a b. a < b) (ids_of rows)) (sym found.2)
       (rising next_id change.insert left left_rise left_below) in
-      let room = within_limits most_rows (greatest_id + 1) (staying_in_all next_id params sources index change + length change.insert)
+      let room = within_limits most_rows (greatest_id + 1) (staying_in_all next_id signals sources index change + length change.insert)
       (next_id + length change.insert) free in
       let long_new = ap length found.2 ∙ length-append left more in
       let long_more = counted next_id change.insert in

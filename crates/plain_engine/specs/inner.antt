@@ -2,3 +2,4 @@ pub mod JsonRows
 pub mod Mentions
 pub mod Sources
 pub mod Kept
+pub mod Settings

@@ -9,6 +9,7 @@ ghost use Rattle.plain_engine.specs.inner.Kept.{IsKept, IsKept-prop};
 
 use crate::json_rows::first_bad;
 use crate::mentions::mentions_params;
+use crate::settings::set_param;
 use crate::sources::{change_source, place_of, scene_of_state};
 use cell_value::{Cell, ChartState, Steps};
 use chart_io::{Sink, WriteFault};
@@ -55,7 +56,7 @@ impl PlainEngine {
         ensures done { IfOk result (λ reply. meaning_of self.new ≡ record {
           spec = self.old.spec;
           state = state_if reply (state_of self.old.state)
-              (state_changed (values_in (state_of self.old.state)) (state_of self.old.state) name.now change.now);
+              (state_changed (values_in self.old.spec (state_of self.old.state)) (state_of self.old.state) name.now change.now);
         }) }
         ensures kept { OnErr result (meaning_of self.new ≡ meaning_of self.old) }
     {
@@ -79,14 +80,24 @@ impl PlainEngine {
         )
     }
 
-    // Gives a value to a parameter. A specification that is drawn so far has none.
-    fn set(&self, name: &str, value: &Cell) -> Reply
-        ensures reply { result ≡ reply_to_set (vega_semantics self.now.spec) (state_of self.now.state) name.now value.now }
-        ensures stays { state_if result (state_of self.now.state) (Some (state_set (state_of self.now.state) name.now value.now))
-            ≡ state_of self.now.state }
+    // Gives a value to a parameter. Where it is refused, or memory is, all stays.
+    fn set(&mut self, alloc: Global, name: &str, value: &Cell) -> Result<Reply, OutOfMemory>
+        ensures reply { IfOk result (λ reply. reply
+            ≡ reply_to_set (vega_semantics self.old.spec) (state_of self.old.state) name.now value.now) }
+        ensures done { IfOk result (λ reply. meaning_of self.new ≡ record {
+          spec = self.old.spec;
+          state = state_if reply (state_of self.old.state) (Some (state_set (state_of self.old.state) name.now value.now));
+        }) }
+        ensures kept { OnErr result (meaning_of self.new ≡ meaning_of self.old) }
     {
-        let _ = &self.spec;
-        Reply::Refused(Cause::Name)
+        set_param(
+            alloc,
+            &self.spec,
+            &mut self.state,
+            &mut self.scene,
+            name,
+            value,
+        )
     }
 }
 
@@ -108,7 +119,7 @@ impl Engine for PlainEngine {
     ) -> Result<Reply, OutOfMemory> {
         match c {
             Command::Change { source, change } => { self.change(alloc, source.as_str(), change) }
-            Command::Set { name, value } => Ok(self.set(name.as_str(), value)),
+            Command::Set { name, value } => self.set(alloc, name.as_str(), value),
             Command::Event(_) | Command::Print => Ok(Reply::Done),
         }
     }

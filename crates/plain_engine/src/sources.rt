@@ -7,6 +7,7 @@ ghost use Rattle.vega_plots.specs.Tested.{is_plot};
 ghost use Rattle.vega_plots.specs.Plots.{plot_over};
 ghost use Rattle.vega_meaning.specs.Answers.{Draws};
 ghost use Rattle.vega_meaning.specs.Charts.{vega_scene_of};
+ghost use Rattle.vega_meaning.specs.Semantics.{signals_in};
 ghost use Rattle.param_flow.specs.Machine.{state_if, reply_to_chart};
 ghost use Rattle.scene_tree.specs.Outcome.{in_reach};
 ghost use Rattle.row_edits.specs.Edits.{edited};
@@ -25,7 +26,8 @@ use std::alloc::Global;
 use std::mem::replace;
 use text_kit::{OutOfMemory, Seq, Text};
 use vega_meaning::OpenError;
-use vega_plots::{PlotParams, scene_of};
+use vega_plots::scene_of;
+use vega_signals::{PlotParams, signal_values};
 use vega_spec::VgSpec;
 
 /// How many rows a chart may have.
@@ -82,6 +84,19 @@ pub fn scene_of_state(alloc: Global, g: &VgSpec, st: &ChartState) -> Result<Scen
         Ok(scene) => Ok(scene),
         Err(EvalError::Overflow) => Err(OpenError::Overflow),
         Err(EvalError::Memory) => Err(OpenError::Memory),
+    }
+}
+
+// The values of the signals in a state of a specification; none where one of them is out of range.
+fn signals_in(alloc: Global, g: &VgSpec, st: &ChartState) -> Result<Seq<(Text, Cell)>, OutOfMemory>
+    requires built { is_plot g.now ≡ true }
+    requires state { IsState (state_of st.now) }
+    ensures { IfOk result (λ signals. signals ≡ signals_in g.now (state_of st.now)) }
+{
+    match signal_values(alloc, &g.group, st.sources.as_slice(), st.params.as_slice()) {
+        Ok(signals) => Ok(signals),
+        Err(EvalError::Overflow) => Ok(Seq::new(alloc)),
+        Err(EvalError::Memory) => Err(OutOfMemory),
     }
 }
 
@@ -153,13 +168,14 @@ fn put_rows(
     }
 }
 
-// Does a change of a source, over the next id and the values of the parameters. Where it is refused, or memory is, all stays.
+// Does a change of a source, over the next id, the values of the parameters and those of all signals. Where it is refused, or memory is, all stays.
 fn change_rows(
     alloc: Global,
     g: &VgSpec,
     sources: &mut [Named],
     index: usize,
     params: &[(Text, Cell)],
+    signals: &[(Text, Cell)],
     scene: &mut Scene,
     next_id: u64,
     change: &ChangeOf,
@@ -167,14 +183,15 @@ fn change_rows(
     requires built { is_plot g.now ≡ true }
     requires within { index < length sources.old }
     requires state { IsState (state_in next_id params.now (map dataset_of sources.old)) }
-    ensures reply { IfOk result (λ reply. reply ≡ reply_at g.now next_id params.now (map dataset_of sources.old) index change.now) }
+    ensures reply { IfOk result (λ reply. reply ≡ reply_at g.now next_id params.now signals.now
+        (map dataset_of sources.old) index change.now) }
     ensures sources { IfOk result (λ reply. IsLeft reply
-        (sources_changed next_id params.now (map dataset_of sources.old) index change.now) sources.old sources.new) }
+        (sources_changed next_id signals.now (map dataset_of sources.old) index change.now) sources.old sources.new) }
     ensures drawn { IfOk result (λ reply. IsShown reply g.now params.now sources.new scene.old scene.new) }
     ensures kept { OnErr result ((sources.new ≡ sources.old) × (scene.new ≡ scene.old)) }
 {
     let plain = PlotParams {
-        params,
+        params: signals,
         lengths: &[],
     };
     let all = count_rows(sources);
@@ -208,12 +225,14 @@ pub fn change_source(
     requires kept { IsKept g.now st.old scene.old }
     requires within { index < length st.old.sources }
     ensures reply { IfOk result (λ reply. reply
-        ≡ reply_at g.now st.old.next_id st.old.params (map dataset_of st.old.sources) index change.now) }
-    ensures done { IfOk result (λ reply. state_of st.new
-        ≡ state_if reply (state_of st.old) (state_at (state_of st.old) index change.now)) }
+        ≡ reply_at g.now st.old.next_id st.old.params (signals_in g.now (state_of st.old)) (map dataset_of st.old.sources) index
+        change.now) }
+    ensures done { IfOk result (λ reply. state_of st.new ≡ state_if reply (state_of st.old)
+        (state_at (signals_in g.now (state_of st.old)) (state_of st.old) index change.now)) }
     ensures memory { OnErr result (st.new ≡ st.old) }
     ensures kept { IsKept g.now st.new scene.new }
 {
+    let signals = signals_in(alloc, g, st)?;
     let mut sources = replace(&mut st.sources, Seq::new(alloc)).into_vec();
     let result = change_rows(
         alloc,
@@ -221,6 +240,7 @@ pub fn change_source(
         &mut sources,
         index,
         st.params.as_slice(),
+        signals.as_slice(),
         scene,
         st.next_id,
         change,

@@ -6,3 +6,4 @@ pub mod GroupLemmas
 mod ReadLemmas
 pub mod KeyLemmas
 mod JoinLemmas
+pub mod LawLemmas

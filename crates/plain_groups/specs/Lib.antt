@@ -1,4 +1,5 @@
 pub mod Groups
 pub mod Aggregates
 pub mod GroupRows
+pub mod Laws
 pub mod inner

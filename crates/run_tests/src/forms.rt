@@ -1,7 +1,7 @@
 //! Texts that are of the form and that are not, and the form of one.
-use crate::opened::{chart_of, form_of};
 use cell_value::{Cell, Keyed, Named};
 use first_form::{FirstForm, bars_of, opening_of};
+use opened_charts::{chart_of, form_of};
 use std::alloc::Global;
 use std::test::Fail;
 use text_kit::OutOfMemory;

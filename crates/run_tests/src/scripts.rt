@@ -1,9 +1,9 @@
 //! Lines that are commands and lines that are none, and scripts, played on a chart without rows.
-use crate::opened::{opened, played_on};
 use cell_value::Cell;
 use chart_io::{ListSink, ListSource};
 use expr_syntax::{Expr, write};
 use fixed_num::Num;
+use opened_charts::{opened, played_on};
 use param_flow::{ChangeOf, Command, Event, Modify};
 use play_script::{LineError, PlayError, read_command};
 use std::alloc::Global;

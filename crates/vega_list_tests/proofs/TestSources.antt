@@ -12,7 +12,7 @@ use Rattle.cell_value.specs.State.{greatest_id}
 use Rattle.plain_rows.specs.Rows.{AreRows, AreKeys, IsBefore, keys_of}
 use Rattle.vega_spec.specs.declared.data.DataSet.{DataSet}
 use Rattle.vega_spec.specs.declared.transforms.Transform.{Transform}
-use Rattle.vega_lists.specs.Transforms.{is_built, has_names, transforms_of, OfTransforms}
+use Rattle.vega_lists.specs.Transforms.{is_kept, transforms_of, OfTransforms}
 use Rattle.vega_lists.specs.Products.{Products, KeysFit, FoldsFit, no_folds, fold_length, fold_product, fold_products, begun_product, and_its_product}
 use Rattle.vega_lists.specs.Held.{AreSources}
 use Rattle.vega_list_tests.specs.Plain.{IsPlain, IsPlainSet}
@@ -57,11 +57,8 @@ three_are_sources name a b c p q r =
     let IsSource : Named → Type 0 = λ source. AreRows source.rows × KeysFit 1 (keys_of source.rows) in
     All-cons IsSource (record { name = name; rows = a ∷ b ∷ c ∷ [] }) [] (subst AreKeys (sym same) three_keys, subst (KeysFit 1) (sym same) three_fit) (All-nil IsSource)
 
-pub plain_built : (sets : List DataSet) → All IsPlainSet sets → All (OfTransforms is_built) sets
-plain_built sets each k d lt i t below = (each k d lt i t below).built
-
-pub plain_named : (sets : List DataSet) → All IsPlainSet sets → All (OfTransforms has_names) sets
-plain_named sets each k d lt i t below = (each k d lt i t below).names
+pub plain_kept : (sets : List DataSet) → All IsPlainSet sets → All (OfTransforms is_kept) sets
+plain_kept sets each k d lt i t below = (each k d lt i t below).kept
 
 no_more : (a b : ℕ) → a ≤ 1 → b ≤ 1 → a * b ≤ 1
 no_more a b x y = let e : a * b ≤ 1 * b = mul-le-mul_right b x in omega (arith, e, y)

@@ -2,15 +2,14 @@
 use Rattle.std.specs.Prelude.{◌≤◌, IsTrue, All}
 use Rattle.vega_spec.specs.declared.data.DataSet.{DataSet}
 use Rattle.vega_spec.specs.declared.transforms.Transform.{Transform}
-use Rattle.vega_lists.specs.Transforms.{is_built, has_names, transforms_of}
+use Rattle.vega_lists.specs.Transforms.{is_kept, transforms_of}
 use Rattle.vega_lists.specs.Products.{fold_length}
 
--- the transform has a meaning, and makes a row of one at most
+-- the transform is as specifications may have it, and makes a row of one at most
 pub record IsPlain (t : Transform) : Type 0 where
-  pub built : IsTrue (is_built t)
-  pub names : IsTrue (has_names t)
+  pub kept : IsTrue (is_kept t)
   pub short : fold_length t ≤ 1
 
--- so have all transforms of a data set
+-- so are all transforms of a data set
 abbrev pub IsPlainSet : DataSet → Type 0
 IsPlainSet set = All IsPlain (transforms_of set)

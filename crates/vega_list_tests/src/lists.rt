@@ -1,18 +1,24 @@
 // Named lists over a source `t` of three rows without cells, whose ids are 1, 2 and 3. A line has data sets, each with its name, the name
 // of its source, if it has one, and its transforms: an expression alone is a filter, one under a name a formula, and `look N` a lookup of `a` in
-// the list N, whose rows have the same `k`. Behind the data sets stand a name and the ids of its rows, which were found apart.
-ghost use Rattle.std.specs.Prelude.{◌≡◌, All, IfOk, length};
+// the list N, whose rows have the same `k`. The others are of the ids: `bins` from 0 to 10, `extent` as the signal `reach`, `years`, and by `a`
+// `group` and `join` with their counts, `stack`, and `window` with the sum so far. Behind the data sets stand a name and the ids of its rows,
+// which were found apart.
+ghost use Rattle.std.specs.Prelude.{◌≡◌, All, IfOk, IfSome, length};
 ghost use Rattle.vega_lists.specs.Held.{AreSources};
 ghost use Rattle.vega_list_tests.specs.Plain.{IsPlain, IsPlainSet};
 
 use cell_value::{Cell, Key, Keyed, Named, Row, Rows};
 use expr_eval::{EvalError, NoParams};
 use expr_syntax::{Expr, ExprError, read};
+use fixed_num::Num;
 use std::alloc::Global;
 use std::test::Fail;
 use text_kit::{OutOfMemory, Seq, Text};
 use vega_lists::lists_of;
-use vega_spec::{DataSet, Filter, Formula, Lookup, Transform};
+use vega_spec::{
+    Aggregate, Bin, BinExtent, DataSet, Extent, Filter, Formula, Lookup, Stack, TimeUnit,
+    Transform, Window,
+};
 
 const LINES: &str = "\
 t -> t 1 2 3\n\
@@ -28,7 +34,15 @@ t | u of t: k = datum._vgsid_ - 1; a = 'x' | v of t: k = datum._vgsid_; look u; 
 t | v of t: a = 1; look w; datum.a == null -> v 1 2 3\n\
 t: datum._vgsid_ > 1 | t of t: datum._vgsid_ < 3 -> t 2\n\
 t | u of t: a = 1000000000000000 + datum._vgsid_ -> t overflow\n\
-t | u of t: datum._vgsid_ > 3; a = 1000000000000000 + datum._vgsid_ -> t 1 2 3\n";
+t | u of t: datum._vgsid_ > 3; a = 1000000000000000 + datum._vgsid_ -> t 1 2 3\n\
+t: bins; datum.bin0 == 2 && datum.bin1 == 3 -> t 2\n\
+t: extent; datum.reach == null -> t 1 2 3\n\
+t: a = datum._vgsid_ % 2; group -> t 1 2\n\
+t: a = datum._vgsid_ % 2; group; datum.count == 2 -> t 1\n\
+t: a = datum._vgsid_ % 2; join; datum.count == 2 -> t 1 3\n\
+t: a = datum._vgsid_ % 2; stack; datum.y0 == 1 && datum.y1 == 4 -> t 3\n\
+t: a = datum._vgsid_ % 2; window; datum.sum__vgsid_ == 4 -> t 3\n\
+t: years; datum.unit0 == 0 && datum.unit1 == 31536000000 -> t 1 2 3\n";
 
 fn bare(alloc: Global, id: u64) -> Keyed
     ensures { result.key ≡ record { id = id; branch = 0 } }
@@ -127,11 +141,121 @@ fn filter_of(alloc: Global, text: &str) -> Result<Transform, Stop>
     }))
 }
 
+fn whole(n: u8) -> Num {
+    match Num::of_millionths(i128::from(n) * 1_000_000) {
+        Some(number) => number,
+        None => unreachable!(),
+    }
+}
+
+fn bins(alloc: Global) -> Result<Transform, OutOfMemory>
+    ensures { IfOk result IsPlain }
+{
+    Ok(Transform::Bin(Bin {
+        field: Text::of(alloc, "_vgsid_")?,
+        extent: BinExtent::Pair(whole(10), whole(0)),
+        maxbins: None,
+        step: None,
+        as_: None,
+    }))
+}
+
+fn extent(alloc: Global) -> Result<Transform, OutOfMemory>
+    ensures { IfOk result IsPlain }
+{
+    Ok(Transform::Extent(Extent {
+        field: Text::of(alloc, "_vgsid_")?,
+        signal: Text::of(alloc, "reach")?,
+    }))
+}
+
+fn groups(alloc: Global) -> Result<Aggregate, OutOfMemory> {
+    Ok(Aggregate {
+        groupby: Some(one(alloc, "a")?),
+        ops: None,
+        fields: None,
+        as_: None,
+    })
+}
+
+fn group(alloc: Global) -> Result<Transform, OutOfMemory>
+    ensures { IfOk result IsPlain }
+{
+    Ok(Transform::Aggregate(groups(alloc)?))
+}
+
+fn join(alloc: Global) -> Result<Transform, OutOfMemory>
+    ensures { IfOk result IsPlain }
+{
+    Ok(Transform::JoinAggregate(groups(alloc)?))
+}
+
+fn stack(alloc: Global) -> Result<Transform, OutOfMemory>
+    ensures { IfOk result IsPlain }
+{
+    Ok(Transform::Stack(Stack {
+        groupby: Some(one(alloc, "a")?),
+        field: Text::of(alloc, "_vgsid_")?,
+        sort: None,
+        offset: None,
+        as_: None,
+    }))
+}
+
+fn field(alloc: Global) -> Result<Seq<Option<Text>>, OutOfMemory> {
+    let mut fields = Seq::new(alloc);
+    fields.push(Some(Text::of(alloc, "_vgsid_")?))?;
+    Ok(fields)
+}
+
+fn window(alloc: Global) -> Result<Transform, OutOfMemory>
+    ensures { IfOk result IsPlain }
+{
+    Ok(Transform::Window(Window {
+        ops: Seq::from_slice(alloc, &[4])?,
+        fields: Some(field(alloc)?),
+        params: None,
+        as_: None,
+        groupby: Some(one(alloc, "a")?),
+        sort: None,
+        frame: None,
+        ignore_peers: None,
+    }))
+}
+
+fn years(alloc: Global) -> Result<Transform, OutOfMemory>
+    ensures { IfOk result IsPlain }
+{
+    Ok(Transform::TimeUnit(TimeUnit {
+        field: Text::of(alloc, "_vgsid_")?,
+        units: 0,
+        as_: None,
+    }))
+}
+
+fn named_transform(alloc: Global, word: &str) -> Result<Option<Transform>, OutOfMemory>
+    ensures { IfOk result (λ t. IfSome t IsPlain) }
+{
+    Ok(match word {
+        "bins" => Some(bins(alloc)?),
+        "extent" => Some(extent(alloc)?),
+        "group" => Some(group(alloc)?),
+        "join" => Some(join(alloc)?),
+        "stack" => Some(stack(alloc)?),
+        "window" => Some(window(alloc)?),
+        "years" => Some(years(alloc)?),
+        _ => None,
+    })
+}
+
 fn transform_of(alloc: Global, step: &str) -> Result<Transform, Stop>
     ensures { IfOk result IsPlain }
 {
     if let Some(from) = step.strip_prefix("look ") {
         return Ok(lookup_in(alloc, from)?);
+    }
+    if let Some(transform) = named_transform(alloc, step)? {
+        return Ok(transform);
     }
     match step.split_once(" = ") {
         Some((name, text)) => formula_of(alloc, name, text),
@@ -198,7 +322,7 @@ fn ids_found(alloc: Global, rows: Option<&Rows>) -> Result<Text, OutOfMemory> {
 }
 
 // The ids of the list of a name.
-#[tactic(auto, using(crate::proofs::TestSources::plain_built, crate::proofs::TestSources::plain_named, crate::proofs::TestSources::plain_folds))]
+#[tactic(auto, using(crate::proofs::TestSources::plain_kept, crate::proofs::TestSources::plain_folds))]
 fn answered(alloc: Global, line: &str, name: &str) -> Result<Text, Stop> {
     let sources = sources(alloc)?;
     let sets = sets_of(alloc, line)?;

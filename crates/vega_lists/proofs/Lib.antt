@@ -1,5 +1,6 @@
 mod KeyLemmas
 mod HeldLemmas
+mod ParamLemmas
 mod StepLemmas
 mod PlaceLemmas
 mod ListLemmas

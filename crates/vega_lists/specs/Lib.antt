@@ -1,4 +1,6 @@
 pub mod Scopes
+pub mod Orders
+pub mod Operations
 pub mod Settings
 pub mod Transforms
 pub mod Products

@@ -1,13 +1,29 @@
 -- What the transforms of a Vega specification ask of rows, with what stands for the members that are absent.
-use Rattle.std.specs.Prelude.{◌≡◌, refl, ℕ, Option, Some, None, List, [], ◌∷◌, slice_get, unwrap_or, codes}
+use Rattle.std.specs.Prelude.{◌≡◌, refl, ℕ, ◌*◌, ℤ, pos, Option, Some, None, List, [], ◌∷◌, slice_get, unwrap_or, codes}
 use Rattle.std.specs.Option.{option_map_or}
-use Rattle.cell_value.specs.declared.cell.Cell.TheVariants.{Null}
+use Rattle.fixed_num.specs.Number.{million}
+use Rattle.cell_value.specs.declared.cell.Cell.{Cell}
+use Rattle.cell_value.specs.declared.cell.Cell.TheVariants.{Null, Flag, Number, Text, Pair}
+use Rattle.expr_eval.specs.Plain.{no_values}
+use Rattle.expr_eval.specs.Values.{Values}
+use Rattle.plain_rows.specs.declared.transforms.BinOf.{BinOf}
+use Rattle.plain_rows.specs.declared.transforms.Offset.{Offset as RowOffset}
+use Rattle.plain_rows.specs.declared.transforms.Offset.TheVariants as rows
+use Rattle.plain_rows.specs.declared.transforms.StackOf.{StackOf}
 use Rattle.plain_rows.specs.declared.transforms.LookupOf.{LookupOf}
 use Rattle.plain_rows.specs.declared.transforms.FoldOf.{FoldOf}
 use Rattle.plain_rows.specs.declared.transforms.TimeOf.{TimeOf}
 use Rattle.vega_spec.specs.declared.groupings.Lookup.{Lookup}
+use Rattle.vega_spec.specs.declared.transforms.Bin.{Bin}
+use Rattle.vega_spec.specs.declared.transforms.BinExtent.{BinExtent}
+use Rattle.vega_spec.specs.declared.transforms.BinExtent.TheVariants as extent
 use Rattle.vega_spec.specs.declared.transforms.Fold.{Fold}
+use Rattle.vega_spec.specs.declared.transforms.Offset.{Offset}
+use Rattle.vega_spec.specs.declared.transforms.Offset.TheVariants.{Zero, Normalize, Center}
+use Rattle.vega_spec.specs.declared.transforms.Stack.{Stack}
 use Rattle.vega_spec.specs.declared.transforms.TimeUnit.{TimeUnit}
+use Rattle.vega_lists.specs.Operations.{count_in}
+use Rattle.vega_lists.specs.Orders.{sort_or_empty}
 
 -- the first and the second of two names
 abbrev pub first_name : Option (List ℕ × List ℕ) → List ℕ → List ℕ
@@ -44,6 +60,47 @@ unit_settings t = record {
   out_end = second_name t.as_ (codes "unit1");
 }
 
+-- the two numbers that a cell is, if it is two
+abbrev pub pair_in : Cell → Option (ℤ × ℤ)
+pair_in Null = None
+pair_in (Flag b) = None
+pair_in (Number n) = None
+pair_in (Text t) = None
+pair_in (Pair a b) = Some (a, b)
+
+-- the two numbers that bins take in: those given, or those that a signal has; none where it has no two numbers
+abbrev pub extent_in : Values → BinExtent → Option (ℤ × ℤ)
+extent_in values (extent.Pair a b) = Some (a, b)
+extent_in values (extent.Signal name) = pair_in (values.value name)
+
+-- there are at most 10 bins where it isn't said, and without names they are `bin0` and `bin1`
+abbrev pub bin_settings : Values → Bin → BinOf
+bin_settings values b = record {
+  field = b.field;
+  extent = extent_in values b.extent;
+  step = b.step;
+  maxbins = count_in (unwrap_or b.maxbins (pos (10 * million)));
+  out = first_name b.as_ (codes "bin0");
+  out_end = second_name b.as_ (codes "bin1");
+}
+
+-- where a stack begins
+abbrev pub offset_of : Offset → RowOffset
+offset_of Zero = rows.Zero
+offset_of Normalize = rows.Normalize
+offset_of Center = rows.Center
+
+-- it begins at zero where it isn't said, and without names they are `y0` and `y1`
+abbrev pub stack_settings : Stack → StackOf
+stack_settings s = record {
+  field = s.field;
+  groupby = unwrap_or s.groupby [];
+  sort = sort_or_empty s.sort;
+  offset = offset_of (unwrap_or s.offset Zero);
+  out = first_name s.as_ (codes "y0");
+  out_end = second_name s.as_ (codes "y1");
+}
+
 -- The rules at work.
 
 a_lookup_without_names : lookup_settings record {
@@ -72,3 +129,29 @@ a_fold_with_names = refl
 
 the_names_of_a_unit : (unit_settings record { field = codes "t"; units = 0; as_ = None }).out_end ≡ codes "unit1"
 the_names_of_a_unit = refl
+
+-- bins of `v` with this extent
+abbrev bins_over : BinExtent → Bin
+bins_over taken = record { field = codes "v"; extent = taken; maxbins = None; step = None; as_ = None }
+
+bins_without_members : bin_settings no_values (bins_over (extent.Pair (pos 1) (pos 0))) ≡ record {
+  field = codes "v";
+  extent = Some (pos 1, pos 0);
+  step = None;
+  maxbins = 10;
+  out = codes "bin0";
+  out_end = codes "bin1";
+}
+bins_without_members = refl
+
+-- each signal is two numbers
+abbrev two_numbers : Values
+two_numbers = record no_values { value = λ name. Pair (pos 3) (pos 5) }
+
+bins_over_a_signal : ((bin_settings two_numbers (bins_over (extent.Signal (codes "s")))).extent ≡ Some (pos 3, pos 5))
+    × ((bin_settings no_values (bins_over (extent.Signal (codes "s")))).extent ≡ None)
+bins_over_a_signal = (refl, refl)
+
+a_stack_without_members : stack_settings record { groupby = None; field = codes "v"; sort = None; offset = None; as_ = None }
+    ≡ record { field = codes "v"; groupby = []; sort = []; offset = rows.Zero; out = codes "y0"; out_end = codes "y1" }
+a_stack_without_members = refl

@@ -1,5 +1,7 @@
 -- What the transforms of a Vega specification make of rows.
-use Rattle.std.specs.Prelude.{◌≡◌, refl, ℕ, Bool, true, false, IsTrue, Option, Some, None, List, [], ◌∷◌, length, All, nat_eq, unwrap_or, map, codes}
+use Rattle.std.specs.Prelude.{◌≡◌, refl, ℕ, pos, int_lt, Bool, true, IsTrue, Option, Some, None, List, [], ◌∷◌, length, All}
+use Rattle.std.specs.Prelude.{nat_eq, unwrap_or, map, codes}
+use Rattle.std.specs.Option.{option_map_or}
 use Rattle.fixed_num.specs.Ranges.{◌>>=◌}
 use Rattle.cell_value.specs.declared.cell.Cell.TheVariants.{Text}
 use Rattle.cell_value.specs.Datum.{Datum, datum_with}
@@ -10,52 +12,46 @@ use Rattle.plain_rows.specs.Calculations.{data_calculated}
 use Rattle.plain_rows.specs.TimeUnits.{data_in_time_units}
 use Rattle.plain_rows.specs.Lookups.{data_looked_up}
 use Rattle.plain_rows.specs.Folds.{data_folded}
+use Rattle.plain_bins.specs.Binned.{data_binned}
+use Rattle.plain_groups.specs.GroupRows.{data_aggregated, data_join_aggregated}
+use Rattle.plain_stacks.specs.Stacks.{data_stacked}
+use Rattle.plain_windows.specs.Windows.{data_windowed}
 use Rattle.vega_spec.specs.declared.data.DataSet.{DataSet}
 use Rattle.vega_spec.specs.declared.transforms.Transform.{Transform}
 use Rattle.vega_spec.specs.declared.transforms.Transform.TheVariants as vega
 use Rattle.vega_lists.specs.Scopes.{Scope, no_lists}
-use Rattle.vega_lists.specs.Settings.{lookup_settings, fold_settings, unit_settings}
+use Rattle.vega_lists.specs.Operations.{group_settings, window_settings}
+use Rattle.vega_lists.specs.Settings.{bin_settings, stack_settings, lookup_settings, fold_settings, unit_settings}
 
--- the transform has a meaning here; each other leaves the rows as they are
-abbrev pub is_built : Transform → Bool
-is_built (vega.Filter f) = true
-is_built (vega.Formula f) = true
-is_built (vega.Extent e) = false
-is_built (vega.Bin b) = false
-is_built (vega.TimeUnit t) = true
-is_built (vega.Aggregate a) = false
-is_built (vega.JoinAggregate a) = false
-is_built (vega.Stack s) = false
-is_built (vega.Window w) = false
-is_built (vega.Lookup l) = true
-is_built (vega.Fold f) = true
+-- what a specification that breaks no rule keeps: a lookup that names what it takes has as many names as it has values, and bins of a
+-- given width are over 0 wide
+abbrev pub is_kept : Transform → Bool
+is_kept (vega.Filter f) = true
+is_kept (vega.Formula f) = true
+is_kept (vega.Extent e) = true
+is_kept (vega.Bin b) = option_map_or (int_lt (pos 0)) b.step true
+is_kept (vega.TimeUnit t) = true
+is_kept (vega.Aggregate a) = true
+is_kept (vega.JoinAggregate a) = true
+is_kept (vega.Stack s) = true
+is_kept (vega.Window w) = true
+is_kept (vega.Lookup l) = nat_eq (length (unwrap_or l.as_ l.values)) (length l.values)
+is_kept (vega.Fold f) = true
 
--- a lookup that names what it takes has as many names as it has values
-abbrev pub has_names : Transform → Bool
-has_names (vega.Filter f) = true
-has_names (vega.Formula f) = true
-has_names (vega.Extent e) = true
-has_names (vega.Bin b) = true
-has_names (vega.TimeUnit t) = true
-has_names (vega.Aggregate a) = true
-has_names (vega.JoinAggregate a) = true
-has_names (vega.Stack s) = true
-has_names (vega.Window w) = true
-has_names (vega.Lookup l) = nat_eq (length (unwrap_or l.as_ l.values)) (length l.values)
-has_names (vega.Fold f) = true
-
--- The rows that a transform makes of rows, where names stand for lists; None where an expression overflows at a row. A lookup takes
--- cells of the list that its `from` stands for.
+-- The rows that a transform makes of rows, where names stand for lists; None where a number that it needs is out of range. A filter, a
+-- formula, a time unit and a fold make of each row what it says by itself; bins besides by their extent, or else by the least and the
+-- greatest number of all rows; a lookup by the row that it finds in the list that its `from` stands for; the others by the rows of a
+-- group. An extent leaves the rows as they are.
 abbrev pub transformed : Values → Scope → Transform → List Datum → Option (List Datum)
 transformed values scope (vega.Filter f) rows = data_filtered values f.expr rows
 transformed values scope (vega.Formula f) rows = data_calculated values f.expr f.as_ rows
 transformed values scope (vega.Extent e) rows = Some rows
-transformed values scope (vega.Bin b) rows = Some rows
+transformed values scope (vega.Bin b) rows = data_binned (bin_settings values b) rows
 transformed values scope (vega.TimeUnit t) rows = Some (data_in_time_units (unit_settings t) rows)
-transformed values scope (vega.Aggregate a) rows = Some rows
-transformed values scope (vega.JoinAggregate a) rows = Some rows
-transformed values scope (vega.Stack s) rows = Some rows
-transformed values scope (vega.Window w) rows = Some rows
+transformed values scope (vega.Aggregate a) rows = data_aggregated (group_settings a) rows
+transformed values scope (vega.JoinAggregate a) rows = data_join_aggregated (group_settings a) rows
+transformed values scope (vega.Stack s) rows = data_stacked (stack_settings s) rows
+transformed values scope (vega.Window w) rows = data_windowed (window_settings w) rows
 transformed values scope (vega.Lookup l) rows = Some (data_looked_up (lookup_settings l) (scope l.from) rows)
 transformed values scope (vega.Fold f) rows = Some (data_folded (fold_settings f) rows)
 

@@ -4,6 +4,8 @@
 mod held;
 mod laws;
 mod lists;
+mod operations;
+mod orders;
 mod settings;
 mod steps;
 mod transforms;

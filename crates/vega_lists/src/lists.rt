@@ -5,7 +5,7 @@ ghost use Rattle.cell_value.specs.Datum.{datum_of};
 ghost use Rattle.plain_rows.specs.Rows.{AreRows};
 ghost use Rattle.plain_rows.specs.Answers.{GivesRows};
 ghost use Rattle.vega_lists.specs.Scopes.{no_lists};
-ghost use Rattle.vega_lists.specs.Transforms.{is_built, has_names, transforms_of, all_transformed, AllTransforms, OfTransforms};
+ghost use Rattle.vega_lists.specs.Transforms.{is_kept, transforms_of, all_transformed, AllTransforms, OfTransforms};
 ghost use Rattle.vega_lists.specs.Products.{no_folds, FoldsFit};
 ghost use Rattle.vega_lists.specs.Lists.{list_of, lists_of};
 ghost use Rattle.vega_lists.specs.Held.{place_named, scope_in, rows_there, AreLists, AreSources, MayFold, GivesLists};
@@ -90,8 +90,7 @@ fn made_of<P: ParamReader>(
 ) -> Result<Rows, EvalError>
     requires rows { AreRows (rows_there sources.now lists.now.made place) }
     requires lists { AreLists sources.now lists.now }
-    requires built { AllTransforms is_built transforms.now }
-    requires names { AllTransforms has_names transforms.now }
+    requires kept { AllTransforms is_kept transforms.now }
     requires folds { MayFold (rows_there sources.now lists.now.made place) transforms.now }
     ensures read { GivesRows result (all_transformed (P.values params.now) (scope_in sources.now lists.now) transforms.now
         (map datum_of (rows_there sources.now lists.now.made place))) }
@@ -117,8 +116,7 @@ fn with_transformed<P: ParamReader>(
     requires there { IsThere (length lists.made) place }
     requires lists { AreLists sources.now lists }
     requires placed { ArePlaced lists }
-    requires built { AllTransforms is_built transforms.now }
-    requires names { AllTransforms has_names transforms.now }
+    requires kept { AllTransforms is_kept transforms.now }
     requires folds { MayFold (rows_there sources.now lists.made place) transforms.now }
     ensures { AddsList sources.now result name.now (scope_in sources.now lists)
         (all_transformed (P.values params.now) (scope_in sources.now lists) transforms.now
@@ -156,8 +154,7 @@ fn add_list<P: ParamReader>(
     requires given { ArePlacesOf sources.now given.now }
     requires lists { AreLists sources.now lists }
     requires placed { ArePlaced lists }
-    requires built { OfTransforms is_built set.now }
-    requires names { OfTransforms has_names set.now }
+    requires kept { OfTransforms is_kept set.now }
     requires folds { MayFold (rows_begun sources.now given.now lists set.now) (transforms_of set.now) }
     ensures { AddsList sources.now result set.now.name (scope_in sources.now lists)
         (list_of (P.values params.now) (map dataset_of sources.now) (scope_in sources.now lists) set.now) }
@@ -197,8 +194,7 @@ fn with_sets<P: ParamReader>(
     requires given { ArePlacesOf sources.now given.now }
     requires lists { AreLists sources.now outer }
     requires placed { ArePlaced outer }
-    requires built { All (OfTransforms is_built) sets.now }
-    requires names { All (OfTransforms has_names) sets.now }
+    requires kept { All (OfTransforms is_kept) sets.now }
     requires folds { SetsMayFold sources.now outer sets.now }
     ensures read { GivesLists sources.now result
         (lists_of (P.values params.now) (map dataset_of sources.now) (scope_in sources.now outer) sets.now) }
@@ -217,10 +213,10 @@ fn with_sets<P: ParamReader>(
 
 /// The named lists of the data sets of a specification's top object, in their order, each over those before it: the name of a data set
 /// stands for what its transforms make of the rows of its `source`, or without one of the state's source of its name. `Overflow`
-/// comes exactly where an expression of a data set overflows, also of one that nothing reads. The sources are those of a state: the ids
-/// of each rise and are at most 10^15, no branch is counted, and there are at most 200,000 rows. Each transform has a meaning,
-/// a lookup has as many names as values, and on no path do folds multiply rows by more than 8. Each list's keys rise, and it has at
-/// most 1,600,000 rows. A list that no transform changes isn't copied.
+/// comes exactly where a transform of a data set overflows, also of one that nothing reads. The sources are those of a state: the ids
+/// of each rise and are at most 10^15, no branch is counted, and there are at most 200,000 rows. A lookup has as many names as values,
+/// bins of a given width are over 0 wide, and on no path do folds multiply rows by more than 8. Each list's keys rise, and it has at most
+/// 1,600,000 rows. A list that no transform changes isn't copied.
 pub fn lists_of<P: ParamReader>(
     alloc: Global,
     sources: &[Named],
@@ -228,8 +224,7 @@ pub fn lists_of<P: ParamReader>(
     params: &P,
 ) -> Result<Lists, EvalError>
     requires sources { AreSources sources.now }
-    requires built { All (OfTransforms is_built) sets.now }
-    requires names { All (OfTransforms has_names) sets.now }
+    requires kept { All (OfTransforms is_kept) sets.now }
     requires folds { FoldsFit no_folds sets.now }
     ensures read { GivesLists sources.now result
         (lists_of (P.values params.now) (map dataset_of sources.now) no_lists sets.now) }

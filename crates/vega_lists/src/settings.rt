@@ -1,13 +1,21 @@
 // What the transforms of a Vega specification ask of rows, with what stands for the members that are absent.
-ghost use Rattle.std.specs.Prelude.{◌≡◌, [], IfOk, slice_get, unwrap_or, codes};
+ghost use Rattle.std.specs.Prelude.{◌≡◌, ◌*◌, [], pos, IfOk, slice_get, unwrap_or, codes};
+ghost use Rattle.fixed_num.specs.Number.{million};
 ghost use Rattle.cell_value.specs.declared.cell.Cell.TheVariants.{Null};
-ghost use Rattle.vega_lists.specs.Settings.{first_name, second_name, lookup_settings, fold_settings, unit_settings};
+ghost use Rattle.vega_spec.specs.declared.transforms.Offset.TheVariants as TheOffset;
+ghost use Rattle.vega_lists.specs.Operations.{count_in};
+ghost use Rattle.vega_lists.specs.Settings.{first_name, second_name, pair_in, extent_in, bin_settings, offset_of, stack_settings};
+ghost use Rattle.vega_lists.specs.Settings.{lookup_settings, fold_settings, unit_settings};
 
+use crate::operations::{count_in, texts_or_empty};
+use crate::orders::sort_or_empty;
 use cell_value::Cell;
-use plain_rows::{FoldOf, LookupOf, TimeOf};
+use expr_eval::ParamReader;
+use fixed_num::Num;
+use plain_rows::{BinOf, FoldOf, LookupOf, Offset as RowOffset, StackOf, TimeOf};
 use std::alloc::Global;
 use text_kit::{OutOfMemory, Seq, Text, copy_list};
-use vega_spec::{Fold, Lookup, TimeUnit};
+use vega_spec::{Bin, BinExtent, Fold, Lookup, Offset, Stack, TimeUnit};
 
 // A copy of the first of two names, or of what stands for it.
 fn first_name(
@@ -104,5 +112,85 @@ pub(crate) fn unit_settings(alloc: Global, t: &TimeUnit) -> Result<TimeOf, OutOf
         unit: t.units,
         out: first_name(alloc, &t.as_, "unit0")?,
         out_end: second_name(alloc, &t.as_, "unit1")?,
+    })
+}
+
+// The two numbers that a cell is, if it is two.
+fn pair_in(cell: &Cell) -> Option<(Num, Num)>
+    ensures { result ≡ pair_in cell.now }
+{
+    match cell {
+        Cell::Pair(a, b) => Some((*a, *b)),
+        Cell::Null | Cell::Flag(_) | Cell::Number(_) | Cell::Text(_) => None,
+    }
+}
+
+// The two numbers that bins take in: those given, or those that a signal has.
+fn extent_in<P: ParamReader>(
+    alloc: Global,
+    extent: &BinExtent,
+    params: &P,
+) -> Result<Option<(Num, Num)>, OutOfMemory>
+    ensures { IfOk result (λ given. given ≡ extent_in (P.values params.now) extent.now) }
+{
+    match extent {
+        BinExtent::Pair(a, b) => Ok(Some((*a, *b))),
+        BinExtent::Signal(name) => {
+            let cell = params.param(alloc, name.as_str())?;
+            Ok(pair_in(&cell))
+        }
+    }
+}
+
+// How many bins there are at most, 10 where it isn't said.
+fn most_bins(given: Option<Num>) -> u32
+    ensures { result ≡ count_in (unwrap_or given (pos (10 * million))) }
+{
+    match given {
+        Some(most) => count_in(most),
+        None => 10,
+    }
+}
+
+/// What bins ask of rows, where parameters and signals have these values.
+pub(crate) fn bin_settings<P: ParamReader>(
+    alloc: Global,
+    b: &Bin,
+    params: &P,
+) -> Result<BinOf, OutOfMemory>
+    ensures { IfOk result (λ how. how ≡ bin_settings (P.values params.now) b.now) }
+{
+    Ok(BinOf {
+        field: b.field.copy()?,
+        extent: extent_in(alloc, &b.extent, params)?,
+        step: b.step,
+        maxbins: most_bins(b.maxbins),
+        out: first_name(alloc, &b.as_, "bin0")?,
+        out_end: second_name(alloc, &b.as_, "bin1")?,
+    })
+}
+
+// Where a stack begins, at zero where it isn't said.
+fn offset_of(given: Option<Offset>) -> RowOffset
+    ensures { result ≡ offset_of (unwrap_or given TheOffset.Zero) }
+{
+    match given {
+        Some(Offset::Zero) | None => RowOffset::Zero,
+        Some(Offset::Normalize) => RowOffset::Normalize,
+        Some(Offset::Center) => RowOffset::Center,
+    }
+}
+
+/// What a stack asks of rows.
+pub(crate) fn stack_settings(alloc: Global, s: &Stack) -> Result<StackOf, OutOfMemory>
+    ensures { IfOk result (λ how. how ≡ stack_settings s.now) }
+{
+    Ok(StackOf {
+        field: s.field.copy()?,
+        groupby: texts_or_empty(alloc, &s.groupby)?,
+        sort: sort_or_empty(alloc, &s.sort)?,
+        offset: offset_of(s.offset),
+        out: first_name(alloc, &s.as_, "y0")?,
+        out_end: second_name(alloc, &s.as_, "y1")?,
     })
 }

@@ -3,7 +3,7 @@ ghost use Rattle.std.specs.Prelude.{◌≡◌, ◌∷◌, [], ◌++◌, ℕ, IsT
 ghost use Rattle.cell_value.specs.Datum.{datum_of};
 ghost use Rattle.plain_rows.specs.Rows.{AreRows};
 ghost use Rattle.plain_rows.specs.Answers.{GivesRows};
-ghost use Rattle.vega_lists.specs.Transforms.{is_built, has_names, transformed, all_transformed, AllTransforms};
+ghost use Rattle.vega_lists.specs.Transforms.{is_kept, transformed, all_transformed, AllTransforms};
 ghost use Rattle.vega_lists.specs.Held.{scope_in, AreLists, MayFold};
 
 use crate::{Lists, transformed};
@@ -24,8 +24,7 @@ fn next_rows<P: ParamReader>(
 ) -> Result<Rows, EvalError>
     requires rows { AreRows rows }
     requires lists { AreLists sources.now lists.now }
-    requires built { IsTrue (is_built transform.now) }
-    requires names { IsTrue (has_names transform.now) }
+    requires kept { IsTrue (is_kept transform.now) }
     requires folds { MayFold rows (transform.now ∷ []) }
     ensures read { GivesRows result
         (transformed (P.values params.now) (scope_in sources.now lists.now) transform.now (map datum_of rows)) }
@@ -46,8 +45,7 @@ fn run<P: ParamReader>(
 ) -> Result<Rows, EvalError>
     requires rows { AreRows rows }
     requires lists { AreLists sources.now lists.now }
-    requires built { AllTransforms is_built transforms.now }
-    requires names { AllTransforms has_names transforms.now }
+    requires kept { AllTransforms is_kept transforms.now }
     requires folds { MayFold rows transforms.now }
     ensures read { GivesRows result
         (all_transformed (P.values params.now) (scope_in sources.now lists.now) transforms.now (map datum_of rows)) }
@@ -75,8 +73,7 @@ pub(crate) fn all_transformed<P: ParamReader>(
 ) -> Result<Rows, EvalError>
     requires rows { AreRows rows.now }
     requires lists { AreLists sources.now lists.now }
-    requires built { AllTransforms is_built transforms.now }
-    requires names { AllTransforms has_names transforms.now }
+    requires kept { AllTransforms is_kept transforms.now }
     requires folds { MayFold rows.now transforms.now }
     ensures read { GivesRows result
         (all_transformed (P.values params.now) (scope_in sources.now lists.now) transforms.now (map datum_of rows.now)) }

@@ -1,5 +1,6 @@
 -- What a Vega specification means to commands, and what comes of commands and scripts over it.
-use Rattle.std.specs.Prelude.{ℕ, List, [], map}
+use Rattle.std.specs.Prelude.{ℕ, List, [], map, unwrap_or}
+use Rattle.cell_value.specs.declared.cell.Cell.{Cell}
 use Rattle.cell_value.specs.State.{State}
 use Rattle.expr_eval.specs.Values.{Values}
 use Rattle.param_flow.specs.declared.command.Command.{Command}
@@ -12,9 +13,11 @@ use Rattle.param_flow.specs.Script.{IsOutput, IsOutputOf}
 use Rattle.vega_spec.specs.declared.names.Parameter.{Parameter}
 use Rattle.vega_spec.specs.declared.names.ParameterKind.{ParameterKind}
 use Rattle.vega_spec.specs.declared.names.ParameterKind.TheVariants as vega
+use Rattle.vega_spec.specs.declared.spec.Group.{out-Group}
 use Rattle.vega_spec.specs.declared.spec.VgSpec.{VgSpec}
 use Rattle.vega_spec.specs.Names.{sources_of, parameters_of}
-use Rattle.vega_plots.specs.Parameters.{values_with}
+use Rattle.vega_signals.specs.Parameters.{values_with}
+use Rattle.vega_signals.specs.Signals.{signal_values}
 use Rattle.vega_meaning.specs.Charts.{vega_chart_of}
 
 -- what commands may do with a parameter of this kind
@@ -27,16 +30,21 @@ param_kind_of vega.Selection = kind.Selection
 abbrev pub param_of : Parameter → ParamOf
 param_of p = record { name = p.name; kind = param_kind_of p.kind }
 
--- what the expressions of a command read in a state: the values of its parameters; no scale has a domain there
-abbrev pub values_in : State → Values
-values_in st = values_with st.params []
+-- the values of the signals in a state; none where one of them is out of range, but of such a state nothing is drawn
+abbrev pub signals_in : VgSpec → State → List (List ℕ × Cell)
+signals_in g st = unwrap_or (signal_values (out-Group g.group) st.sources st.params) []
+
+-- what the expressions of a command read in a state: the values of its parameters, those that are computed among them; no scale has a
+-- domain there
+abbrev pub values_in : VgSpec → State → Values
+values_in g st = values_with (signals_in g st) []
 
 -- it has its sources and its parameters
 abbrev pub vega_semantics : VgSpec → Semantics
 vega_semantics g = record {
   sources = sources_of g;
   params = map param_of (parameters_of g);
-  values = values_in;
+  values = values_in g;
   chart = vega_chart_of g;
 }
 

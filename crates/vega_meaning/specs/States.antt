@@ -1,19 +1,13 @@
 -- Which states are those of a Vega specification.
-use Rattle.std.specs.Prelude.{◌≡◌, refl, ℕ, Bool, true, false, List, [], ◌∷◌, map, codes}
+use Rattle.std.specs.Prelude.{◌≡◌, refl, ℕ, List, [], ◌∷◌, map, codes}
 use Rattle.std.specs.List.{filter}
 use Rattle.cell_value.specs.declared.cell.Cell.{Cell}
 use Rattle.cell_value.specs.State.{Dataset, State, IsState}
+use Rattle.param_flow.specs.Settings.{is_settable}
 use Rattle.vega_spec.specs.declared.names.Parameter.{Parameter}
-use Rattle.vega_spec.specs.declared.names.ParameterKind.{ParameterKind}
-use Rattle.vega_spec.specs.declared.names.ParameterKind.TheVariants.{Settable, Computed, Selection}
+use Rattle.vega_spec.specs.declared.names.ParameterKind.TheVariants.{Settable, Computed}
 use Rattle.vega_spec.specs.declared.spec.VgSpec.{VgSpec}
 use Rattle.vega_spec.specs.Names.{sources_of, parameters_of}
-
--- whether commands may set a parameter of this kind
-abbrev pub is_settable : ParameterKind → Bool
-is_settable Settable = true
-is_settable Computed = false
-is_settable Selection = false
 
 -- the names of the parameters that commands may set
 abbrev pub settable_names : List Parameter → List (List ℕ)

@@ -10,7 +10,6 @@ use Rattle.std.proofs.lemmas.List.Elements.{All-cons, All-nil}
 use Rattle.fixed_num.specs.Number.{million}
 use Rattle.fixed_num.specs.Ranges.{is_within}
 use Rattle.vega_spec.specs.declared.data.DataSet.{DataSet}
-use Rattle.vega_spec.specs.declared.transforms.Transform.{Transform}
 use Rattle.vega_spec.specs.declared.scales.Scale.{Scale as VegaScale}
 use Rattle.vega_spec.specs.declared.spec.Group.{Group, Group-F, out-Group}
 use Rattle.vega_spec.specs.declared.spec.Size.{Size}
@@ -18,16 +17,16 @@ use Rattle.vega_spec.specs.declared.spec.Size.TheVariants as size
 use Rattle.vega_spec.specs.declared.spec.VgMark.{VgMark}
 use Rattle.vega_spec.specs.declared.spec.VgSpec.{VgSpec}
 use Rattle.vega_spec.specs.Names.{sources_of}
-use Rattle.vega_lists.specs.Transforms.{transforms_of, has_names, OfTransforms}
-use Rattle.vega_lists.specs.Transforms as transforms
+use Rattle.vega_lists.specs.Transforms.{transforms_of, is_kept, OfTransforms}
 use Rattle.vega_lists.specs.Products.{no_folds}
 use Rattle.scale_kit.specs.Scale.{IsPadding, IsPixel, IsRange}
 use Rattle.vega_scales.specs.Scales.{given_ends, is_domain_built, is_ordinal, KeepsBounds}
 use Rattle.vega_scales.specs.Scales as scaling
 use Rattle.mark_encode.specs.Items as items
-use Rattle.vega_plots.specs.Plots.{data_of, scales_in, marks_in}
+use Rattle.vega_signals.specs.Signals.{data_of}
+use Rattle.vega_plots.specs.Plots.{scales_in, marks_in}
 use Rattle.vega_plots.specs.Built.{is_bare, IsBuilt, KeepsRules, IsSizeKept}
-use Rattle.vega_plots.specs.Tested.{is_padding, is_pixel, is_range, is_transform, is_set, has_places, is_scale, is_size, is_space}
+use Rattle.vega_plots.specs.Tested.{is_padding, is_pixel, is_range, is_set, has_places, is_scale, is_size, is_space}
 use Rattle.vega_plots.specs.Tested.{is_plot_group, is_one_plot, are_new, is_plot}
 use Rattle.vega_guides.specs.Plots.{has_kept_axes}
 use Rattle.vega_guides.proofs.TestedLaw.{law as axes_law}
@@ -74,15 +73,8 @@ space_kept : (o : Option ℤ) → option_map_or is_space o true ≡ true
 space_kept None e = (omega (arith, ints), omega (arith, ints))
 space_kept (Some n) e = within (pos 0) (pos (1000 * million)) n e
 
-built_set : (set : DataSet) → is_set set ≡ true → OfTransforms transforms.is_built set
-built_set set e =
-    each is_transform (λ t. IsTrue (transforms.is_built t)) (λ t h. holds (transforms.is_built t) (both (transforms.is_built t) (has_names t) h).0)
-    (transforms_of set) e
-
-named_set : (set : DataSet) → is_set set ≡ true → OfTransforms has_names set
-named_set set e =
-    each is_transform (λ t. IsTrue (has_names t)) (λ t h. holds (has_names t) (both (transforms.is_built t) (has_names t) h).1)
-    (transforms_of set) e
+kept_set : (set : DataSet) → is_set set ≡ true → OfTransforms is_kept set
+kept_set set e = each is_kept (λ t. IsTrue (is_kept t)) (λ t h. holds (is_kept t) h) (transforms_of set) e
 
 module _ (s : VegaScale) (e : is_scale s ≡ true) where
   rest_of_domain : (is_domain_built s.domain && (option_map_or is_padding s.padding true && (option_map_or is_padding s.padding_inner true
@@ -124,13 +116,12 @@ law g e =
     let kept = space_kept g.padding space.0 in (
       record {
         bare = holds (is_bare top) bare.0;
-        sets = each is_set (OfTransforms transforms.is_built) built_set (data_of top) sets.0;
         scales = each is_scale (λ s. IsTrue (scaling.is_built s)) built_scale (scales_in top) scales.0;
         domains = each is_scale (λ (s : VegaScale). IsTrue (is_domain_built s.domain)) built_domain (scales_in top) scales.0;
         marks = each items.is_built (λ m. IsTrue (items.is_built m)) (λ m h. holds (items.is_built m) h) (marks_in top) marks.0;
       },
       record {
-        names = each is_set (OfTransforms has_names) named_set (data_of top) sets.0;
+        sets = each is_set (OfTransforms is_kept) kept_set (data_of top) sets.0;
         folds = fit.law no_folds (data_of top) space.1;
         bounds = each is_scale KeepsBounds kept_bounds (scales_in top) scales.0;
         width = size_kept g.width width.0;

@@ -1,4 +1,3 @@
-pub mod Parameters
 pub mod Sizes
 pub mod Plots
 pub mod Built

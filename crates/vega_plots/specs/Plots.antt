@@ -8,7 +8,6 @@ use Rattle.cell_value.specs.State.{Dataset, State}
 use Rattle.expr_eval.specs.Values.{Values}
 use Rattle.scene_tree.specs.declared.scene.Scene.{Scene}
 use Rattle.scene_tree.specs.declared.scene.Item.{Item}
-use Rattle.vega_spec.specs.declared.data.DataSet.{DataSet}
 use Rattle.vega_spec.specs.declared.scales.Scale.{Scale as VegaScale}
 use Rattle.vega_spec.specs.declared.marks.MarkFrom.{MarkFrom}
 use Rattle.vega_spec.specs.declared.marks.MarkFrom.TheVariants.{Data, Facet}
@@ -17,18 +16,16 @@ use Rattle.vega_spec.specs.declared.spec.VgMark.{VgMark, out-VgMark}
 use Rattle.vega_spec.specs.declared.spec.VgSpec.{VgSpec}
 use Rattle.vega_lists.specs.Scopes.{Scope, no_lists}
 use Rattle.vega_lists.specs.Lists.{lists_of}
+use Rattle.vega_signals.specs.Parameters.{values_with}
+use Rattle.vega_signals.specs.Signals.{data_of, signal_values}
 use Rattle.scale_kit.specs.declared.scale.ScaleIn.{ScaleIn}
 use Rattle.scale_kit.specs.declared.scale.ScaleSet.{ScaleSet}
 use Rattle.vega_scales.specs.Scales.{scale_of, domain_length}
 use Rattle.mark_encode.specs.Items.{items_of}
-use Rattle.vega_plots.specs.Parameters.{values_with}
 use Rattle.vega_guides.specs.Plots.{scene_of}
 use Rattle.vega_plots.specs.Sizes.{size_of, padding_round}
 
--- the data sets, the scales and the marks of an object
-abbrev pub data_of : Group-F Group VgMark → List DataSet
-data_of g = unwrap_or g.data_ []
-
+-- the scales and the marks of an object
 abbrev pub scales_in : Group-F Group VgMark → List VegaScale
 scales_in g = unwrap_or g.scales []
 
@@ -76,22 +73,29 @@ abbrev pub first_unit : List VgMark → Option ℕ
 first_unit [] = None
 first_unit (mark ∷ marks) = Some 0
 
--- a plot whose lists of rows are there: its size is read first, which may ask how long the domains of scales are, and then its scales, over
--- which its marks and its guides stand
+-- a plot whose signals have these values, and whose lists of rows are there: its size is read first, which may ask how long the domains
+-- of scales are, and then its scales, over which its marks and its guides stand
 abbrev pub scene_over : VgSpec → List (List ℕ × Cell) → Scope → Option Scene
-scene_over g params scope = do
-  lengths ← lengths_of (values_with params []) scope (scales_in (out-Group g.group))
-  width ← size_of (values_with params lengths) g.width
-  height ← size_of (values_with params lengths) g.height
-  scales ← scale_set (values_with params []) scope width height (scales_in (out-Group g.group))
-  items ← items_of_marks (values_with params []) scope scales 0 (marks_in (out-Group g.group))
+scene_over g signals scope = do
+  lengths ← lengths_of (values_with signals []) scope (scales_in (out-Group g.group))
+  width ← size_of (values_with signals lengths) g.width
+  height ← size_of (values_with signals lengths) g.height
+  scales ← scale_set (values_with signals []) scope width height (scales_in (out-Group g.group))
+  items ← items_of_marks (values_with signals []) scope scales 0 (marks_in (out-Group g.group))
   scene_of (out-Group g.group) scales (padding_round g.padding) width height (first_unit (marks_in (out-Group g.group))) items
 
--- the scene of a specification over sources of rows and values of parameters; None where a number is out of range
+-- a plot whose signals have these values, over sources of rows
+abbrev pub plot_with : VgSpec → List Dataset → List (List ℕ × Cell) → Option Scene
+plot_with g sources signals = do
+  scope ← lists_of (values_with signals []) sources no_lists (data_of (out-Group g.group))
+  scene_over g signals scope
+
+-- the scene of a specification over sources of rows and values of the parameters that can be set: its signals are computed first, and then
+-- its lists of rows. None where a number is out of range, also in a signal or a list that nothing reads.
 abbrev pub plot_over : VgSpec → List Dataset → List (List ℕ × Cell) → Option Scene
 plot_over g sources params = do
-  scope ← lists_of (values_with params []) sources no_lists (data_of (out-Group g.group))
-  scene_over g params scope
+  signals ← signal_values (out-Group g.group) sources params
+  plot_with g sources signals
 
 -- the scene of a specification over a state
 abbrev pub plot_of : VgSpec → State → Option Scene

@@ -8,7 +8,6 @@ use Rattle.std.specs.Option.{option_map_or}
 use Rattle.fixed_num.specs.Number.{million}
 use Rattle.fixed_num.specs.Ranges.{is_within}
 use Rattle.vega_spec.specs.declared.data.DataSet.{DataSet}
-use Rattle.vega_spec.specs.declared.transforms.Transform.{Transform}
 use Rattle.vega_spec.specs.declared.scales.Scale.{Scale as VegaScale}
 use Rattle.vega_spec.specs.declared.spec.Group.{Group, Group-F, out-Group}
 use Rattle.vega_spec.specs.declared.spec.Size.{Size}
@@ -16,14 +15,14 @@ use Rattle.vega_spec.specs.declared.spec.Size.TheVariants as size
 use Rattle.vega_spec.specs.declared.spec.VgMark.{VgMark}
 use Rattle.vega_spec.specs.declared.spec.VgSpec.{VgSpec}
 use Rattle.vega_spec.specs.Names.{sources_of}
-use Rattle.vega_lists.specs.Transforms.{transforms_of, has_names}
-use Rattle.vega_lists.specs.Transforms as transforms
+use Rattle.vega_lists.specs.Transforms.{transforms_of, is_kept}
 use Rattle.vega_lists.specs.Products.{no_folds}
 use Rattle.vega_scales.specs.Scales.{given_ends, is_domain_built, is_ordinal}
 use Rattle.vega_scales.specs.Scales as scaling
 use Rattle.mark_encode.specs.Items as items
 use Rattle.vega_guides.specs.Plots.{has_kept_axes}
-use Rattle.vega_plots.specs.Plots.{data_of, scales_in, marks_in}
+use Rattle.vega_signals.specs.Signals.{data_of}
+use Rattle.vega_plots.specs.Plots.{scales_in, marks_in}
 use Rattle.vega_plots.specs.Built.{is_bare, IsBuilt, KeepsRules}
 use Rattle.vega_plots.specs.Fitting.{folds_fit}
 
@@ -38,13 +37,9 @@ is_pixel n = is_within (pos 0) (pos (10 ^ 11 * million)) n
 abbrev pub is_range : ℤ × ℤ → Bool
 is_range ends = is_pixel ends.0 && is_pixel ends.1
 
--- a transform has a meaning, and as many names as it asks
-abbrev pub is_transform : Transform → Bool
-is_transform t = transforms.is_built t && has_names t
-
--- so have all of a data set
+-- each transform of a data set is as specifications may have it
 abbrev pub is_set : DataSet → Bool
-is_set set = list_all is_transform (transforms_of set)
+is_set set = list_all is_kept (transforms_of set)
 
 -- the ends of a range are places; an ordinal scale has none
 abbrev pub has_places : VegaScale → Bool

@@ -5,12 +5,11 @@ ghost use Rattle.expr_eval.specs.Answers.{Evaluates};
 ghost use Rattle.scale_kit.specs.Scale.{AreScales};
 ghost use Rattle.vega_spec.specs.declared.spec.Group.{out-Group};
 ghost use Rattle.vega_lists.specs.Held.{AreSources, AreLists, scope_in};
-ghost use Rattle.vega_plots.specs.Plots.{data_of, scales_in, marks_in, first_unit, scene_over, plot_over};
+ghost use Rattle.vega_plots.specs.Plots.{scales_in, marks_in, first_unit, scene_over, plot_with, plot_over};
 ghost use Rattle.vega_plots.specs.Sizes.{padding_round};
 ghost use Rattle.vega_guides.specs.Plots.{HasKeptAxes, scene_of as guided_scene};
 ghost use Rattle.vega_plots.specs.Built.{IsBuilt, KeepsRules};
 
-use crate::PlotParams;
 use crate::marks::items_of_marks;
 use crate::scales::{lengths_of, scale_set};
 use crate::sizes::{padding_round, size_of};
@@ -23,19 +22,10 @@ use scene_tree::{Item, Scene};
 use std::alloc::Global;
 use text_kit::{Seq, Text};
 use vega_lists::{Lists, lists_of};
-use vega_spec::{DataSet, Group, Scale, VgMark, VgSpec};
+use vega_signals::{PlotParams, data_of, signal_values};
+use vega_spec::{Group, Scale, VgMark, VgSpec};
 
-// The data sets of an object.
-pub(crate) fn data_of(group: &Group) -> &[DataSet]
-    ensures { result.now ≡ data_of (out-Group group.now) }
-{
-    match &group.data_ {
-        Some(sets) => sets.as_slice(),
-        None => &[],
-    }
-}
-
-// Its scales.
+// The scales of an object.
 pub(crate) fn scales_in(group: &Group) -> &[Scale]
     ensures { result.now ≡ scales_in (out-Group group.now) }
 {
@@ -87,27 +77,27 @@ fn guided(
     }
 }
 
-// The scene of a plot whose lists of rows are there.
+// The scene of a plot whose signals have these values, and whose lists of rows are there.
 fn scene_over(
     alloc: Global,
     g: &VgSpec,
     sources: &[Named],
-    params: &[(Text, Cell)],
+    signals: &[(Text, Cell)],
     lists: &Lists,
 ) -> Result<Scene, EvalError>
     requires few { length (marks_in (out-Group g.now.group)) < 2 ^ 32 }
     requires lists { AreLists sources.now lists.now }
     requires built { IsBuilt g.now }
     requires kept { KeepsRules g.now }
-    ensures { Evaluates result (scene_over g.now params.now (scope_in sources.now lists.now)) }
+    ensures { Evaluates result (scene_over g.now signals.now (scope_in sources.now lists.now)) }
 {
     let plain = PlotParams {
-        params,
+        params: signals,
         lengths: &[],
     };
     let lengths = lengths_of(alloc, scales_in(&g.group), sources, lists, &plain)?;
     let sized = PlotParams {
-        params,
+        params: signals,
         lengths: lengths.as_slice(),
     };
     let width = size_of(alloc, &g.width, &sized)?;
@@ -127,9 +117,31 @@ fn scene_over(
     guided(alloc, g, &scales, &size, items)
 }
 
-/// The scene of a specification that is one plot, over sources of rows and values of parameters: the lists of rows of its data sets, its
-/// width and height in pixels, its scales, the items of its marks in their order, and its axes, legends and title. `Overflow` comes exactly
-/// where a number that is needed is out of range, also of a list that nothing reads.
+// The scene of a specification that is one plot, over sources of rows and values of its signals: the lists of rows of its data sets, its
+// width and height in pixels, its scales, the items of its marks in their order, and its axes, legends and title. `Overflow` comes exactly
+// where a number that is needed is out of range, also of a list that nothing reads.
+fn scene_with(
+    alloc: Global,
+    g: &VgSpec,
+    sources: &[Named],
+    signals: &[(Text, Cell)],
+) -> Result<Scene, EvalError>
+    requires few { length (marks_in (out-Group g.now.group)) < 2 ^ 32 }
+    requires sources { AreSources sources.now }
+    requires built { IsBuilt g.now }
+    requires kept { KeepsRules g.now }
+    ensures { Evaluates result (plot_with g.now (map dataset_of sources.now) signals.now) }
+{
+    let plain = PlotParams {
+        params: signals,
+        lengths: &[],
+    };
+    let lists = lists_of(alloc, sources, data_of(&g.group), &plain)?;
+    scene_over(alloc, g, sources, signals, &lists)
+}
+
+/// The scene of a specification that is one plot, over sources of rows and values of the parameters that can be set: its signals are computed
+/// first. `Overflow` comes exactly where a number that is needed is out of range, also of a signal or a list that nothing reads.
 pub fn scene_of(
     alloc: Global,
     g: &VgSpec,
@@ -142,10 +154,6 @@ pub fn scene_of(
     requires kept { KeepsRules g.now }
     ensures { Evaluates result (plot_over g.now (map dataset_of sources.now) params.now) }
 {
-    let plain = PlotParams {
-        params,
-        lengths: &[],
-    };
-    let lists = lists_of(alloc, sources, data_of(&g.group), &plain)?;
-    scene_over(alloc, g, sources, params, &lists)
+    let signals = signal_values(alloc, &g.group, sources, params)?;
+    scene_with(alloc, g, sources, signals.as_slice())
 }

@@ -6,11 +6,11 @@ ghost use Rattle.scale_kit.specs.Scale.{IsPixel};
 ghost use Rattle.vega_plots.specs.Sizes.{size_in, size_of, padding_round};
 ghost use Rattle.vega_plots.specs.Built.{IsSizeKept};
 
-use crate::evaluation::eval_alone;
 use cell_value::Cell;
 use expr_eval::{EvalError, ParamReader};
 use fixed_num::Num;
 use std::alloc::Global;
+use vega_signals::eval_alone;
 use vega_spec::Size;
 
 /// The greatest size of a plot, in millionths of a pixel.

@@ -1,29 +1,31 @@
 // Whether a specification is a plot that has a meaning so far and keeps the rules.
-ghost use Rattle.std.specs.Prelude.{◌≡◌, ◌^◌, [], IfOk, true, nat_lt, length};
+ghost use Rattle.std.specs.Prelude.{◌≡◌, ◌^◌, [], pos, int_lt, IfOk, true, nat_eq, nat_lt, length, unwrap_or};
 ghost use Rattle.std.specs.Option.{option_map_or};
 ghost use Rattle.std.specs.List.{list_all};
 ghost use Rattle.expr_eval.specs.Numbers.{the_number};
 ghost use Rattle.vega_spec.specs.declared.spec.Group.{out-Group};
-ghost use Rattle.vega_spec.specs.Names.{sources_of};
-ghost use Rattle.vega_lists.specs.Transforms.{is_built, has_names};
+ghost use Rattle.vega_spec.specs.Names.{signals_of, sources_of};
+ghost use Rattle.vega_lists.specs.Transforms.{is_kept};
 ghost use Rattle.vega_scales.specs.Ranges.{two_numbers};
 ghost use Rattle.vega_scales.specs.Scales.{given_ends};
 ghost use Rattle.mark_encode.specs.Items as items;
-ghost use Rattle.vega_plots.specs.Built.{is_empty, is_bare};
-ghost use Rattle.vega_plots.specs.Tested.{is_padding, is_pixel, is_range, is_transform, is_set, has_places, is_scale, is_size, is_space};
+ghost use Rattle.vega_plots.specs.Built.{is_plain, is_bare};
+ghost use Rattle.vega_plots.specs.Tested.{is_padding, is_pixel, is_range, is_set, has_places, is_scale, is_size, is_space};
 ghost use Rattle.vega_plots.specs.Tested.{is_plot_group, is_one_plot, are_new, is_plot, PlotsAreTested};
 
 use crate::folds::{folds_fit, transforms_of};
 use crate::names::are_new;
-use crate::plots::{data_of, marks_in, scales_in};
+use crate::plots::{marks_in, scales_in};
 use cell_value::Cell;
 use fixed_num::Num;
 use std::alloc::Global;
 use text_kit::{OutOfMemory, Seq};
 use vega_guides::has_kept_axes;
 use vega_scales::{is_built, is_domain_built, is_ordinal};
+use vega_signals::data_of;
 use vega_spec::{
-    DataSet, Group, MarkFrom, MarkType, Range, Scale, Size, Transform, VgMark, VgSpec, sources_of,
+    DataSet, Group, Lookup, MarkFrom, MarkType, Range, Scale, Signal, Size, Transform, VgMark,
+    VgSpec, sources_of,
 };
 
 // A padding of bands is from 0 to 1.
@@ -80,59 +82,50 @@ fn given_ends(range: &Range) -> Option<(Num, Num)>
     }
 }
 
-// A transform has a meaning.
-fn has_meaning(transform: &Transform) -> bool
-    ensures { result ≡ is_built transform.now }
+// A width of bins that is given is over 0.
+fn is_step_kept(step: Option<Num>) -> bool
+    ensures { result ≡ option_map_or (int_lt (pos 0)) step true }
 {
-    match transform {
-        Transform::Filter(_)
-        | Transform::Formula(_)
-        | Transform::TimeUnit(_)
-        | Transform::Lookup(_)
-        | Transform::Fold(_) => true,
-        Transform::Extent(_)
-        | Transform::Bin(_)
-        | Transform::Aggregate(_)
-        | Transform::JoinAggregate(_)
-        | Transform::Stack(_)
-        | Transform::Window(_) => false,
+    match step {
+        Some(step) => 0 < step.millionths(),
+        None => true,
     }
 }
 
-// A transform has as many names as it asks.
-fn has_names(transform: &Transform) -> bool
-    ensures { result ≡ has_names transform.now }
+// A lookup that names what it takes has as many names as it has values.
+fn has_names(l: &Lookup) -> bool
+    ensures { result ≡ nat_eq (length (unwrap_or l.now.as_ l.now.values)) (length l.now.values) }
+{
+    match &l.as_ {
+        Some(names) => names.len() == l.values.len(),
+        None => true,
+    }
+}
+
+// A transform is as specifications may have it.
+fn is_kept(transform: &Transform) -> bool
+    ensures { result ≡ is_kept transform.now }
 {
     match transform {
-        Transform::Lookup(l) => match &l.as_ {
-            Some(names) => names.len() == l.values.len(),
-            None => true,
-        },
+        Transform::Bin(b) => is_step_kept(b.step),
+        Transform::Lookup(l) => has_names(l),
         Transform::Filter(_)
         | Transform::Formula(_)
-        | Transform::TimeUnit(_)
-        | Transform::Fold(_)
         | Transform::Extent(_)
-        | Transform::Bin(_)
+        | Transform::TimeUnit(_)
         | Transform::Aggregate(_)
         | Transform::JoinAggregate(_)
         | Transform::Stack(_)
-        | Transform::Window(_) => true,
+        | Transform::Window(_)
+        | Transform::Fold(_) => true,
     }
 }
 
-// Both.
-fn is_transform(transform: &Transform) -> bool
-    ensures { result ≡ is_transform transform.now }
-{
-    has_meaning(transform) && has_names(transform)
-}
-
-// So have all of a data set.
+// So is each transform of a data set.
 fn is_set(set: &DataSet) -> bool
     ensures { result ≡ is_set set.now }
 {
-    transforms_of(set).iter().all(is_transform)
+    transforms_of(set).iter().all(is_kept)
 }
 
 // An optional padding is one.
@@ -236,21 +229,35 @@ fn is_size(size: &Option<Size>) -> bool
     }
 }
 
-// A list that may be absent has nothing.
-fn is_empty<T>(list: &Option<Seq<T>>) -> bool
-    ensures { result ≡ is_empty list.now }
+// A signal that does nothing on events is no selection.
+fn is_plain(signal: &Signal) -> bool
+    ensures { result ≡ is_plain signal.now }
 {
-    match list {
-        Some(items) => items.is_empty(),
-        None => true,
+    signal.on.is_none()
+}
+
+// The signals of an object.
+fn signals_of(group: &Group) -> &[Signal]
+    ensures { result.now ≡ signals_of (out-Group group.now) }
+{
+    match &group.signals {
+        Some(signals) => signals.as_slice(),
+        None => &[],
     }
 }
 
-// An object without signals and layout.
+// None of these is a selection.
+fn are_plain(signals: &[Signal]) -> bool
+    ensures { result ≡ list_all is_plain signals.now }
+{
+    signals.iter().all(is_plain)
+}
+
+// An object without selections and layout.
 fn is_bare(group: &Group) -> bool
     ensures { result ≡ is_bare (out-Group group.now) }
 {
-    is_empty(&group.signals) && group.layout.is_none()
+    are_plain(signals_of(group)) && group.layout.is_none()
 }
 
 // An object is a plot.

@@ -10,7 +10,7 @@ use Rattle.cell_value.specs.State.{greatest_id}
 use Rattle.plain_rows.specs.Rows.{AreKeys, IsBefore}
 use Rattle.vega_spec.specs.declared.data.DataSet.{DataSet}
 use Rattle.vega_spec.specs.declared.transforms.Transform.{Transform}
-use Rattle.vega_lists.specs.Transforms.{is_built, has_names, AllTransforms, OfTransforms}
+use Rattle.vega_lists.specs.Transforms.{is_kept, AllTransforms, OfTransforms}
 use Rattle.vega_lists.specs.Products.{KeysFit, ProductsFit, FoldsFit, no_folds}
 use Rattle.vega_lists.specs.Held.{AreSources}
 use Rattle.vega_scale_tests.specs.Sources.{IsSource, IsPlain}
@@ -68,15 +68,10 @@ none_asks : (test : Transform → Bool) (transforms : Option (List Transform)) �
 none_asks test None e = All-nil _
 none_asks test (Some ts) e = cc
 
-pub all_built : (a b c d : DataSet) → IsPlain a → IsPlain b → IsPlain c → IsPlain d → All (OfTransforms is_built) (a ∷ b ∷ c ∷ d ∷ [])
-all_built a b c d p q r s =
-    all_four (OfTransforms is_built) a b c d (none_asks is_built a.transform p) (none_asks is_built b.transform q)
-    (none_asks is_built c.transform r) (none_asks is_built d.transform s)
-
-pub all_named : (a b c d : DataSet) → IsPlain a → IsPlain b → IsPlain c → IsPlain d → All (OfTransforms has_names) (a ∷ b ∷ c ∷ d ∷ [])
-all_named a b c d p q r s =
-    all_four (OfTransforms has_names) a b c d (none_asks has_names a.transform p) (none_asks has_names b.transform q)
-    (none_asks has_names c.transform r) (none_asks has_names d.transform s)
+pub all_kept : (a b c d : DataSet) → IsPlain a → IsPlain b → IsPlain c → IsPlain d → All (OfTransforms is_kept) (a ∷ b ∷ c ∷ d ∷ [])
+all_kept a b c d p q r s =
+    all_four (OfTransforms is_kept) a b c d (none_asks is_kept a.transform p) (none_asks is_kept b.transform q)
+    (none_asks is_kept c.transform r) (none_asks is_kept d.transform s)
 
 none_folds : (product : ℕ) (transforms : Option (List Transform)) → transforms ≡ None → ProductsFit product (unwrap_or transforms [])
 none_folds product None e = All-nil _

@@ -1,6 +1,6 @@
 // The sources, and a data set for each.
 ghost use Rattle.std.specs.Prelude.{◌≡◌, All, IfOk};
-ghost use Rattle.vega_lists.specs.Transforms.{is_built, has_names, OfTransforms};
+ghost use Rattle.vega_lists.specs.Transforms.{is_kept, OfTransforms};
 ghost use Rattle.vega_lists.specs.Products.{FoldsFit, no_folds};
 ghost use Rattle.vega_lists.specs.Held.{AreSources};
 ghost use Rattle.vega_scale_tests.specs.Sources.{IsSource, IsPlain};
@@ -75,10 +75,9 @@ fn set(alloc: Global, name: &str) -> Result<DataSet, OutOfMemory>
     })
 }
 
-#[tactic(auto, using(crate::proofs::TestSources::all_built, crate::proofs::TestSources::all_named, crate::proofs::TestSources::all_folds))]
+#[tactic(auto, using(crate::proofs::TestSources::all_kept, crate::proofs::TestSources::all_folds))]
 pub(crate) fn sets(alloc: Global) -> Result<Seq<DataSet>, OutOfMemory>
-    ensures built { IfOk result (All (OfTransforms is_built)) }
-    ensures names { IfOk result (All (OfTransforms has_names)) }
+    ensures kept { IfOk result (All (OfTransforms is_kept)) }
     ensures folds { IfOk result (FoldsFit no_folds) }
 {
     let mut sets = Seq::new(alloc);

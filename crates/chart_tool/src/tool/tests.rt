@@ -9,6 +9,7 @@ mod limits;
 mod pictures;
 mod refusals;
 mod scripts;
+mod transforms;
 mod vega;
 
 const THREE_BARS: &str = concat!(

@@ -17,7 +17,7 @@ use Rattle.param_flow.specs.declared.reply.Cause.TheVariants as cause
 use Rattle.param_flow.specs.Change.{rows_after, count_staying}
 use Rattle.param_flow.specs.Machine.{new_rows, reply_to_chart}
 use Rattle.vega_spec.specs.declared.spec.VgSpec.{VgSpec}
-use Rattle.vega_plots.specs.Parameters.{values_with}
+use Rattle.vega_signals.specs.Parameters.{values_with}
 use Rattle.vega_plots.specs.Plots.{plot_over}
 
 -- the rows of the source at an index; none where there is no source
@@ -55,12 +55,12 @@ count_in sources = length (flat_map (λ (source : Dataset). source.rows) sources
 abbrev pub AreApart : List (List ℕ) → Type 0
 AreApart names = AllPairs (λ a b. a ≢ b) names
 
-module _ (next_id : ℕ) (params : List (List ℕ × Cell)) (sources : List Dataset) (index : ℕ) (change : ChangeOf) where
+module _ (next_id : ℕ) (signals : List (List ℕ × Cell)) (sources : List Dataset) (index : ℕ) (change : ChangeOf) where
   -- the rows of a source after a change; None where an expression is out of range
   abbrev pub rows_changed : Option (List Datum)
   rows_changed =
       option_map (λ left. left ++ map datum_of (new_rows next_id change.insert))
-      (rows_after (values_with params []) change (data_at sources index))
+      (rows_after (values_with signals []) change (data_at sources index))
 
   -- the sources after it
   abbrev pub sources_changed : Option (List Dataset)
@@ -68,7 +68,7 @@ module _ (next_id : ℕ) (params : List (List ℕ × Cell)) (sources : List Data
 
   -- how many rows would stay in all sources
   abbrev pub staying_in_all : ℕ
-  staying_in_all = (count_in sources - length (data_at sources index)) + count_staying (values_with params []) change.remove
+  staying_in_all = (count_in sources - length (data_at sources index)) + count_staying (values_with signals []) change.remove
       (data_at sources index)
 
   -- whether it would leave too many rows, or a new one would have too great an id
@@ -81,14 +81,14 @@ reply_to_sources g params None = Refused cause.Overflow
 reply_to_sources g params (Some sources) = reply_to_chart (in_reach (plot_over g sources params))
 
 -- what is replied to a change of the source at an index that names what is there and whose rows can be read
-abbrev pub reply_at : VgSpec → ℕ → List (List ℕ × Cell) → List Dataset → ℕ → ChangeOf → Reply
-reply_at g next_id params sources index change =
-    if is_past next_id params sources index change then Refused cause.Limit
-    else reply_to_sources g params (sources_changed next_id params sources index change)
+abbrev pub reply_at : VgSpec → ℕ → List (List ℕ × Cell) → List (List ℕ × Cell) → List Dataset → ℕ → ChangeOf → Reply
+reply_at g next_id params signals sources index change =
+    if is_past next_id signals sources index change then Refused cause.Limit
+    else reply_to_sources g params (sources_changed next_id signals sources index change)
 
 -- the state after it
-abbrev pub state_at : State → ℕ → ChangeOf → Option State
-state_at st index change =
+abbrev pub state_at : List (List ℕ × Cell) → State → ℕ → ChangeOf → Option State
+state_at signals st index change =
     option_map (λ sources. record {
       next_id = st.next_id + length change.insert;
       sources = sources;
@@ -96,7 +96,7 @@ state_at st index change =
       stores =
           st.stores;
     })
-    (sources_changed st.next_id st.params st.sources index change)
+    (sources_changed st.next_id signals st.sources index change)
 
 -- after Done sources are as they were changed, else as they were
 abbrev pub sources_if : Reply → List Named → List Named → List Named

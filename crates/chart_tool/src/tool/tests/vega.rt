@@ -22,11 +22,11 @@ const TAIL: &str = concat!(
     "\"fill\":{\"value\":\"#4c78a8\"}}}}]",
 );
 
-const THREE_ROWS: &str =
+pub(super) const THREE_ROWS: &str =
     "{\"name\":\"t\",\"values\":[{\"a\":\"A\",\"b\":28},{\"a\":\"B\",\"b\":55},{\"a\":\"C\",\"b\":43}]}";
 
 // The picture of the two bars of which the field is below 50.
-const TWO_BARS: &str =
+pub(super) const TWO_BARS: &str =
     "<svg xmlns=\"http://www.w3.org/2000/svg\" version=\"1.1\" width=\"70\" height=\"210\" viewBox=\"0 0 70 210\">
 <g transform=\"translate(5,5)\">
 <rect x=\"1.5\" y=\"75.555556\" width=\"27\" height=\"124.444444\" fill=\"#4c78a8\"/>
@@ -53,7 +53,7 @@ const ONE_LINE: &str =
 ";
 
 // A specification of bars over these data, with these members at its end.
-fn vega_of(alloc: Global, data: &str, end: &str) -> Result<String, Fail> {
+pub(super) fn vega_of(alloc: Global, data: &str, end: &str) -> Result<String, Fail> {
     let mut text = String::from_str(alloc, HEAD)?;
     text.push_str(data)?;
     text.push_str(TAIL)?;
@@ -63,7 +63,7 @@ fn vega_of(alloc: Global, data: &str, end: &str) -> Result<String, Fail> {
 }
 
 // What a run over a specification `s.json` and a file of data gives: its status, its note and its output.
-fn run_over(
+pub(super) fn run_over(
     alloc: Global,
     words: &[&str],
     spec: &[u8],
@@ -96,7 +96,7 @@ fn run_over(
 }
 
 // Words, data, the members at the end, the file `d`, the status with the note, and the output.
-const RUNS: [(&[&str], &str, &str, &str, (u8, &str), &str); 19] = [
+const RUNS: [(&[&str], &str, &str, &str, (u8, &str), &str); 21] = [
     (&["render", "s.json"], THREE_ROWS, "", "", DONE, PICTURE),
     (
         &["render", "s.json"],
@@ -207,9 +207,25 @@ const RUNS: [(&[&str], &str, &str, &str, (u8, &str), &str); 19] = [
     (
         &["render", "s.json"],
         "{\"name\":\"t\"}",
-        ",\"signals\":[{\"name\":\"k\",\"value\":1}]",
+        ",\"signals\":[{\"name\":\"k\",\"on\":[{\"events\":\"click\",\"update\":\"vlPoint('k')\"}]}]",
         "",
         (4, "chart: spec unsupported \n"),
+        "",
+    ),
+    (
+        &["render", "s.json"],
+        "{\"name\":\"t\"}",
+        ",\"signals\":[{\"name\":\"k\",\"value\":1e15},{\"name\":\"l\",\"update\":\"k * 2\"}]",
+        "",
+        (6, "chart: overflow\n"),
+        "",
+    ),
+    (
+        &["render", "s.json"],
+        "{\"name\":\"t\",\"transform\":[{\"type\":\"filter\",\"expr\":\"datum.b < l\"}]}",
+        ",\"signals\":[{\"name\":\"k\",\"value\":1e15},{\"name\":\"l\",\"update\":\"k * 2\"}]",
+        "",
+        (6, "chart: overflow\n"),
         "",
     ),
     (

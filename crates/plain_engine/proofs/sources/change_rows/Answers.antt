@@ -6,7 +6,7 @@ use Rattle.param_flow.specs.Change.{rows_after, count_staying}
 use Rattle.param_flow.specs.Machine.{new_rows}
 use Rattle.row_edits.specs.Rows.{Fits}
 use Rattle.row_edits.specs.Edits.{edited, data_edited}
-use Rattle.vega_plots.specs.Parameters.{values_with}
+use Rattle.vega_signals.specs.Parameters.{values_with}
 use Rattle.plain_engine.specs.inner.Sources.{rows_at, with_rows, sources_changed}
 use Rattle.plain_engine.proofs.Changes.{few_stay, few_here, rows_fit, past_is, sources_by, fit_by, out_of_range_by, reply_past}
 use Rattle.plain_engine.proofs.Changes.{reply_by, left_by}
@@ -21,13 +21,13 @@ overflow_sub-others c =
 pub edits_of-requires : goal.edits_of-requires
 edits_of-requires c =
     subst Fits (sym c.rows_at-rows.ensures)
-    (rows_fit c.args.next_id c.args.params.now c.args.sources.now c.args.index c.args.change.now c.requires.within c.requires.state)
+    (rows_fit c.args.next_id c.args.params.now c.args.signals.now c.args.sources.now c.args.index c.args.change.now c.requires.within c.requires.state)
 
 pub overflow_add-others : goal.overflow_add-others
 overflow_add-others c =
     let few = few_here c.args.sources.now c.args.index in
     let rows = ap length c.rows_at-rows.ensures in
-    let stay = few_stay (values_with c.args.params.now []) c.args.change.now c.rows_at-rows.result.now in
+    let stay = few_stay (values_with c.args.signals.now []) c.args.change.now c.rows_at-rows.result.now in
     let count = c.in_ok-each.ensures.staying in
     omega (arith, few, rows, c.count_rows-all.ensures, stay, count, c.requires.state.few_rows)
 
@@ -35,14 +35,14 @@ pub is_past_limit-requires-clause-few : goal.is_past_limit-requires-clause-few
 is_past_limit-requires-clause-few c =
     let few = few_here c.args.sources.now c.args.index in
     let rows = ap length c.rows_at-rows.ensures in
-    let stay = few_stay (values_with c.args.params.now []) c.args.change.now c.rows_at-rows.result.now in
+    let stay = few_stay (values_with c.args.signals.now []) c.args.change.now c.rows_at-rows.result.now in
     let count = c.in_ok-each.ensures.staying in
     omega (arith, few, rows, c.count_rows-all.ensures, stay, count, c.requires.state.few_rows)
 
 pub returns-then-is_past_limit-clause-reply : goal.returns-then-is_past_limit-clause-reply
 returns-then-is_past_limit-clause-reply c =
     let sources = c.args.sources.now in
-    let values = values_with c.args.params.now [] in
+    let values = values_with c.args.signals.now [] in
     let change = c.args.change.now in
     let edits = c.in_ok-each.field-0 in
     let all = c.count_rows-all.ensures in
@@ -52,15 +52,15 @@ returns-then-is_past_limit-clause-reply c =
     (rows_at sources c.args.index) ≡ c.count_rows-all.result =
     omega (arith, all, few, rows) in
     let count = c.in_ok-each.ensures.staying ∙ ap (λ rows. count_staying values change.remove (map datum_of rows)) c.rows_at-rows.ensures in
-    let past = past_is c.args.next_id c.args.params.now sources c.args.index change c.count_rows-all.result
+    let past = past_is c.args.next_id c.args.params.now c.args.signals.now sources c.args.index change c.count_rows-all.result
     (c.count_rows-all.result - length c.rows_at-rows.result.now) edits.staying c.len.result c.is_past_limit.result all others count c.len.ensures
     c.is_past_limit.ensures in
-    reply_past c.args.next_id c.args.params.now sources c.args.index change c.args.g.now (sym past ∙ c.if-is_past_limit.true)
+    reply_past c.args.next_id c.args.params.now c.args.signals.now sources c.args.index change c.args.g.now (sym past ∙ c.if-is_past_limit.true)
 
 pub returns-then-overflows-clause-reply : goal.returns-then-overflows-clause-reply
 returns-then-overflows-clause-reply c =
     let sources = c.args.sources.now in
-    let values = values_with c.args.params.now [] in
+    let values = values_with c.args.signals.now [] in
     let change = c.args.change.now in
     let edits = c.in_ok-each.field-0 in
     let all = c.count_rows-all.ensures in
@@ -70,20 +70,20 @@ returns-then-overflows-clause-reply c =
     (rows_at sources c.args.index) ≡ c.count_rows-all.result =
     omega (arith, all, few, rows) in
     let count = c.in_ok-each.ensures.staying ∙ ap (λ rows. count_staying values change.remove (map datum_of rows)) c.rows_at-rows.ensures in
-    let past = past_is c.args.next_id c.args.params.now sources c.args.index change c.count_rows-all.result
+    let past = past_is c.args.next_id c.args.params.now c.args.signals.now sources c.args.index change c.count_rows-all.result
     (c.count_rows-all.result - length c.rows_at-rows.result.now) edits.staying c.len.result c.is_past_limit.result all others count c.len.ensures
     c.is_past_limit.ensures in
     let free = sym past ∙ c.if-is_past_limit.false in
     let is : data_edited edits (rows_at sources c.args.index) ≡ rows_after values change (map datum_of (rows_at sources c.args.index)) =
     subst (λ rows. data_edited edits rows ≡ rows_after values change
     (map datum_of rows)) c.rows_at-rows.ensures c.in_ok-each.ensures.rows in
-    sym (reply_by c.args.next_id c.args.params.now sources c.args.index change c.args.g.now None free
-    (out_of_range_by c.args.next_id c.args.params.now sources c.args.index change edits is c.if-overflows.true))
+    sym (reply_by c.args.next_id c.args.params.now c.args.signals.now sources c.args.index change c.args.g.now None free
+    (out_of_range_by c.args.next_id c.args.params.now c.args.signals.now sources c.args.index change edits is c.if-overflows.true))
 
 pub put_rows-requires-clause-fit : goal.put_rows-requires-clause-fit
 put_rows-requires-clause-fit c =
     let sources = c.args.sources.now in
-    let values = values_with c.args.params.now [] in
+    let values = values_with c.args.signals.now [] in
     let change = c.args.change.now in
     let edits = c.in_ok-each.field-0 in
     let all = c.count_rows-all.ensures in
@@ -93,7 +93,7 @@ put_rows-requires-clause-fit c =
     (rows_at sources c.args.index) ≡ c.count_rows-all.result =
     omega (arith, all, few, rows) in
     let count = c.in_ok-each.ensures.staying ∙ ap (λ rows. count_staying values change.remove (map datum_of rows)) c.rows_at-rows.ensures in
-    let past = past_is c.args.next_id c.args.params.now sources c.args.index change c.count_rows-all.result
+    let past = past_is c.args.next_id c.args.params.now c.args.signals.now sources c.args.index change c.count_rows-all.result
     (c.count_rows-all.result - length c.rows_at-rows.result.now) edits.staying c.len.result c.is_past_limit.result all others count c.len.ensures
     c.is_past_limit.ensures in
     let free = sym past ∙ c.if-is_past_limit.false in
@@ -102,13 +102,13 @@ put_rows-requires-clause-fit c =
     (map datum_of rows)) c.rows_at-rows.ensures c.in_ok-each.ensures.rows in
     let more = c.in_ok-more.more in
     let new = c.in_ok-more.ensures ∙ ap (new_rows c.args.next_id) c.as_slice.ensures in
-    fit_by c.args.next_id c.args.params.now sources c.args.index change edits is more c.if-overflows.false new c.requires.within
+    fit_by c.args.next_id c.args.params.now c.args.signals.now sources c.args.index change edits is more c.if-overflows.false new c.requires.within
     c.requires.state free
 
 pub returns-clause-reply : goal.returns-clause-reply
 returns-clause-reply c =
     let sources = c.args.sources.now in
-    let values = values_with c.args.params.now [] in
+    let values = values_with c.args.signals.now [] in
     let change = c.args.change.now in
     let edits = c.in_ok-each.field-0 in
     let all = c.count_rows-all.ensures in
@@ -118,7 +118,7 @@ returns-clause-reply c =
     (rows_at sources c.args.index) ≡ c.count_rows-all.result =
     omega (arith, all, few, rows) in
     let count = c.in_ok-each.ensures.staying ∙ ap (λ rows. count_staying values change.remove (map datum_of rows)) c.rows_at-rows.ensures in
-    let past = past_is c.args.next_id c.args.params.now sources c.args.index change c.count_rows-all.result
+    let past = past_is c.args.next_id c.args.params.now c.args.signals.now sources c.args.index change c.count_rows-all.result
     (c.count_rows-all.result - length c.rows_at-rows.result.now) edits.staying c.len.result c.is_past_limit.result all others count c.len.ensures
     c.is_past_limit.ensures in
     let free = sym past ∙ c.if-is_past_limit.false in
@@ -127,16 +127,16 @@ returns-clause-reply c =
     (map datum_of rows)) c.rows_at-rows.ensures c.in_ok-each.ensures.rows in
     let more = c.in_ok-more.more in
     let new = c.in_ok-more.ensures ∙ ap (new_rows c.args.next_id) c.as_slice.ensures in
-    let changed = sources_by c.args.next_id c.args.params.now sources c.args.index change edits is more c.if-overflows.false new in
+    let changed = sources_by c.args.next_id c.args.params.now c.args.signals.now sources c.args.index change edits is more c.if-overflows.false new in
     subst (λ wanted. IfOk c.put_rows.result (λ reply. reply ≡ wanted))
-    (sym (reply_by c.args.next_id c.args.params.now sources c.args.index change c.args.g.now
+    (sym (reply_by c.args.next_id c.args.params.now c.args.signals.now sources c.args.index change c.args.g.now
     (Some (map dataset_of (with_rows sources c.args.index (edited edits.each (rows_at sources c.args.index) ++ more)))) free changed))
     c.put_rows.ensures.reply
 
 pub returns-clause-sources : goal.returns-clause-sources
 returns-clause-sources c =
     let sources = c.args.sources.now in
-    let values = values_with c.args.params.now [] in
+    let values = values_with c.args.signals.now [] in
     let change = c.args.change.now in
     let edits = c.in_ok-each.field-0 in
     let all = c.count_rows-all.ensures in
@@ -146,7 +146,7 @@ returns-clause-sources c =
     (rows_at sources c.args.index) ≡ c.count_rows-all.result =
     omega (arith, all, few, rows) in
     let count = c.in_ok-each.ensures.staying ∙ ap (λ rows. count_staying values change.remove (map datum_of rows)) c.rows_at-rows.ensures in
-    let past = past_is c.args.next_id c.args.params.now sources c.args.index change c.count_rows-all.result
+    let past = past_is c.args.next_id c.args.params.now c.args.signals.now sources c.args.index change c.count_rows-all.result
     (c.count_rows-all.result - length c.rows_at-rows.result.now) edits.staying c.len.result c.is_past_limit.result all others count c.len.ensures
     c.is_past_limit.ensures in
     let free = sym past ∙ c.if-is_past_limit.false in
@@ -155,6 +155,6 @@ returns-clause-sources c =
     (map datum_of rows)) c.rows_at-rows.ensures c.in_ok-each.ensures.rows in
     let more = c.in_ok-more.more in
     let new = c.in_ok-more.ensures ∙ ap (new_rows c.args.next_id) c.as_slice.ensures in
-    let changed = sources_by c.args.next_id c.args.params.now sources c.args.index change edits is more c.if-overflows.false new in
-    left_by c.put_rows.result (sources_changed c.args.next_id c.args.params.now (map dataset_of sources) c.args.index change) sources
+    let changed = sources_by c.args.next_id c.args.params.now c.args.signals.now sources c.args.index change edits is more c.if-overflows.false new in
+    left_by c.put_rows.result (sources_changed c.args.next_id c.args.signals.now (map dataset_of sources) c.args.index change) sources
     (with_rows sources c.args.index (edited edits.each (rows_at sources c.args.index) ++ more)) _ changed c.put_rows.ensures.sources

@@ -1,11 +1,12 @@
 use Rattle.std.proofs.Common.{ℕ, ◌+◌, Some, length, map, arith, sym, ap, subst, ◌∙◌}
 use Rattle.cell_value.specs.declared.state.ChartState.{ChartState}
-use Rattle.cell_value.specs.State.{dataset_of}
+use Rattle.cell_value.specs.State.{dataset_of, state_of}
 use Rattle.vega_plots.specs.Plots.{plot_over}
+use Rattle.vega_meaning.specs.Semantics.{signals_in}
 use Rattle.plain_engine.specs.inner.Kept.{IsKept}
 use Rattle.plain_engine.specs.inner.Sources.{sources_changed, reply_at}
 use Rattle.plain_engine.proofs.Places.{whole}
-use Rattle.plain_engine.proofs.Replies.{kept_done}
+use Rattle.plain_engine.proofs.Replies.{kept_done, kept_same}
 use Rattle.plain_engine.proofs.sources.change_source.Goals as goal
 
 pub returns-in-Ok-Done-clause-kept : goal.returns-in-Ok-Done-clause-kept
@@ -17,6 +18,8 @@ returns-in-Ok-Done-clause-kept c =
     let scene = c.change_rows-result.new.scene in
     let items = c.deref_mut.ensures.value ∙ c.into_vec-sources.ensures ∙ c.replace.ensures.value in
     let params = c.as_slice.ensures in
+    let given = c.as_slice-2.ensures ∙ c.in_ok-signals.ensures in
+    let signals = signals_in g (state_of st) in
     let value = ap length c.deref_mut.ensures.value in
     let same = c.change_rows-result.auto.sources in
     let long = c.deref_mut.ensures.len in
@@ -34,8 +37,34 @@ returns-in-Ok-Done-clause-kept c =
     } in
     IsKept g now scene) in
     subst now (sym c.len.ensures)
-    (kept_done g st index change c.requires.within c.requires.kept.of c.from_vec.result scene c.requires.kept.plot
-    ((λ i. sources_changed st.next_id (sym params i) (map dataset_of (sym items i)) index change) ∙ changed
+    (kept_done g st signals index change c.requires.within c.requires.kept.of c.from_vec.result scene c.requires.kept.plot
+    ((λ i. sources_changed st.next_id (sym given i) (map dataset_of (sym items i)) index change) ∙ changed
     ∙ ap (λ sources. Some (map dataset_of sources)) (sym placed))
-    (replied ∙ (λ i. reply_at g st.next_id (params i) (map dataset_of (items i)) index change))
+    (replied ∙ (λ i. reply_at g st.next_id (params i) (given i) (map dataset_of (items i)) index change))
     ((λ i. plot_over g (map dataset_of (placed i)) (sym params i)) ∙ drawn))
+
+pub returns-in-Ok-Refused-clause-kept : goal.returns-in-Ok-Refused-clause-kept
+returns-in-Ok-Refused-clause-kept c =
+    let items = c.deref_mut.ensures.value ∙ c.into_vec-sources.ensures ∙ c.replace.ensures.value in
+    let value = ap length c.deref_mut.ensures.value in
+    let same = c.change_rows-result.auto.sources in
+    let long = c.deref_mut.ensures.len in
+    let placed = c.from_vec.ensures
+    ∙ whole c.into_vec-sources.result.len c.change_rows-result.new.sources c.into_vec-sources.result.items (same ∙ value)
+    (omega (arith, long, value)) in
+    let left = rw c.in-Ok-Refused.field-0-is at c.in-Ok-Refused.ensures.sources in
+    let shown = rw c.in-Ok-Refused.field-0-is at c.in-Ok-Refused.ensures.drawn in
+    kept_same c.args.g.now c.args.st.now c.args.scene.now c.change_rows-result.new.scene c.from_vec.result c.requires.kept (placed ∙ left ∙ items) shown
+
+pub returns-clause-kept : goal.returns-clause-kept
+returns-clause-kept c =
+    let items = c.deref_mut.ensures.value ∙ c.into_vec-sources.ensures ∙ c.replace.ensures.value in
+    let value = ap length c.deref_mut.ensures.value in
+    let same = c.change_rows-result.auto.sources in
+    let long = c.deref_mut.ensures.len in
+    let placed = c.from_vec.ensures
+    ∙ whole c.into_vec-sources.result.len c.change_rows-result.new.sources c.into_vec-sources.result.items (same ∙ value)
+    (omega (arith, long, value)) in
+    let stayed = c.in-Err.ensures.kept in
+    kept_same c.args.g.now c.args.st.now c.args.scene.now c.change_rows-result.new.scene c.from_vec.result c.requires.kept
+    (placed ∙ stayed.0 ∙ items) stayed.1

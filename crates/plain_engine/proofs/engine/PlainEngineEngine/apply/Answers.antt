@@ -20,12 +20,13 @@ returns-in-Change-clause-done g c =
 
 pub returns-in-Set-clause-reply : goal.returns-in-Set-clause-reply
 returns-in-Set-clause-reply g c =
-    c.set.ensures.reply
-    ∙ asked_set (vega_semantics c.args.self.now.spec) (state_of c.args.self.now.state) c.args.c.now c.in-Set.name c.in-Set.value _
-    c.in-Set.is c.as_str-in-Set.ensures
+    subst (λ wanted. IfOk c.set.result (λ reply. reply ≡ wanted))
+    (asked_set (vega_semantics c.args.self.now.spec) (state_of c.args.self.now.state) c.args.c.now c.in-Set.name c.in-Set.value _
+    c.in-Set.is c.as_str-in-Set.ensures) c.set.ensures.reply
 
 pub returns-in-Set-clause-done : goal.returns-in-Set-clause-done
 returns-in-Set-clause-done g c =
     let meant : State → Meaning = λ st. record { spec = c.args.self.now.spec; state = st } in
-    ap meant (done_set (vega_semantics c.args.self.now.spec) (state_of c.args.self.now.state) c.args.c.now c.in-Set.name c.in-Set.value _
-    c.in-Set.is c.as_str-in-Set.ensures c.set.result c.set.ensures.reply c.set.ensures.stays)
+    done_set (vega_semantics c.args.self.now.spec) (state_of c.args.self.now.state) c.args.c.now c.in-Set.name c.in-Set.value _
+    c.in-Set.is c.as_str-in-Set.ensures
+    meant _ c.set.result c.set.ensures.reply c.set.ensures.done

@@ -1,0 +1,32 @@
+use Rattle.std.proofs.Common.{[], map, sym, ap, subst, ◌∙◌}
+use Rattle.std.specs.Prelude.{unwrap_or}
+use Rattle.cell_value.specs.State.{dataset_of}
+use Rattle.vega_spec.specs.declared.spec.Group.{out-Group}
+use Rattle.vega_signals.specs.Signals.{signal_values}
+use Rattle.vega_lists.specs.Held.{AreSources}
+use Rattle.vega_lists.proofs.StateLemmas.{sources_of_state}
+use Rattle.vega_plots.proofs.PlotLaw.{law}
+use Rattle.plain_engine.proofs.sources.signals_in.Goals as goal
+
+pub signal_values-requires-clause-sources : goal.signal_values-requires-clause-sources
+signal_values-requires-clause-sources c = subst AreSources (sym c.as_slice.ensures) (sources_of_state c.args.st.now c.requires.state)
+
+pub signal_values-requires-clause-kept : goal.signal_values-requires-clause-kept
+signal_values-requires-clause-kept c = (law c.args.g.now c.requires.built).1.sets
+
+pub signal_values-requires-clause-folds : goal.signal_values-requires-clause-folds
+signal_values-requires-clause-folds c = (law c.args.g.now c.requires.built).1.folds
+
+pub returns-in-Ok : goal.returns-in-Ok
+returns-in-Ok c =
+    let top = out-Group c.args.g.now.group in
+    sym (ap (λ found. unwrap_or found [])
+    ((λ i. signal_values top (map dataset_of (sym c.as_slice.ensures i)) (sym c.as_slice-2.ensures i)) ∙ c.in-Ok.ensures))
+
+pub returns-in-Err-Overflow : goal.returns-in-Err-Overflow
+returns-in-Err-Overflow c =
+    let top = out-Group c.args.g.now.group in
+    let out = rw c.in-Err-Overflow.field-0-is at c.in-Err-Overflow.ensures in
+    c.new.ensures
+    ∙ sym (ap (λ found. unwrap_or found [])
+    ((λ i. signal_values top (map dataset_of (sym c.as_slice.ensures i)) (sym c.as_slice-2.ensures i)) ∙ out))

@@ -1,0 +1,18 @@
+-- Values of parameters that are put in place.
+use Rattle.std.specs.Prelude.{ℕ, List, Some, map}
+use Rattle.cell_value.specs.declared.cell.Cell.{Cell}
+use Rattle.cell_value.specs.State.{State}
+use Rattle.param_flow.specs.declared.reply.Reply.{Reply}
+use Rattle.param_flow.specs.Machine.{state_if}
+
+-- the names of parameters
+abbrev pub names_of : List (List ℕ × Cell) → List (List ℕ)
+names_of params = map (λ (param : List ℕ × Cell). param.0) params
+
+-- a state with these values
+abbrev pub state_with : State → List (List ℕ × Cell) → State
+state_with st params = record { next_id = st.next_id; sources = st.sources; params = params; stores = st.stores }
+
+-- after Done a state has these values, else it is as it was
+abbrev pub state_if_put : Reply → State → List (List ℕ × Cell) → State
+state_if_put reply st params = state_if reply st (Some (state_with st params))

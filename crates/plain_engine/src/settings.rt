@@ -1,0 +1,82 @@
+// Settings of parameters.
+ghost use Rattle.std.specs.Prelude.{◌≡◌, Some, map, IfOk, OnErr};
+ghost use Rattle.cell_value.specs.State.{dataset_of, state_of};
+ghost use Rattle.param_flow.specs.Machine.{reply_to_chart, reply_to_set, state_if, state_set};
+ghost use Rattle.scene_tree.specs.Outcome.{in_reach};
+ghost use Rattle.vega_plots.specs.Plots.{plot_over};
+ghost use Rattle.vega_spec.specs.Names.{parameters_of};
+ghost use Rattle.vega_meaning.specs.Semantics.{vega_semantics};
+ghost use Rattle.vega_meaning.specs.States.{settable_names};
+ghost use Rattle.plain_engine.specs.inner.Kept.{IsKept};
+ghost use Rattle.plain_engine.specs.inner.Settings.{names_of, state_if_put};
+
+use cell_value::{Cell, ChartState, Params};
+use expr_eval::EvalError;
+use param_flow::{Cause, ParamError, Reply, set};
+use scene_tree::Scene;
+use std::alloc::Global;
+use text_kit::{OutOfMemory, Seq, Text, copy_list};
+use vega_plots::scene_of;
+use vega_spec::VgSpec;
+
+// Copies of the values of the parameters and of what the selections hold in a state.
+fn params_of(alloc: Global, st: &ChartState) -> Result<Params, OutOfMemory>
+    ensures { IfOk result (λ params. params ≡ record { params = st.now.params; stores = st.now.stores }) }
+{
+    Ok(Params {
+        params: copy_list(alloc, st.params.as_slice())?,
+        stores: copy_list(alloc, st.stores.as_slice())?,
+    })
+}
+
+// Draws the chart with these values of the parameters, and puts them in place. Where it can't be drawn, or memory is refused, all stays.
+fn put_params(
+    alloc: Global,
+    g: &VgSpec,
+    st: &mut ChartState,
+    scene: &mut Scene,
+    params: Seq<(Text, Cell)>,
+) -> Result<Reply, OutOfMemory>
+    requires kept { IsKept g.now st.old scene.old }
+    requires names { names_of params ≡ settable_names (parameters_of g.now) }
+    ensures reply { IfOk result (λ reply. reply ≡ reply_to_chart (in_reach (plot_over g.now (map dataset_of st.old.sources) params))) }
+    ensures done { IfOk result (λ reply. state_of st.new ≡ state_if_put reply (state_of st.old) params) }
+    ensures memory { OnErr result (st.new ≡ st.old) }
+    ensures kept { IsKept g.now st.new scene.new }
+{
+    match scene_of(alloc, g, st.sources.as_slice(), params.as_slice()) {
+        Ok(drawn) => {
+            st.params = params;
+            *scene = drawn;
+            Ok(Reply::Done)
+        }
+        Err(EvalError::Overflow) => Ok(Reply::Refused(Cause::Overflow)),
+        Err(EvalError::Memory) => Err(OutOfMemory),
+    }
+}
+
+/// Gives a value to a parameter, over a state of a specification and the scene of that. Where it is refused, or memory is, all stays.
+pub fn set_param(
+    alloc: Global,
+    g: &VgSpec,
+    st: &mut ChartState,
+    scene: &mut Scene,
+    name: &str,
+    value: &Cell,
+) -> Result<Reply, OutOfMemory>
+    requires kept { IsKept g.now st.old scene.old }
+    ensures reply { IfOk result (λ reply. reply ≡ reply_to_set (vega_semantics g.now) (state_of st.old) name.now value.now) }
+    ensures done { IfOk result (λ reply. state_of st.new
+        ≡ state_if reply (state_of st.old) (Some (state_set (state_of st.old) name.now value.now))) }
+    ensures memory { OnErr result (st.new ≡ st.old) }
+    ensures kept { IsKept g.now st.new scene.new }
+{
+    let now = params_of(alloc, st)?;
+    let given = value.copy()?;
+    match set(alloc, g, &now, name, given) {
+        Ok(next) => put_params(alloc, g, st, scene, next.params),
+        Err(ParamError::NoSuchName) => Ok(Reply::Refused(Cause::Name)),
+        Err(ParamError::Computed) => Ok(Reply::Refused(Cause::Name)),
+        Err(ParamError::Memory) => Err(OutOfMemory),
+    }
+}

@@ -1,0 +1,11 @@
+use Rattle.std.proofs.Common.{◌≡◌, map, take, Some, option_map}
+use Rattle.fixed_num.specs.Ranges.{all_found}
+use Rattle.cell_value.specs.Datum.{datum_of}
+use Rattle.plain_rows.specs.Lookups.{with_cells}
+use Rattle.plain_windows.specs.Windows.{window_cells}
+use Rattle.plain_windows.proofs.windows.windowed_rows.Given as goal
+
+abbrev pub invariant-loop-at : goal.invariant-loop-at
+invariant-loop-at l =
+    all_found (map (λ row. option_map (with_cells row) (window_cells l.w (map datum_of l.rows) (datum_of row))) (take l.at l.rows))
+    ≡ Some l.out

@@ -1,0 +1,280 @@
+// Rows with what windows give.
+ghost use Rattle.std.specs.Prelude.{◌≡◌, ◌<◌, ◌≤◌, map, length, zip, slice_index_or, IfOk, option_map};
+ghost use Rattle.cell_value.specs.State.{greatest_id};
+ghost use Rattle.cell_value.specs.Datum.{datum_of};
+ghost use Rattle.expr_eval.specs.Answers.{Evaluates};
+ghost use Rattle.fixed_num.specs.Ranges.{all_found};
+ghost use Rattle.plain_rows.specs.Rows.{AreRows};
+ghost use Rattle.plain_rows.specs.Answers.{GivesRows};
+ghost use Rattle.plain_rows.specs.Lookups.{with_cells};
+ghost use Rattle.plain_orders.specs.Partitions.{datum_at, data_at, ArePartitions};
+ghost use Rattle.plain_windows.specs.Frames.{are_peers};
+ghost use Rattle.plain_windows.specs.Windows.{windowed, data_windowed};
+ghost use Rattle.plain_windows.specs.inner.Totals.{AreAllSmall, IsTotaled, totals_of};
+ghost use Rattle.plain_windows.specs.inner.Views.{AreListed, AreSeen, part, counts, frame_rows, view_with, named_by, cells_by};
+
+use crate::cells::{all_totals, window_cell};
+use crate::counts::all_counts;
+use crate::frames::{Frame, frame_at, widened};
+use crate::totals::Total;
+use cell_value::{Cell, Keyed, Rows};
+use expr_eval::EvalError;
+use plain_orders::partitions_of;
+use plain_rows::{OpOf, SortBy, WindowOf, with_cells};
+use std::alloc::Global;
+use text_kit::{OutOfMemory, Seq, Text};
+
+// The frame of the row at a rank of a partition.
+fn frame_of(
+    w: &WindowOf,
+    rows: &[Keyed],
+    places: &[usize],
+    rank: usize,
+) -> Result<Frame, OutOfMemory>
+    requires rows { AreRows rows.now }
+    requires listed { AreListed w.now.sort (map datum_of rows.now) places.now }
+    requires rank { rank < length places.now }
+    ensures frame { IfOk result (λ frame. part frame (data_at (map datum_of rows.now) places.now)
+        ≡ frame_rows w.now (data_at (map datum_of rows.now) places.now) rank) }
+    ensures within { IfOk result (λ frame. frame.to ≤ length places.now) }
+{
+    let exact = frame_at(places.len(), rank, w.before, w.after);
+    if w.ignore_peers {
+        Ok(exact)
+    } else {
+        widened(w.sort.as_slice(), rows, places, exact)
+    }
+}
+
+// What an operation gives for the row at a rank, under its new name.
+fn named_cell(
+    alloc: Global,
+    sort: &[SortBy],
+    rows: &[Keyed],
+    places: &[usize],
+    counted: &[usize],
+    totals: &[Total],
+    rank: usize,
+    frame: Frame,
+    op: &OpOf,
+    number: u32,
+) -> Result<(Text, Cell), EvalError>
+    requires rows { AreRows rows.now }
+    requires listed { AreListed sort.now (map datum_of rows.now) places.now }
+    requires counted { counted.now ≡ counts (are_peers sort.now) (data_at (map datum_of rows.now) places.now) }
+    requires totals { IsTotaled (data_at (map datum_of rows.now) places.now) op.now totals.now }
+    requires rank { rank < length places.now }
+    requires frame { frame.to ≤ length places.now }
+    ensures { Evaluates result (named_by (view_with sort.now (data_at (map datum_of rows.now) places.now)
+        (datum_at (map datum_of rows.now) (slice_index_or places.now rank 0)) rank
+        (part frame (data_at (map datum_of rows.now) places.now))) (op.now, number)) }
+{
+    let cell = window_cell(
+        alloc, sort, rows, places, counted, totals, rank, frame, op, number,
+    )?;
+    Ok((op.out.copy()?, cell))
+}
+
+// What several operations give for the row at a rank.
+fn named_cells(
+    alloc: Global,
+    sort: &[SortBy],
+    ops: &[OpOf],
+    params: &[u32],
+    rows: &[Keyed],
+    places: &[usize],
+    counted: &[usize],
+    totals: &[Seq<Total>],
+    rank: usize,
+    frame: Frame,
+) -> Result<Seq<(Text, Cell)>, EvalError>
+    requires params { length params.now ≡ length ops.now }
+    requires rows { AreRows rows.now }
+    requires listed { AreListed sort.now (map datum_of rows.now) places.now }
+    requires counted { counted.now ≡ counts (are_peers sort.now) (data_at (map datum_of rows.now) places.now) }
+    requires totals { totals.now ≡ map (totals_of (data_at (map datum_of rows.now) places.now)) ops.now }
+    requires small { AreAllSmall totals.now }
+    requires rank { rank < length places.now }
+    requires frame { frame.to ≤ length places.now }
+    ensures { Evaluates result (cells_by ops.now params.now (view_with sort.now (data_at (map datum_of rows.now) places.now)
+        (datum_at (map datum_of rows.now) (slice_index_or places.now rank 0)) rank
+        (part frame (data_at (map datum_of rows.now) places.now)))) }
+{
+    let mut given = Seq::new(alloc);
+    for (at, op) in ops.iter().enumerate() {
+        match named_cell(
+            alloc,
+            sort,
+            rows,
+            places,
+            counted,
+            totals[at].as_slice(),
+            rank,
+            frame,
+            op,
+            params[at],
+        ) {
+            Ok(cell) => given.push(cell)?,
+            Err(error) => return Err(error),
+        }
+    }
+    Ok(given)
+}
+
+// What the operations give for the row at a rank of a partition.
+fn window_cells(
+    alloc: Global,
+    w: &WindowOf,
+    rows: &[Keyed],
+    places: &[usize],
+    counted: &[usize],
+    totals: &[Seq<Total>],
+    rank: usize,
+) -> Result<Seq<(Text, Cell)>, EvalError>
+    requires params { length w.now.params ≡ length w.now.ops }
+    requires rows { AreRows rows.now }
+    requires listed { AreListed w.now.sort (map datum_of rows.now) places.now }
+    requires counted { counted.now ≡ counts (are_peers w.now.sort) (data_at (map datum_of rows.now) places.now) }
+    requires totals { totals.now ≡ map (totals_of (data_at (map datum_of rows.now) places.now)) w.now.ops }
+    requires small { AreAllSmall totals.now }
+    requires rank { rank < length places.now }
+    ensures { Evaluates result (cells_by w.now.ops w.now.params (view_with w.now.sort (data_at (map datum_of rows.now) places.now)
+        (datum_at (map datum_of rows.now) (slice_index_or places.now rank 0)) rank
+        (frame_rows w.now (data_at (map datum_of rows.now) places.now) rank))) }
+{
+    let frame = frame_of(w, rows, places, rank)?;
+    named_cells(
+        alloc,
+        w.sort.as_slice(),
+        w.ops.as_slice(),
+        w.params.as_slice(),
+        rows,
+        places,
+        counted,
+        totals,
+        rank,
+        frame,
+    )
+}
+
+// A copy of the row at a rank of a partition with what the operations give.
+fn windowed_row(
+    alloc: Global,
+    w: &WindowOf,
+    rows: &[Keyed],
+    row: &Keyed,
+    places: &[usize],
+    counted: &[usize],
+    totals: &[Seq<Total>],
+    rank: usize,
+) -> Result<Keyed, EvalError>
+    requires params { length w.now.params ≡ length w.now.ops }
+    requires rows { AreRows rows.now }
+    requires id { row.now.key.id ≤ greatest_id }
+    requires listed { AreListed w.now.sort (map datum_of rows.now) places.now }
+    requires counted { counted.now ≡ counts (are_peers w.now.sort) (data_at (map datum_of rows.now) places.now) }
+    requires totals { totals.now ≡ map (totals_of (data_at (map datum_of rows.now) places.now)) w.now.ops }
+    requires small { AreAllSmall totals.now }
+    requires rank { rank < length places.now }
+    ensures { Evaluates result (option_map (with_cells row.now) (cells_by w.now.ops w.now.params (view_with w.now.sort
+        (data_at (map datum_of rows.now) places.now) (datum_at (map datum_of rows.now) (slice_index_or places.now rank 0)) rank
+        (frame_rows w.now (data_at (map datum_of rows.now) places.now) rank)))) }
+{
+    let given = window_cells(alloc, w, rows, places, counted, totals, rank)?;
+    Ok(with_cells(row, given)?)
+}
+
+// The rows, each with what the operations give, by their partitions.
+fn windowed_rows(
+    alloc: Global,
+    w: &WindowOf,
+    rows: &[Keyed],
+    lists: &[Seq<usize>],
+    counted: &[Seq<usize>],
+    totals: &[Seq<Seq<Total>>],
+    homes: &[usize],
+    ranks: &[usize],
+) -> Result<Rows, EvalError>
+    requires params { length w.now.params ≡ length w.now.ops }
+    requires rows { AreRows rows.now }
+    requires seen { AreSeen w.now (map datum_of rows.now) lists.now counted.now totals.now homes.now ranks.now }
+    ensures { Evaluates result (windowed w.now rows.now) }
+{
+    let mut out = Seq::with_capacity(alloc, rows.len())?;
+    for (at, row) in rows.iter().enumerate() {
+        let home = homes[at];
+        match windowed_row(
+            alloc,
+            w,
+            rows,
+            row,
+            lists[home].as_slice(),
+            counted[home].as_slice(),
+            totals[home].as_slice(),
+            ranks[at],
+        ) {
+            Ok(copy) => out.push(copy)?,
+            Err(error) => return Err(error),
+        }
+    }
+    Ok(out)
+}
+
+// The rows, each with what the operations give, by their partitions and counts.
+fn by_partitions(
+    alloc: Global,
+    w: &WindowOf,
+    rows: &[Keyed],
+    lists: &[Seq<usize>],
+    homes: &[usize],
+    ranks: &[usize],
+) -> Result<Rows, EvalError>
+    requires params { length w.now.params ≡ length w.now.ops }
+    requires rows { AreRows rows.now }
+    requires partitions { ArePartitions w.now.groupby w.now.sort (map datum_of rows.now) lists.now homes.now ranks.now }
+    ensures { Evaluates result (windowed w.now rows.now) }
+{
+    let counted = all_counts(alloc, w.sort.as_slice(), rows, lists)?;
+    let totals = all_totals(alloc, rows, lists, w.ops.as_slice())?;
+    windowed_rows(
+        alloc,
+        w,
+        rows,
+        lists,
+        counted.as_slice(),
+        totals.as_slice(),
+        homes,
+        ranks,
+    )
+}
+
+// The rows, each with what the operations give.
+fn windowed(alloc: Global, rows: &[Keyed], w: &WindowOf) -> Result<Rows, EvalError>
+    requires rows { AreRows rows.now }
+    requires params { length w.now.params ≡ length w.now.ops }
+    ensures { Evaluates result (windowed w.now rows.now) }
+{
+    let found = partitions_of(alloc, rows, w.groupby.as_slice(), w.sort.as_slice())?;
+    let homes = found.homes.as_slice();
+    let ranks = found.ranks.as_slice();
+    by_partitions(alloc, w, rows, &found.lists, homes, ranks)
+}
+
+/// The rows, in order, each with what the operations give from it, under their `out`; of equal names the last holds, and all are of
+/// the rows as given. The rows with the same cells in `groupby` are a partition, in which the rows stand by `sort`, with ties by key.
+/// The frame of a row goes from the place `before` behind it to the place `after` behind it, both negative before it, cut to the
+/// partition; it begins or ends with the partition where that is None. It is widened to the peers of its first and its last row, which
+/// are the rows equal in `sort`, unless `ignore_peers` is set; without `sort` no two rows are peers. `lag` and `lead` go as far as the
+/// operation's number among `params`. `Overflow` comes exactly where a sum is out of range. The keys of the rows rise, their ids are at
+/// most 10^15, and there are at most 1,600,000 of them. It sorts the rows once,
+/// and finds the peers of a row by halving its partition. `count`, `valid`, `missing`, `sum`, `mean` and `average` then take one step for each
+/// row; the other aggregates take one for each row of each frame.
+pub fn window(alloc: Global, rows: &Rows, w: &WindowOf) -> Result<Rows, EvalError>
+    requires rows { AreRows rows.now }
+    requires params { length w.now.params ≡ length w.now.ops }
+    ensures made { Evaluates result (windowed w.now rows.now) }
+    ensures read { GivesRows result (data_windowed w.now (map datum_of rows.now)) }
+    ensures rows { IfOk result AreRows }
+{
+    windowed(alloc, rows.as_slice(), w)
+}

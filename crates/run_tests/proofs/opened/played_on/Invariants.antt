@@ -1,4 +1,0 @@
-use Rattle.run_tests.proofs.opened.played_on.Given as goal
-
-abbrev pub ghosts-played_under : goal.ghosts-played_under
-ghosts-played_under a = record { name = a.blank.name; parts = a.blank.parts }

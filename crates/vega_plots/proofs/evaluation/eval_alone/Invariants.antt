@@ -1,4 +1,0 @@
-use Rattle.vega_plots.proofs.evaluation.eval_alone.Given as goal
-
-abbrev pub ghosts-eval_counted : goal.ghosts-eval_counted
-ghosts-eval_counted g a = record { name = a.blank.name; parts = a.blank.parts }

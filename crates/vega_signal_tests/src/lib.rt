@@ -1,0 +1,5 @@
+//! Tests of the values of signals. The crate is called as others call it.
+#![tactic(auto)]
+
+#[cfg(test)]
+mod signals;

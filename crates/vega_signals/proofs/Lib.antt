@@ -1,0 +1,6 @@
+mod KeyLemmas
+mod RowLemmas
+mod ExtentLemmas
+mod RoundLemmas
+mod AgreeLemmas
+mod OrderLaw

@@ -1,0 +1,192 @@
+-- Rows by the names of data sets.
+use Rattle.std.proofs.Common.{◌≡◌, ℕ, zero, suc, ◌+◌, ◌*◌, ◌<◌, ◌≤◌, Bool, true, false, cond, IsTrue, List, [], ◌∷◌, map, length, get_or, All, Option, Some, None, unwrap_or, option_map, Result, Ok, Err, IfOk, refl, sym, ap, ◌∙◌, subst, arith, rules, lit≤}
+use Rattle.std.specs.Option.{option_map_or}
+use Rattle.std.specs.BTreeMap as tree
+use Rattle.std.specs.Ordering.{nat_cmp}
+use Rattle.std.specs.Cmp.Lexicographic.{slice_cmp}
+use Rattle.std.specs.String.{string_cmp, string_bytes}
+use Rattle.std.specs.Str.{bytes_eq}
+use Rattle.std.proofs.lemmas.Map.Text.{btree_map_updates_text}
+use Rattle.text_kit.specs.declared.memory.OutOfMemory.{OutOfMemory}
+use Rattle.cell_value.specs.declared.state.Keyed.{Keyed}
+use Rattle.cell_value.specs.declared.state.Named.{Named}
+use Rattle.cell_value.specs.State.{dataset_of}
+use Rattle.cell_value.specs.Datum.{Datum, datum_of}
+use Rattle.expr_eval.specs.declared.error.EvalError.{EvalError}
+use Rattle.expr_eval.specs.Values.{Values}
+use Rattle.plain_rows.specs.declared.transforms.LookupOf.{LookupOf}
+use Rattle.plain_rows.specs.Rows.{AreRows, AreKeys, keys_of}
+use Rattle.plain_rows.specs.Answers.{GivesRows}
+use Rattle.plain_rows.specs.Lookups.{data_looked_up}
+use Rattle.vega_spec.specs.declared.data.DataSet.{DataSet}
+use Rattle.vega_spec.specs.declared.groupings.Lookup.{Lookup}
+use Rattle.vega_spec.specs.declared.transforms.Transform.{Transform}
+use Rattle.vega_spec.specs.declared.transforms.Transform.TheVariants as vega
+use Rattle.vega_lists.specs.Scopes.{Scope, no_lists, with_list, list_named}
+use Rattle.vega_lists.specs.Settings.{lookup_settings}
+use Rattle.vega_lists.specs.Transforms.{is_kept, transformed, transforms_of}
+use Rattle.vega_lists.specs.Products.{Products, KeysFit, fold_length, fold_product, begun_product, and_its_product}
+use Rattle.vega_lists.specs.Lists.{begun_rows}
+use Rattle.vega_lists.specs.Held.{AreSources, MayFold}
+use Rattle.vega_signals.specs.Signals.{rows_left, all_left, with_rows_left}
+use Rattle.vega_signals.specs.inner.Rows.{RowsByName, rows_of, scope_by, IsPut, AreAllRows, lookup_in}
+use Rattle.vega_signals.proofs.KeyLemmas.{data_keys, keys_seen, transformed_fits}
+
+pick : (b : Bool) (rows : List Keyed) (old : Option (List Keyed)) → unwrap_or (cond b (Some rows) old) [] ≡ cond b rows (unwrap_or old [])
+pick true rows old = refl
+pick false rows old = refl
+
+-- what an insertion puts
+pub put_is : (bytes name : List ℕ) (old new : RowsByName) (rows : List Keyed) → bytes ≡ name
+    → tree.UpdatesBy string_cmp (λ k. slice_cmp nat_cmp bytes (string_bytes k)) old new (Some rows) → IsPut old name rows new
+put_is bytes name old new rows same h other =
+    ap (λ o. unwrap_or o []) (btree_map_updates_text bytes old new (Some rows) h other)
+    ∙ pick (bytes_eq bytes other) rows (tree.get_by_text old other)
+    ∙ ap (λ n. cond (bytes_eq n other) rows (rows_of old other)) same
+
+seen_either : (b : Bool) (rows others : List Keyed) → map datum_of (cond b rows others) ≡ cond b (map datum_of rows) (map datum_of others)
+seen_either true rows others = refl
+seen_either false rows others = refl
+
+rows_either : (b : Bool) (rows others : List Keyed) → AreRows rows → AreRows others → AreRows (cond b rows others)
+rows_either true rows others x y = x
+rows_either false rows others x y = y
+
+-- a name put for rows stands for them
+pub scope_of_put : (old new : RowsByName) (name : List ℕ) (rows : List Keyed) → IsPut old name rows new
+    → scope_by new ≡ with_list name (map datum_of rows) (scope_by old)
+scope_of_put old new name rows put = λ i other. at other i
+  where
+    at : (other : List ℕ) → scope_by new other ≡ with_list name (map datum_of rows) (scope_by old) other
+    at other = ap (map datum_of) (put other) ∙ seen_either (bytes_eq name other) rows (rows_of old other)
+
+pub rows_of_put : (old new : RowsByName) (name : List ℕ) (rows : List Keyed) → IsPut old name rows new → AreRows rows → AreAllRows old → AreAllRows new
+rows_of_put old new name rows put are lists other = subst AreRows (sym (put other)) (rows_either (bytes_eq name other) rows (rows_of old other) are (lists other))
+
+none_are : AreKeys []
+none_are = record {
+  rise = λ i j key less below. absurd (omega (arith, below));
+  small_ids = λ k key below. absurd (omega (arith, below));
+  few = lit≤ tt;
+}
+
+-- no rows are rows
+pub no_rows : AreRows []
+no_rows = none_are
+
+pub none_are_rows : (rows : List Keyed) → rows ≡ [] → AreRows rows
+none_are_rows rows e = subst AreRows (sym e) no_rows
+
+pub none_fit : (n : ℕ) → KeysFit n []
+none_fit n = record { few = omega arith; branches = λ k d lt. absurd (omega (arith, lt)) }
+
+-- where no name stands for rows
+pub no_scope_yet : (lists : RowsByName) → ((name : List ℕ) → rows_of lists name ≡ []) → scope_by lists ≡ no_lists
+no_scope_yet lists e = λ i name. map datum_of (e name i)
+
+pub no_rows_yet : (lists : RowsByName) → ((name : List ℕ) → rows_of lists name ≡ []) → AreAllRows lists
+no_rows_yet lists e name = subst AreRows (sym (e name)) no_rows
+
+-- what holds of the keys of rows as they are read holds of their keys
+pub rows_as_read : (rows : List Keyed) → AreRows rows → AreKeys (data_keys (map datum_of rows))
+rows_as_read rows are = subst AreKeys (sym (keys_seen rows)) are
+
+record Both (rows : List Datum) : Type 0 where
+  pub keys : AreKeys (data_keys rows)
+  pub fits : KeysFit 1 (data_keys rows)
+
+both_either : (b : Bool) (rows others : List Datum) → Both rows → Both others → Both (cond b rows others)
+both_either true rows others x y = x
+both_either false rows others x y = y
+
+-- the rows of the first source of a name
+named_source : (sources : List Named) → AreSources sources → (name : List ℕ) → Both (list_named (map dataset_of sources) name)
+named_source [] are name = record { keys = none_are; fits = none_fit 1 }
+named_source (source ∷ others) are name =
+    let (rows, fits) = are 0 source (omega arith) in
+    both_either (bytes_eq source.name name) (map datum_of source.rows) (list_named (map dataset_of others) name)
+    (record { keys = rows_as_read source.rows rows; fits = subst (KeysFit 1) (sym (keys_seen source.rows)) fits })
+    (named_source others (λ k d lt. are (suc k) d (omega arith)) name)
+
+module _ (sources : List Named) (sound : AreSources sources) (lists : RowsByName) (set : DataSet) where
+  begun_keys : AreAllRows lists → AreKeys (data_keys (begun_rows (map dataset_of sources) (scope_by lists) set))
+  begun_keys are = by_source set.source
+    where
+      by_source : (o : Option (List ℕ)) → AreKeys (data_keys (option_map_or (scope_by lists) o (list_named (map dataset_of sources) set.name)))
+      by_source None = (named_source sources sound set.name).keys
+      by_source (Some name) = rows_as_read (rows_of lists name) (are name)
+
+  -- the rows with which a data set begins are rows
+  pub begun_are_rows : AreAllRows lists → (result : Result (List Keyed) OutOfMemory)
+      → IfOk result (λ rows. map datum_of rows ≡ begun_rows (map dataset_of sources) (scope_by lists) set) → IfOk result AreRows
+  begun_are_rows are (Ok rows) e = subst AreKeys (keys_seen rows) (subst (λ (l : List Datum). AreKeys (data_keys l)) (sym e) (begun_keys are))
+  begun_are_rows are (Err refused) e = tt
+
+  -- and their keys are such as its first product allows
+  pub begun_fit : (products : Products) → ((name : List ℕ) → KeysFit (products name) (keys_of (rows_of lists name)))
+      → KeysFit (begun_product products set) (data_keys (begun_rows (map dataset_of sources) (scope_by lists) set))
+  begun_fit products fits = by_source set.source
+    where
+      by_source : (o : Option (List ℕ)) → KeysFit (option_map_or products o 1) (data_keys (option_map_or (scope_by lists) o (list_named (map dataset_of sources) set.name)))
+      by_source None = (named_source sources sound set.name).fits
+      by_source (Some name) = subst (KeysFit (products name)) (sym (keys_seen (rows_of lists name))) (fits name)
+
+-- a transform that is a lookup
+pub is_lookup : (t : Transform) (l : Lookup) → Some l ≡ lookup_in t → t ≡ vega.Lookup l
+is_lookup (vega.Lookup k) l e = ap (λ o. vega.Lookup (unwrap_or o l)) (sym e)
+is_lookup (vega.Filter f) l e = absurd cc
+is_lookup (vega.Formula f) l e = absurd cc
+is_lookup (vega.Extent x) l e = absurd cc
+is_lookup (vega.Bin b) l e = absurd cc
+is_lookup (vega.TimeUnit t) l e = absurd cc
+is_lookup (vega.Aggregate a) l e = absurd cc
+is_lookup (vega.JoinAggregate a) l e = absurd cc
+is_lookup (vega.Stack s) l e = absurd cc
+is_lookup (vega.Window w) l e = absurd cc
+is_lookup (vega.Fold f) l e = absurd cc
+
+-- another transform reads no other lists
+pub reads_no_lists : (values : Values) (a b : Scope) (t : Transform) (rows : List Datum) → None ≡ lookup_in t → transformed values a t rows ≡ transformed values b t rows
+reads_no_lists values a b (vega.Lookup k) rows e = absurd cc
+reads_no_lists values a b (vega.Filter f) rows e = refl
+reads_no_lists values a b (vega.Formula f) rows e = refl
+reads_no_lists values a b (vega.Extent x) rows e = refl
+reads_no_lists values a b (vega.Bin x) rows e = refl
+reads_no_lists values a b (vega.TimeUnit t) rows e = refl
+reads_no_lists values a b (vega.Aggregate x) rows e = refl
+reads_no_lists values a b (vega.JoinAggregate x) rows e = refl
+reads_no_lists values a b (vega.Stack s) rows e = refl
+reads_no_lists values a b (vega.Window w) rows e = refl
+reads_no_lists values a b (vega.Fold f) rows e = refl
+
+-- what such a transform makes of rows, whatever lists there are
+pub reads_elsewhere : (values : Values) (a b : Scope) (t : Transform) (rows : List Datum) (result : Result (List Keyed) EvalError) → None ≡ lookup_in t
+    → GivesRows result (transformed values a t rows) → GivesRows result (transformed values b t rows)
+reads_elsewhere values a b t rows result none h = subst (GivesRows result) (reads_no_lists values a b t rows none) h
+
+-- a lookup that breaks no rule has as many names as values
+pub kept_names : (t : Transform) (l : Lookup) → Some l ≡ lookup_in t → IsTrue (is_kept t) → length (lookup_settings l).outs ≡ length l.values
+kept_names t l e kept = names l (subst (λ x. IsTrue (is_kept x)) (is_lookup t l e) kept)
+  where
+    names : (k : Lookup) → IsTrue (is_kept (vega.Lookup k)) → length (lookup_settings k).outs ≡ length k.values
+    names k h = search rules
+
+-- what a lookup makes of rows
+pub lookup_reads : (values : Values) (scope : Scope) (t : Transform) (l : Lookup) (rows out : List Datum) → Some l ≡ lookup_in t
+    → out ≡ data_looked_up (lookup_settings l) (scope l.from) rows → transformed values scope t rows ≡ Some out
+lookup_reads values scope t l rows out e is = ap (λ x. transformed values scope x rows) (is_lookup t l e) ∙ ap Some (sym is)
+
+module _ (lists : RowsByName) (name : List ℕ) (found : Option (List Keyed)) (e : found ≡ tree.get_by_text lists name) where
+  -- what was found under a name are rows
+  pub found_are_rows : AreAllRows lists → AreRows (unwrap_or found [])
+  found_are_rows are = subst (λ o. AreRows (unwrap_or o [])) (sym e) (are name)
+
+  -- a lookup in what was found under a name
+  pub looked_up_there : (from : List ℕ) (how settings : LookupOf) (rows : List Datum) (result : Result (List Keyed) OutOfMemory) → name ≡ from → how ≡ settings
+      → IfOk result (λ out. map datum_of out ≡ data_looked_up how (map datum_of (unwrap_or found [])) rows)
+      → IfOk result (λ out. map datum_of out ≡ data_looked_up settings (scope_by lists from) rows)
+  looked_up_there from how settings rows (Ok out) same is h =
+      h ∙ ap (λ o. data_looked_up how (map datum_of (unwrap_or o [])) rows) e
+      ∙ ap (λ n. data_looked_up how (scope_by lists n) rows) same
+      ∙ ap (λ s. data_looked_up s (scope_by lists from) rows) is
+  looked_up_there from how settings rows (Err refused) same is h = tt
