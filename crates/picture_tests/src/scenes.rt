@@ -1,6 +1,6 @@
 use cell_value::{Cell, Key, Row};
 use fixed_num::Num;
-use scene_tree::{Anchor, Item, Panel, Point, Scene, Shape};
+use scene_tree::{Anchor, Item, ItemRef, Panel, Point, Scene, Shape, pick};
 use std::alloc::Global;
 use std::test::Fail;
 use text_kit::{Seq, Text};
@@ -120,5 +120,103 @@ fn a_copied_scene_has_all_of_its_parts(rt: HostRuntime) -> Result<(), Fail> {
     let copied = scene_of(rt.alloc())?.copy(rt.alloc())?;
     assert_eq!(rt; copied.height, pixels(30));
     assert!(rt; copied.panels.get(0).is_some_and(is_whole));
+    Ok(())
+}
+
+// Points of the scene, and the item that stands there.
+const POINTS: [(i32, i32, Option<ItemRef>); 6] = [
+    (13, 14, Some(ItemRef { panel: 0, item: 2 })),
+    (16, 17, Some(ItemRef { panel: 0, item: 2 })),
+    (16, 18, None),
+    (7, 8, Some(ItemRef { panel: 0, item: 1 })),
+    (10, 4, Some(ItemRef { panel: 0, item: 1 })),
+    (10, 3, None),
+];
+
+// Whether it is this item that is picked at a point.
+fn picks(scene: &Scene, x: i32, y: i32, item: Option<ItemRef>) -> bool {
+    pick(scene, pixels(x), pixels(y)) == item
+}
+
+#[test]
+fn the_last_item_at_a_point_is_picked(rt: HostRuntime) -> Result<(), Fail> {
+    let scene = scene_of(rt.alloc())?;
+    for (x, y, item) in POINTS {
+        assert!(rt; picks(&scene, x, y, item));
+    }
+    Ok(())
+}
+
+fn circle(x: i32) -> Item {
+    item_of(Shape::Circle {
+        x: pixels(x),
+        y: pixels(10),
+        r: pixels(5),
+    })
+}
+
+// A rect that no row made.
+fn frame() -> Item {
+    let mut frame = item_of(Shape::Rect {
+        x: pixels(0),
+        y: pixels(0),
+        width: pixels(20),
+        height: pixels(20),
+    });
+    frame.key = None;
+    frame
+}
+
+// Two circles that overlap, under a frame.
+fn circles(alloc: Global) -> Result<Seq<Item>, Fail> {
+    let mut items = Seq::new(alloc);
+    items.push(circle(10))?;
+    items.push(circle(12))?;
+    items.push(frame())?;
+    Ok(items)
+}
+
+fn panel_of_circles(alloc: Global, x: i32) -> Result<Panel, Fail> {
+    Ok(Panel {
+        x: pixels(x),
+        y: pixels(0),
+        width: pixels(20),
+        height: pixels(20),
+        view: None,
+        facet: None,
+        items: circles(alloc)?,
+    })
+}
+
+// Two panels of circles, of which the second stands 8 pixels to the right of the first.
+fn scene_of_circles(alloc: Global) -> Result<Scene, Fail> {
+    let mut panels = Seq::new(alloc);
+    panels.push(panel_of_circles(alloc, 0)?)?;
+    panels.push(panel_of_circles(alloc, 8)?)?;
+    Ok(Scene {
+        width: pixels(28),
+        height: pixels(20),
+        panels,
+    })
+}
+
+// Points of the circles, and the circle that is picked there.
+const POINTS_OF_CIRCLES: [(i32, i32, Option<ItemRef>); 8] = [
+    (4, 10, None),
+    (5, 10, Some(ItemRef { panel: 0, item: 0 })),
+    (11, 10, Some(ItemRef { panel: 0, item: 1 })),
+    (12, 15, Some(ItemRef { panel: 0, item: 1 })),
+    (12, 16, None),
+    (14, 10, Some(ItemRef { panel: 1, item: 0 })),
+    (25, 10, Some(ItemRef { panel: 1, item: 1 })),
+    (26, 10, None),
+];
+
+#[test]
+fn the_last_circle_that_holds_a_point_is_picked(rt: HostRuntime) -> Result<(), Fail> {
+    let scene = scene_of_circles(rt.alloc())?;
+    for (x, y, item) in POINTS_OF_CIRCLES {
+        assert!(rt; picks(&scene, x, y, item));
+    }
     Ok(())
 }

@@ -49,7 +49,7 @@ fn nulls(cells: &[Cell]) -> usize
 fn lone(alloc: Global, cell: &Cell) -> Result<Vec<Cell>, OutOfMemory>
     ensures { IfOk result (λ key. key.items ≡ cell.now ∷ []) }
 {
-    let mut key = Vec::new(alloc);
+    let mut key = Vec::with_capacity(alloc, 1)?;
     key.push(cell.copy()?)?;
     Ok(key)
 }

@@ -76,7 +76,7 @@ pub(crate) fn op_cells(
     requires few { length places.now ≤ most_listed }
     ensures { Evaluates result (op_cells cell_at ops.now (rows_at rows.now places.now)) }
 {
-    let mut given = Seq::new(alloc);
+    let mut given = Seq::with_capacity(alloc, ops.len())?;
     for op in ops {
         match op_cell(alloc, rows, places, op) {
             Ok(cell) => given.push(cell)?,
@@ -86,16 +86,17 @@ pub(crate) fn op_cells(
     Ok(given)
 }
 
-// The cells of a row in the fields.
+// The cells of a row in the fields, with room for more.
 fn field_cells(
     alloc: Global,
     row: &Keyed,
     fields: &[Text],
+    room: usize,
 ) -> Result<Seq<(Text, Cell)>, OutOfMemory>
     requires { row.now.key.id ≤ greatest_id }
     ensures { IfOk result (λ cells. cells ≡ field_cells (cell_at row.now) fields.now) }
 {
-    let mut cells = Seq::new(alloc);
+    let mut cells = Seq::with_capacity(alloc, fields.len().saturating_add(room))?;
     for field in fields {
         cells.push((field.copy()?, cell_of(row, field.as_str())?))?;
     }
@@ -112,7 +113,7 @@ fn group_row(
     requires { first.now.key.id ≤ greatest_id }
     ensures { IfOk result (λ row. row ≡ group_row g.now first.now given) }
 {
-    let mut cells = field_cells(alloc, first, g.groupby.as_slice())?;
+    let mut cells = field_cells(alloc, first, g.groupby.as_slice(), given.len())?;
     cells.append(given)?;
     Ok(Keyed {
         key: first.key,

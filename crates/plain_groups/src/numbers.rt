@@ -26,7 +26,7 @@ pub(crate) fn numbers_among(alloc: Global, cells: &[Cell]) -> Result<Vec<Num>, O
     ensures value { IfOk result (λ numbers. numbers.items ≡ numbers_among cells.now) }
     ensures bound { IfOk result (λ numbers. length numbers.items ≤ length cells.now) }
 {
-    let mut numbers = Vec::new(alloc);
+    let mut numbers = Vec::with_capacity(alloc, cells.len())?;
     for cell in cells {
         if let Some(number) = the_number(cell) {
             numbers.push(number)?;

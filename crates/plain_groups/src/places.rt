@@ -60,7 +60,7 @@ fn key_cells(alloc: Global, row: &Keyed, fields: &[Text]) -> Result<Vec<Cell>, O
     requires { row.now.key.id ≤ greatest_id }
     ensures { IfOk result (λ key. key.items ≡ key_cells fields.now row.now) }
 {
-    let mut key = Vec::new(alloc);
+    let mut key = Vec::with_capacity(alloc, fields.len())?;
     for field in fields {
         key.push(cell_of(row, field.as_str())?)?;
     }

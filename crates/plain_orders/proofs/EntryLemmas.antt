@@ -7,7 +7,7 @@ use Rattle.std.specs.Cmp.Lexicographic.{slice_cmp}
 use Rattle.std.specs.FinMap.{IsAntisymmetric, nat_cmp-IsAntisymmetric, slice_cmp-IsAntisymmetric}
 use Rattle.cell_value.specs.inner.CellOrder.{only_equal_cells_tie}
 use Rattle.plain_orders.specs.declared.entries.SortCell.TheVariants.{Rising, Falling}
-use Rattle.plain_orders.specs.inner.Entries.{sort_cell_cmp, entry_cmp}
+use Rattle.plain_orders.specs.inner.Entries.{sort_cell_cmp, entry_cells_cmp, entry_cmp}
 
 both_tie : (r s : Ordering) → ordering_then r s ≡ Equal → (r ≡ Equal) × (s ≡ Equal)
 both_tie Less s e = absurd (cc)
@@ -22,9 +22,13 @@ sort_cells_tie (Falling a) (Falling b) e = ap Falling (sym (only_equal_cells_tie
 
 pub only_equal_entries_tie : IsAntisymmetric entry_cmp
 only_equal_entries_tie a b e =
-    let ties = both_tie (slice_cmp sort_cell_cmp a.cells b.cells) (nat_cmp a.place b.place) e in
+    let whole = both_tie (entry_cells_cmp a b) (nat_cmp a.place b.place) e in
+    let firsts = ordering_then (sort_cell_cmp a.first b.first) (sort_cell_cmp a.second b.second) in
+    let cells = both_tie firsts (slice_cmp sort_cell_cmp a.others b.others) whole.0 in
+    let two = both_tie (sort_cell_cmp a.first b.first) (sort_cell_cmp a.second b.second) cells.0 in
     λ i. record {
-      cells = slice_cmp-IsAntisymmetric sort_cells_tie a.cells b.cells ties.0 i;
-      place =
-          nat_cmp-IsAntisymmetric a.place b.place ties.1 i;
+      first = sort_cells_tie a.first b.first two.0 i;
+      second = sort_cells_tie a.second b.second two.1 i;
+      others = slice_cmp-IsAntisymmetric sort_cells_tie a.others b.others cells.1 i;
+      place = nat_cmp-IsAntisymmetric a.place b.place whole.1 i;
     }

@@ -20,7 +20,7 @@ use Rattle.plain_groups.specs.inner.Places.{row_at}
 use Rattle.plain_orders.specs.declared.entries.SortCell.TheVariants.{Rising, Falling}
 use Rattle.plain_orders.specs.Orders.{by_field, by_fields, by_key, row_order}
 use Rattle.plain_orders.specs.Partitions.{datum_at}
-use Rattle.plain_orders.specs.inner.Entries.{sort_cell_cmp, sort_cell, sort_cells}
+use Rattle.plain_orders.specs.inner.Entries.{sort_cell_cmp, sort_cell, sort_cells, entry_cells_cmp, entry_of}
 use Rattle.plain_orders.proofs.OrderLemmas.{Each, AreApart}
 
 abbrev id_of : Key → ℕ
@@ -112,10 +112,31 @@ by_cell s x y = either s.descending
     either false = refl
 
 -- rows stand as the cells by which they are sorted
-pub by_cells : (sort : List SortBy) (x y : Datum) → by_fields sort x y
+by_cells : (sort : List SortBy) (x y : Datum) → by_fields sort x y
     ≡ slice_cmp sort_cell_cmp (sort_cells sort x.cell) (sort_cells sort y.cell)
 by_cells [] x y = refl
 by_cells (s ∷ sort) x y = ap₂ ordering_then (by_cell s x y) (by_cells sort x y)
+
+then_equal : (r : Ordering) → ordering_then r Equal ≡ r
+then_equal Less = refl
+then_equal Equal = refl
+then_equal Greater = refl
+
+then_then : (a b c : Ordering) → ordering_then a (ordering_then b c) ≡ ordering_then (ordering_then a b) c
+then_then Less b c = refl
+then_then Equal b c = refl
+then_then Greater b c = refl
+
+-- rows stand as the cells of their entries
+pub by_entries : (sort : List SortBy) (x y : Datum) (p q : ℕ)
+    → by_fields sort x y ≡ entry_cells_cmp (entry_of sort p x.cell) (entry_of sort q y.cell)
+by_entries [] x y p q = refl
+by_entries (s ∷ []) x y p q =
+    let first = sort_cell_cmp (sort_cell s (x.cell s.field)) (sort_cell s (y.cell s.field)) in
+    then_equal (by_field s x y) ∙ by_cell s x y ∙ sym (then_equal first) ∙ sym (then_equal (ordering_then first Equal))
+by_entries (s ∷ t ∷ sort) x y p q =
+    then_then (by_field s x y) (by_field t x y) (by_fields sort x y)
+    ∙ ap₂ ordering_then (ap₂ ordering_then (by_cell s x y) (by_cell t x y)) (by_cells sort x y)
 
 unequal : (r s : Ordering) → ordering_then r s ≡ Equal → s ≡ Less → ⊥
 unequal Less s e f = absurd (cc)

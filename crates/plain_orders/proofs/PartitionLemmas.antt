@@ -3,7 +3,6 @@ use Rattle.std.proofs.Common.{◌≡◌, ℕ, ◌+◌, ◌<◌, ◌≤◌, ◌�
 use Rattle.std.proofs.Common.{length, take, drop, get_or, eqb, All, arith, refl, sym, ap, ap₂, ◌∙◌}
 use Rattle.std.proofs.Common.{subst, take_all, take_at, append_assoc}
 use Rattle.std.specs.Ordering.{is_lt, ordering_then}
-use Rattle.std.specs.Cmp.Lexicographic.{slice_cmp}
 use Rattle.std.proofs.lemmas.Bool.{eqb-true, eqb-false, cond_both}
 use Rattle.std.proofs.lemmas.List.{length-map, length-append, map-append, get_or-map, get_or_default}
 use Rattle.std.proofs.lemmas.List.Elements.{All-nil, All-cons, filter-append}
@@ -22,11 +21,11 @@ use Rattle.plain_groups.proofs.PlaceLemmas.{alike_keys, halves}
 use Rattle.plain_orders.specs.declared.entries.Entry.{Entry}
 use Rattle.plain_orders.specs.Orders.{placed, in_order, row_order, cells_of, partition_of, rows_before}
 use Rattle.plain_orders.specs.Partitions.{datum_at, data_at, StandsAt, ArePartitions}
-use Rattle.plain_orders.specs.inner.Entries.{sort_cell_cmp, sort_cells, entry_cmp, entries_from}
+use Rattle.plain_orders.specs.inner.Entries.{entry_cmp, entry_of, entries_from}
 use Rattle.plain_orders.specs.inner.Ranks.{dealt, IsRanked, AreDealt}
 use Rattle.plain_orders.proofs.SortLemmas.{differ}
 use Rattle.plain_orders.proofs.OrderLemmas.{Each, each_kept, each_in_order, map_in_order, Climbs, climbs_in_order, before_filtered}
-use Rattle.plain_orders.proofs.KeyOrder.{row_order_total, by_place, by_cells, rows_apart, row_there}
+use Rattle.plain_orders.proofs.KeyOrder.{row_order_total, by_place, by_entries, rows_apart, row_there}
 
 abbrev place_of : Entry → ℕ
 place_of entry = entry.place
@@ -105,7 +104,7 @@ module _ (rows : List Keyed) (are : AreRows rows) (groupby : List (List ℕ)) (s
   seen = map datum_of rows
 
   abbrev IsEntry : Entry → Type 0
-  IsEntry e = (e.place < n) × (e.cells ≡ sort_cells sort (datum_at seen e.place).cell)
+  IsEntry e = (e.place < n) × (e ≡ entry_of sort e.place (datum_at seen e.place).cell)
 
   abbrev row_of : Entry → Datum
   row_of e = datum_at seen e.place
@@ -134,7 +133,7 @@ module _ (rows : List Keyed) (are : AreRows rows) (groupby : List (List ℕ)) (s
   entries_are : (before rest : List Keyed) (i : ℕ) → rows ≡ before ++ rest → i ≡ length before → Each IsEntry (entries_from sort i rest)
   entries_are before [] i e at = tt
   entries_are before (x ∷ rest) i e at = (
-    (here_within before x rest i e at, ap (λ (d : Datum). sort_cells sort d.cell) (sym (here before x rest i e at))),
+    (here_within before x rest i e at, ap (λ (d : Datum). entry_of sort i d.cell) (sym (here before x rest i e at))),
     entries_are (before ++ x ∷ []) rest (i + 1) (next before x rest e) (next_at before x i at),
   )
 
@@ -157,9 +156,8 @@ module _ (rows : List Keyed) (are : AreRows rows) (groupby : List (List ℕ)) (s
 
   agree : (a b : Entry) → IsEntry a → IsEntry b → row_order sort (row_of a) (row_of b) ≡ entry_cmp a b
   agree a b h k =
-      ap₂ ordering_then
-      (by_cells sort (row_of a) (row_of b) ∙ ap₂ (slice_cmp sort_cell_cmp) (sym h.1) (sym k.1))
-      (by_place rows are a.place b.place h.0 k.0)
+      ap₂ ordering_then (by_entries sort (row_of a) (row_of b) a.place b.place) (by_place rows are a.place b.place h.0 k.0)
+      ∙ ap₂ entry_cmp (sym h.1) (sym k.1)
 
   -- the rows at the places in order are the rows in order
   order_shows : data_at seen order ≡ in_order (row_order sort) seen

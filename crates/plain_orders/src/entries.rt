@@ -1,13 +1,13 @@
 // Rows as they are sorted: by cells, and then by place.
 ghost use Rattle.std.specs.Cmp.{eq_by_cmp_equiv, partial_equiv_from_equiv, partial_order_from_total};
 ghost use Rattle.std.specs.Ordering.{eq_by_cmp, as_partial_cmp};
-ghost use Rattle.std.specs.Prelude.{◌≡◌, ◌≤◌, refl, map, IfOk};
+ghost use Rattle.std.specs.Prelude.{◌≡◌, ◌≤◌, refl, map, drop, IfOk};
 ghost use Rattle.cell_value.specs.State.{greatest_id};
 ghost use Rattle.cell_value.specs.Datum.{cell_at};
 ghost use Rattle.plain_rows.specs.Rows.{AreRows};
 ghost use Rattle.plain_orders.specs.Orders.{in_order};
 ghost use Rattle.plain_orders.specs.inner.Entries.{falls, sort_cell_cmp, sort_cell_cmp_total, entry_cmp, entry_cmp_total, sort_cell};
-ghost use Rattle.plain_orders.specs.inner.Entries.{sort_cells, entries_from};
+ghost use Rattle.plain_orders.specs.inner.Entries.{sort_cells, first_cell, entry_of, entries_from};
 
 use cell_value::{Cell, Keyed};
 use plain_rows::{SortBy, cell_of};
@@ -81,8 +81,12 @@ impl Ord for SortCell {
 /// A row as it is sorted.
 #[derive(Debug, Drop)]
 pub(crate) struct Entry {
-    /// The cells by which rows are sorted.
-    pub cells: Seq<SortCell>,
+    /// The cell of the first field by which rows are sorted.
+    pub first: SortCell,
+    /// That of the second.
+    pub second: SortCell,
+    /// Those of the others.
+    pub others: Seq<SortCell>,
     /// The place of the row.
     pub place: usize,
 }
@@ -121,9 +125,10 @@ impl Ord for Entry {
     ghost matches_eq = { λ a b. refl };
 
     fn cmp(&self, o: &Entry) -> Ordering {
-        self.cells
-            .as_slice()
-            .cmp(o.cells.as_slice())
+        self.first
+            .cmp(&o.first)
+            .then(self.second.cmp(&o.second))
+            .then(self.others.as_slice().cmp(o.others.as_slice()))
             .then(self.place.cmp(&o.place))
     }
 }
@@ -151,6 +156,43 @@ fn sort_cells(alloc: Global, row: &Keyed, sort: &[SortBy]) -> Result<Seq<SortCel
     Ok(cells)
 }
 
+// The cell of the first field of an order; without one the same for all rows.
+fn first_cell(row: &Keyed, sort: &[SortBy]) -> Result<SortCell, OutOfMemory>
+    requires { row.now.key.id ≤ greatest_id }
+    ensures { IfOk result (λ cell. cell ≡ first_cell sort.now (cell_at row.now)) }
+{
+    match sort {
+        [] => Ok(SortCell::Rising(Cell::Null)),
+        [by, ..] => Ok(sort_cell(by, cell_of(row, by.field.as_str())?)),
+    }
+}
+
+// The fields of an order behind the first.
+fn behind_first(sort: &[SortBy]) -> &[SortBy]
+    ensures { result.now ≡ drop 1 sort.now }
+{
+    match sort {
+        [] => &[],
+        [_, others @ ..] => others,
+    }
+}
+
+// A row at a place as it is sorted.
+fn entry_of(alloc: Global, row: &Keyed, place: usize, sort: &[SortBy]) -> Result<Entry, OutOfMemory>
+    requires { row.now.key.id ≤ greatest_id }
+    ensures { IfOk result (λ entry. entry ≡ entry_of sort.now place (cell_at row.now)) }
+{
+    let behind = behind_first(sort);
+    let first = first_cell(row, sort)?;
+    let second = first_cell(row, behind)?;
+    Ok(Entry {
+        first,
+        second,
+        others: sort_cells(alloc, row, behind_first(behind))?,
+        place,
+    })
+}
+
 // The rows as they are sorted.
 fn entries(alloc: Global, rows: &[Keyed], sort: &[SortBy]) -> Result<Vec<Entry>, OutOfMemory>
     requires { AreRows rows.now }
@@ -158,10 +200,7 @@ fn entries(alloc: Global, rows: &[Keyed], sort: &[SortBy]) -> Result<Vec<Entry>,
 {
     let mut entries = Vec::with_capacity(alloc, rows.len())?;
     for (place, row) in rows.iter().enumerate() {
-        entries.push(Entry {
-            cells: sort_cells(alloc, row, sort)?,
-            place,
-        })?;
+        entries.push(entry_of(alloc, row, place, sort)?)?;
     }
     Ok(entries)
 }

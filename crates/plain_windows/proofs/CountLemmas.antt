@@ -20,7 +20,7 @@ module _ {X : Type 0} (like : X → X → Bool) where
   lone false y = refl
 
   -- one element more
-  firsts_more : (before xs : List X) (y : X) → length (firsts_behind like before (xs ++ y ∷ []))
+  pub firsts_more : (before xs : List X) (y : X) → length (firsts_behind like before (xs ++ y ∷ []))
       ≡ length (firsts_behind like before xs) + cond (list_any (λ z. like z y) (before ++ xs)) 0 1
   firsts_more before [] y =
       lone (list_any (λ z. like z y) before) y

@@ -6,3 +6,7 @@ mod CountLemmas
 mod CellLemmas
 mod WindowLemmas
 mod TotalLemmas
+mod LevelLemmas
+mod OuterLemmas
+mod AidLemmas
+mod FirstLemmas

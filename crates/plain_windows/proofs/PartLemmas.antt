@@ -1,6 +1,8 @@
 -- The rows of a frame.
 use Rattle.std.proofs.Common.{◌≡◌, ℕ, zero, suc, ◌+◌, ◌-◌, ◌<◌, ◌≤◌, Bool, List, [], ◌∷◌, map, filter, fold, length, take, drop, get_or}
-use Rattle.std.proofs.Common.{arith, refl, sym, ap, ◌∙◌}
+use Rattle.std.proofs.Common.{arith, refl, sym, ap, ap₂, ◌∙◌, take_all, true}
+use Rattle.std.specs.Prelude.{◌==◌, ◌&&◌}
+use Rattle.std.proofs.lemmas.Bool.{and_parts, eqb-true}
 use Rattle.std.proofs.lemmas.List.{length-map, get_or-map, drop_more, take-map, drop-map}
 use Rattle.std.proofs.lemmas.List.Sums.{length-filter, count_by-le-length}
 use Rattle.cell_value.specs.Datum.{Datum}
@@ -16,6 +18,17 @@ last_among xs from (suc n) d l =
     ap (λ ys. fold (λ earlier y. y) (get_or xs from d) (take (suc n) ys)) (drop_more xs (from + 1) d (omega (arith, l)))
     ∙ last_among xs (from + 1) n d (omega (arith, l))
     ∙ ap (λ k. get_or xs k d) (omega arith)
+
+-- the whole of a list
+pub all_of : {X : Type 0} (frame : Frame) (xs : List X) → frame.from ≡ 0 → frame.to ≡ length xs → part frame xs ≡ xs
+all_of frame xs begins ends =
+    ap₂ (λ from n. take (n - from) (drop from xs)) begins ends ∙ take_all (length xs - 0) xs (omega arith)
+
+pub all_if : {X : Type 0} (frame : Frame) (n : ℕ) (xs : List X) → n ≡ length xs → (frame.from == 0 && frame.to == n) ≡ true
+    → part frame xs ≡ xs
+all_if frame n xs long is =
+    let both = and_parts (frame.from == 0) (frame.to == n) is in
+    all_of frame xs (eqb-true frame.from 0 both.0) (eqb-true frame.to n both.1 ∙ long)
 
 module _ (rows : List Datum) (places : List ℕ) where
   abbrev all : List Datum

@@ -4,7 +4,8 @@ use Rattle.std.proofs.Common.{zip, min, Option, Some, None, Result, Ok, Err, IfO
 use Rattle.std.proofs.Common.{refl, sym, ap, ap₂, ◌∙◌, subst, take}
 use Rattle.std.specs.Option.{option_map}
 use Rattle.std.proofs.lemmas.List.{length-map, get_or-map, get_or_default, length-take}
-use Rattle.std.proofs.lemmas.Slice.Zip.{get_or-zip, length-zip}
+use Rattle.std.specs.List.{AllZip}
+use Rattle.std.proofs.lemmas.Slice.Zip.{get_or-zip, length-zip, AllZip-long}
 use Rattle.fixed_num.specs.Ranges.{all_found}
 use Rattle.cell_value.specs.declared.cell.Cell.{Cell}
 use Rattle.cell_value.specs.declared.state.Keyed.{Keyed}
@@ -20,17 +21,18 @@ use Rattle.plain_rows.proofs.LookupLemmas.{reads_cells, key_stays}
 use Rattle.plain_groups.proofs.KeyLemmas.{same_keys_made}
 use Rattle.plain_orders.specs.Orders.{partition_of, rows_before}
 use Rattle.plain_orders.specs.Partitions.{datum_at, data_at, StandsAt, ArePartitions}
-use Rattle.plain_windows.specs.Frames.{are_peers}
 use Rattle.plain_windows.specs.Windows.{window_cells, windowed, data_windowed}
-use Rattle.plain_windows.specs.declared.totals.Total.{Total}
-use Rattle.plain_windows.specs.inner.Totals.{AreSmall, AreAllSmall, IsTotaled, totals_of}
-use Rattle.plain_windows.specs.inner.Views.{AreListed, AreSeen, counts, frame_rows, view_with, named_by, cells_by}
+use Rattle.plain_windows.specs.declared.aids.Aid.{Aid}
+use Rattle.plain_windows.specs.inner.Aids.{IsAid, AreAids}
+use Rattle.plain_windows.specs.inner.Seen.{AreSeen}
+use Rattle.plain_windows.specs.inner.Views.{AreListed, frame_rows, view_with, named_by, cells_by}
 use Rattle.plain_windows.proofs.PeerLemmas.{are_listed}
+use Rattle.plain_windows.proofs.AidLemmas.{zip_at}
 
 -- an operation and its number at a place
-pub zip_there : (ops : List OpOf) (params : List ℕ) (at : ℕ) (op : OpOf) → at < length ops → length params ≡ length ops
+pub op_there : (ops : List OpOf) (params : List ℕ) (at : ℕ) (op : OpOf) → at < length ops → length params ≡ length ops
     → op ≡ get_or ops at op → (op, get_or params at 0) ≡ get_or (zip ops params) at (op, get_or params at 0)
-zip_there ops params at op below long e =
+op_there ops params at op below long e =
     let n = get_or params at 0 in
     let inside : at < length params = omega (arith, below, long) in
     ap₂ (λ (o : OpOf) (m : ℕ). (o, m)) e (get_or_default params at 0 n inside) ∙ sym (get_or-zip ops params at (op, n) below inside)
@@ -38,23 +40,11 @@ zip_there ops params at op below long e =
 pub zip_within : (ops : List OpOf) (params : List ℕ) (at : ℕ) → at < length ops → length params ≡ length ops → at < length (zip ops params)
 zip_within ops params at below long = omega (arith, below, long, length-zip ops params)
 
--- the totals of an operation at a place
-pub totaled_there : (all : List Datum) (ops : List OpOf) (totals : List (List Total)) (at : ℕ) (op : OpOf) (own : List Total)
-    → totals ≡ map (totals_of all) ops → AreAllSmall totals → at < length ops → op ≡ get_or ops at op → own ≡ get_or totals at own
-    → IsTotaled all op own
-totaled_there all ops totals at op own are small below e f = record {
-  are = f ∙ ap (λ l. get_or l at own) are ∙ get_or-map (totals_of all) ops at op own below ∙ ap (totals_of all) (sym e);
-  small = subst AreSmall (sym f) (small.each at own (omega (arith, below, ap length are, length-map ops (totals_of all))));
-}
-
 pub zip_short : (ops : List OpOf) (params : List ℕ) (n : ℕ) → length ops ≤ n → length (zip ops params) ≤ n
 zip_short ops params n past = omega (arith, past, length-zip ops params)
 
 module _ (w : WindowOf) (rows : List Datum) (lists : List (List ℕ)) (homes ranks : List ℕ)
     (are : ArePartitions w.groupby w.sort rows lists homes ranks) (few : length rows ≤ most_listed) where
-  abbrev counted : List (List ℕ)
-  counted = map (λ list. counts (are_peers w.sort) (data_at rows list)) lists
-
   module _ (i : ℕ) (below : i < length rows) where
     abbrev list : List ℕ
     list = get_or lists (get_or homes i 0) []
@@ -85,9 +75,6 @@ module _ (w : WindowOf) (rows : List Datum) (lists : List (List ℕ)) (homes ran
         length_front : {X : Type 0} (k : ℕ) (xs : List X) → k < length xs → length (take k xs) ≡ k
         length_front k xs l = omega (arith, length-take k xs, l)
 
-    counts_there : get_or counted (get_or homes i 0) [] ≡ counts (are_peers w.sort) (data_at rows list)
-    counts_there = get_or-map (λ list. counts (are_peers w.sort) (data_at rows list)) lists (get_or homes i 0) [] [] (are.home i below)
-
     cells_there : cells_by w.ops w.params (view_with w.sort (data_at rows list) (datum_at rows i) rank
         (frame_rows w (data_at rows list) rank))
         ≡ window_cells w rows (datum_at rows i)
@@ -95,32 +82,22 @@ module _ (w : WindowOf) (rows : List Datum) (lists : List (List ℕ)) (homes ran
         ap₂ (λ (p : List Datum) (k : ℕ). cells_by w.ops w.params (view_with w.sort p (datum_at rows i) k (frame_rows w p k)))
         stands.partition rank_is
 
-  abbrev summed : List (List (List Total))
-  summed = map (λ list. map (totals_of (data_at rows list)) w.ops) lists
-
   -- partitions give what the operations see
-  pub are_seen : (found : List (List ℕ)) → found ≡ counted → (sums : List (List (List Total))) → sums ≡ summed → All AreAllSmall sums
-      → AreSeen w rows lists found sums homes ranks
-  are_seen found is sums so small =
-      subst (λ f. AreSeen w rows lists f sums homes ranks) (sym is)
-      (record {
-        homes_long = are.homes_long;
-        ranks_long = are.ranks_long;
-        counted_long = length-map lists (λ list. counts (are_peers w.sort) (data_at rows list));
-        summed_long = ap length so ∙ length-map lists (λ list. map (totals_of (data_at rows list)) w.ops);
-        home = are.home;
-        listed = listed_there;
-        rank = λ i below. (are.stands i below).within;
-        itself = λ i below. (are.stands i below).itself;
-        counts = counts_there;
-        totals = λ i below. ap (λ l. get_or l (get_or homes i 0) []) so
-            ∙ get_or-map (λ list. map (totals_of (data_at rows list)) w.ops) lists (get_or homes i 0) [] [] (are.home i below);
-        small = small;
-        cells = cells_there;
-      })
+  pub are_seen : (aids : List (List Aid)) → AllZip (AreAids w rows) lists aids → AreSeen w rows lists aids homes ranks
+  are_seen aids so = record {
+    homes_long = are.homes_long;
+    ranks_long = are.ranks_long;
+    aided_long = AllZip-long (AreAids w rows) lists aids so;
+    home = are.home;
+    listed = listed_there;
+    rank = λ i below. (are.stands i below).within;
+    itself = λ i below. (are.stands i below).itself;
+    aids = λ i below. zip_at (AreAids w rows) lists aids (get_or homes i 0) [] [] so (are.home i below) (omega (arith, (are.stands i below).within));
+    cells = cells_there;
+  }
 
-module _ (w : WindowOf) (rows : List Keyed) (lists counted : List (List ℕ)) (summed : List (List (List Total))) (homes ranks : List ℕ)
-    (are : AreSeen w (map datum_of rows) lists counted summed homes ranks) (i : ℕ) (row : Keyed) (found list : List ℕ)
+module _ (w : WindowOf) (rows : List Keyed) (lists : List (List ℕ)) (aids : List (List Aid)) (homes ranks : List ℕ)
+    (are : AreSeen w (map datum_of rows) lists aids homes ranks) (i : ℕ) (row : Keyed) (found list : List ℕ)
     (below : i < length rows) (at : row ≡ get_or rows i row) (of : found ≡ get_or lists (get_or homes i 0) found) (is : list ≡ found) where
   abbrev seen : List Datum
   seen = map datum_of rows
@@ -140,18 +117,12 @@ module _ (w : WindowOf) (rows : List Keyed) (lists counted : List (List ℕ)) (s
   pub rank_in : get_or ranks i 0 < length list
   rank_in = subst (λ (l : List ℕ). get_or ranks i 0 < length l) list_is (are.rank i within)
 
-  pub counts_in : (own : List ℕ) → own ≡ get_or counted (get_or homes i 0) own → own ≡ counts (are_peers w.sort) (data_at seen list)
-  counts_in own e =
-      e ∙ get_or_default counted (get_or homes i 0) own [] (omega (arith, are.home i within, are.counted_long))
-      ∙ are.counts i within ∙ ap (λ l. counts (are_peers w.sort) (data_at seen l)) list_is
-
-  pub totals_in : (own : List (List Total)) → own ≡ get_or summed (get_or homes i 0) own → own ≡ map (totals_of (data_at seen list)) w.ops
-  totals_in own e =
-      e ∙ get_or_default summed (get_or homes i 0) own [] (omega (arith, are.home i within, are.summed_long))
-      ∙ are.totals i within ∙ ap (λ l. map (totals_of (data_at seen l)) w.ops) list_is
-
-  pub small_in : (own : List (List Total)) → own ≡ get_or summed (get_or homes i 0) own → AreAllSmall own
-  small_in own e = subst AreAllSmall (sym e) (are.small (get_or homes i 0) own (omega (arith, are.home i within, are.summed_long)))
+  pub aids_in : (own : List Aid) → own ≡ get_or aids (get_or homes i 0) own → AllZip (IsAid w.sort (data_at seen list)) w.ops own
+  aids_in own e =
+      let home = get_or homes i 0 in
+      let same : own ≡ get_or aids home [] = e ∙ get_or_default aids home own [] (omega (arith, are.home i within, are.aided_long)) in
+      subst (AllZip (IsAid w.sort (data_at seen list)) w.ops) (sym same)
+      (subst (λ l. AllZip (IsAid w.sort (data_at seen l)) w.ops (get_or aids home [])) list_is (are.aids i within))
 
   abbrev rank_there : ℕ
   rank_there = get_or ranks i 0

@@ -1,5 +1,5 @@
 // How many different peers stand before the rows of partitions.
-ghost use Rattle.std.specs.Prelude.{◌≡◌, ℕ, ◌+◌, ◌<◌, ◌≤◌, [], ◌∷◌, map, length, slice_index_or, All, IfOk, if◌then◌else◌};
+ghost use Rattle.std.specs.Prelude.{◌≡◌, ◌+◌, ◌<◌, ◌≤◌, [], ◌∷◌, map, length, All, IfOk, if◌then◌else◌};
 ghost use Rattle.cell_value.specs.Datum.{datum_of};
 ghost use Rattle.plain_rows.specs.Rows.{AreRows, most_listed};
 ghost use Rattle.plain_orders.specs.Partitions.{datum_at, data_at};
@@ -82,24 +82,4 @@ pub(crate) fn counts(
         }
         [first, others @ ..] => counts_behind(alloc, sort, rows, *first, others),
     }
-}
-
-/// The counts of several lists of places.
-pub(crate) fn all_counts(
-    alloc: Global,
-    sort: &[SortBy],
-    rows: &[Keyed],
-    lists: &[Seq<usize>],
-) -> Result<Seq<Seq<usize>>, OutOfMemory>
-    requires rows { AreRows rows.now }
-    requires places { (k : ℕ) → k < length lists.now → All (λ place. place < length rows.now) (slice_index_or lists.now k []) }
-    requires few { (k : ℕ) → k < length lists.now → length (slice_index_or lists.now k []) ≤ most_listed }
-    ensures { IfOk result (λ found. found
-        ≡ map (λ list. counts (are_peers sort.now) (data_at (map datum_of rows.now) list)) lists.now) }
-{
-    let mut found = Seq::with_capacity(alloc, lists.len())?;
-    for list in lists {
-        found.push(counts(alloc, sort, rows, list.as_slice())?)?;
-    }
-    Ok(found)
 }

@@ -5,11 +5,11 @@ ghost use Rattle.cell_value.specs.Datum.{Datum, datum_of};
 ghost use Rattle.plain_rows.specs.Rows.{AreRows, most_listed};
 ghost use Rattle.plain_orders.specs.Partitions.{data_at};
 ghost use Rattle.plain_windows.specs.Frames.{cut, frame_at, widened};
-ghost use Rattle.plain_windows.specs.inner.Views.{AreListed, part};
+ghost use Rattle.plain_windows.specs.inner.Views.{AreListed, part, frame_rows};
 
 use crate::peers::{front, row_at};
 use cell_value::Keyed;
-use plain_rows::SortBy;
+use plain_rows::{SortBy, WindowOf};
 use text_kit::OutOfMemory;
 
 /// Some of the rows of a partition: those from a place to another, and none where the second isn't behind the first.
@@ -106,4 +106,26 @@ pub(crate) fn widened(
         from: front(sort, rows, places, first, false)?,
         to: front(sort, rows, places, last, true)?,
     })
+}
+
+/// The frame of the row at a rank of a partition.
+pub(crate) fn frame_of(
+    w: &WindowOf,
+    rows: &[Keyed],
+    places: &[usize],
+    rank: usize,
+) -> Result<Frame, OutOfMemory>
+    requires rows { AreRows rows.now }
+    requires listed { AreListed w.now.sort (map datum_of rows.now) places.now }
+    requires rank { rank < length places.now }
+    ensures frame { IfOk result (λ frame. part frame (data_at (map datum_of rows.now) places.now)
+        ≡ frame_rows w.now (data_at (map datum_of rows.now) places.now) rank) }
+    ensures within { IfOk result (λ frame. frame.to ≤ length places.now) }
+{
+    let exact = frame_at(places.len(), rank, w.before, w.after);
+    if w.ignore_peers {
+        Ok(exact)
+    } else {
+        widened(w.sort.as_slice(), rows, places, exact)
+    }
 }

@@ -1,5 +1,6 @@
 // Rows with what windows give.
 ghost use Rattle.std.specs.Prelude.{◌≡◌, ◌<◌, ◌≤◌, map, length, zip, slice_index_or, IfOk, option_map};
+ghost use Rattle.std.specs.List.{AllZip};
 ghost use Rattle.cell_value.specs.State.{greatest_id};
 ghost use Rattle.cell_value.specs.Datum.{datum_of};
 ghost use Rattle.expr_eval.specs.Answers.{Evaluates};
@@ -8,15 +9,14 @@ ghost use Rattle.plain_rows.specs.Rows.{AreRows};
 ghost use Rattle.plain_rows.specs.Answers.{GivesRows};
 ghost use Rattle.plain_rows.specs.Lookups.{with_cells};
 ghost use Rattle.plain_orders.specs.Partitions.{datum_at, data_at, ArePartitions};
-ghost use Rattle.plain_windows.specs.Frames.{are_peers};
 ghost use Rattle.plain_windows.specs.Windows.{windowed, data_windowed};
-ghost use Rattle.plain_windows.specs.inner.Totals.{AreAllSmall, IsTotaled, totals_of};
-ghost use Rattle.plain_windows.specs.inner.Views.{AreListed, AreSeen, part, counts, frame_rows, view_with, named_by, cells_by};
+ghost use Rattle.plain_windows.specs.inner.Aids.{IsAid};
+ghost use Rattle.plain_windows.specs.inner.Seen.{AreSeen};
+ghost use Rattle.plain_windows.specs.inner.Views.{AreListed, part, frame_rows, view_with, named_by, cells_by};
 
-use crate::cells::{all_totals, window_cell};
-use crate::counts::all_counts;
-use crate::frames::{Frame, frame_at, widened};
-use crate::totals::Total;
+use crate::aids::{Aid, all_aids};
+use crate::cells::window_cell;
+use crate::frames::{Frame, frame_of};
 use cell_value::{Cell, Keyed, Rows};
 use expr_eval::EvalError;
 use plain_orders::partitions_of;
@@ -24,36 +24,13 @@ use plain_rows::{OpOf, SortBy, WindowOf, with_cells};
 use std::alloc::Global;
 use text_kit::{OutOfMemory, Seq, Text};
 
-// The frame of the row at a rank of a partition.
-fn frame_of(
-    w: &WindowOf,
-    rows: &[Keyed],
-    places: &[usize],
-    rank: usize,
-) -> Result<Frame, OutOfMemory>
-    requires rows { AreRows rows.now }
-    requires listed { AreListed w.now.sort (map datum_of rows.now) places.now }
-    requires rank { rank < length places.now }
-    ensures frame { IfOk result (λ frame. part frame (data_at (map datum_of rows.now) places.now)
-        ≡ frame_rows w.now (data_at (map datum_of rows.now) places.now) rank) }
-    ensures within { IfOk result (λ frame. frame.to ≤ length places.now) }
-{
-    let exact = frame_at(places.len(), rank, w.before, w.after);
-    if w.ignore_peers {
-        Ok(exact)
-    } else {
-        widened(w.sort.as_slice(), rows, places, exact)
-    }
-}
-
 // What an operation gives for the row at a rank, under its new name.
 fn named_cell(
     alloc: Global,
     sort: &[SortBy],
     rows: &[Keyed],
     places: &[usize],
-    counted: &[usize],
-    totals: &[Total],
+    aid: &Aid,
     rank: usize,
     frame: Frame,
     op: &OpOf,
@@ -61,17 +38,14 @@ fn named_cell(
 ) -> Result<(Text, Cell), EvalError>
     requires rows { AreRows rows.now }
     requires listed { AreListed sort.now (map datum_of rows.now) places.now }
-    requires counted { counted.now ≡ counts (are_peers sort.now) (data_at (map datum_of rows.now) places.now) }
-    requires totals { IsTotaled (data_at (map datum_of rows.now) places.now) op.now totals.now }
+    requires aid { IsAid sort.now (data_at (map datum_of rows.now) places.now) op.now aid.now }
     requires rank { rank < length places.now }
     requires frame { frame.to ≤ length places.now }
     ensures { Evaluates result (named_by (view_with sort.now (data_at (map datum_of rows.now) places.now)
         (datum_at (map datum_of rows.now) (slice_index_or places.now rank 0)) rank
         (part frame (data_at (map datum_of rows.now) places.now))) (op.now, number)) }
 {
-    let cell = window_cell(
-        alloc, sort, rows, places, counted, totals, rank, frame, op, number,
-    )?;
+    let cell = window_cell(alloc, sort, rows, places, aid, rank, frame, op, number)?;
     Ok((op.out.copy()?, cell))
 }
 
@@ -83,36 +57,24 @@ fn named_cells(
     params: &[u32],
     rows: &[Keyed],
     places: &[usize],
-    counted: &[usize],
-    totals: &[Seq<Total>],
+    aids: &[Aid],
     rank: usize,
     frame: Frame,
 ) -> Result<Seq<(Text, Cell)>, EvalError>
     requires params { length params.now ≡ length ops.now }
     requires rows { AreRows rows.now }
     requires listed { AreListed sort.now (map datum_of rows.now) places.now }
-    requires counted { counted.now ≡ counts (are_peers sort.now) (data_at (map datum_of rows.now) places.now) }
-    requires totals { totals.now ≡ map (totals_of (data_at (map datum_of rows.now) places.now)) ops.now }
-    requires small { AreAllSmall totals.now }
+    requires aids { AllZip (IsAid sort.now (data_at (map datum_of rows.now) places.now)) ops.now aids.now }
     requires rank { rank < length places.now }
     requires frame { frame.to ≤ length places.now }
     ensures { Evaluates result (cells_by ops.now params.now (view_with sort.now (data_at (map datum_of rows.now) places.now)
         (datum_at (map datum_of rows.now) (slice_index_or places.now rank 0)) rank
         (part frame (data_at (map datum_of rows.now) places.now)))) }
 {
-    let mut given = Seq::new(alloc);
+    let mut given = Seq::with_capacity(alloc, ops.len())?;
     for (at, op) in ops.iter().enumerate() {
         match named_cell(
-            alloc,
-            sort,
-            rows,
-            places,
-            counted,
-            totals[at].as_slice(),
-            rank,
-            frame,
-            op,
-            params[at],
+            alloc, sort, rows, places, &aids[at], rank, frame, op, params[at],
         ) {
             Ok(cell) => given.push(cell)?,
             Err(error) => return Err(error),
@@ -127,16 +89,13 @@ fn window_cells(
     w: &WindowOf,
     rows: &[Keyed],
     places: &[usize],
-    counted: &[usize],
-    totals: &[Seq<Total>],
+    aids: &[Aid],
     rank: usize,
 ) -> Result<Seq<(Text, Cell)>, EvalError>
     requires params { length w.now.params ≡ length w.now.ops }
     requires rows { AreRows rows.now }
     requires listed { AreListed w.now.sort (map datum_of rows.now) places.now }
-    requires counted { counted.now ≡ counts (are_peers w.now.sort) (data_at (map datum_of rows.now) places.now) }
-    requires totals { totals.now ≡ map (totals_of (data_at (map datum_of rows.now) places.now)) w.now.ops }
-    requires small { AreAllSmall totals.now }
+    requires aids { AllZip (IsAid w.now.sort (data_at (map datum_of rows.now) places.now)) w.now.ops aids.now }
     requires rank { rank < length places.now }
     ensures { Evaluates result (cells_by w.now.ops w.now.params (view_with w.now.sort (data_at (map datum_of rows.now) places.now)
         (datum_at (map datum_of rows.now) (slice_index_or places.now rank 0)) rank
@@ -150,8 +109,7 @@ fn window_cells(
         w.params.as_slice(),
         rows,
         places,
-        counted,
-        totals,
+        aids,
         rank,
         frame,
     )
@@ -164,23 +122,20 @@ fn windowed_row(
     rows: &[Keyed],
     row: &Keyed,
     places: &[usize],
-    counted: &[usize],
-    totals: &[Seq<Total>],
+    aids: &[Aid],
     rank: usize,
 ) -> Result<Keyed, EvalError>
     requires params { length w.now.params ≡ length w.now.ops }
     requires rows { AreRows rows.now }
     requires id { row.now.key.id ≤ greatest_id }
     requires listed { AreListed w.now.sort (map datum_of rows.now) places.now }
-    requires counted { counted.now ≡ counts (are_peers w.now.sort) (data_at (map datum_of rows.now) places.now) }
-    requires totals { totals.now ≡ map (totals_of (data_at (map datum_of rows.now) places.now)) w.now.ops }
-    requires small { AreAllSmall totals.now }
+    requires aids { AllZip (IsAid w.now.sort (data_at (map datum_of rows.now) places.now)) w.now.ops aids.now }
     requires rank { rank < length places.now }
     ensures { Evaluates result (option_map (with_cells row.now) (cells_by w.now.ops w.now.params (view_with w.now.sort
         (data_at (map datum_of rows.now) places.now) (datum_at (map datum_of rows.now) (slice_index_or places.now rank 0)) rank
         (frame_rows w.now (data_at (map datum_of rows.now) places.now) rank)))) }
 {
-    let given = window_cells(alloc, w, rows, places, counted, totals, rank)?;
+    let given = window_cells(alloc, w, rows, places, aids, rank)?;
     Ok(with_cells(row, given)?)
 }
 
@@ -190,14 +145,13 @@ fn windowed_rows(
     w: &WindowOf,
     rows: &[Keyed],
     lists: &[Seq<usize>],
-    counted: &[Seq<usize>],
-    totals: &[Seq<Seq<Total>>],
+    aids: &[Seq<Aid>],
     homes: &[usize],
     ranks: &[usize],
 ) -> Result<Rows, EvalError>
     requires params { length w.now.params ≡ length w.now.ops }
     requires rows { AreRows rows.now }
-    requires seen { AreSeen w.now (map datum_of rows.now) lists.now counted.now totals.now homes.now ranks.now }
+    requires seen { AreSeen w.now (map datum_of rows.now) lists.now aids.now homes.now ranks.now }
     ensures { Evaluates result (windowed w.now rows.now) }
 {
     let mut out = Seq::with_capacity(alloc, rows.len())?;
@@ -209,8 +163,7 @@ fn windowed_rows(
             rows,
             row,
             lists[home].as_slice(),
-            counted[home].as_slice(),
-            totals[home].as_slice(),
+            aids[home].as_slice(),
             ranks[at],
         ) {
             Ok(copy) => out.push(copy)?,
@@ -220,7 +173,7 @@ fn windowed_rows(
     Ok(out)
 }
 
-// The rows, each with what the operations give, by their partitions and counts.
+// The rows, each with what the operations give, by their partitions.
 fn by_partitions(
     alloc: Global,
     w: &WindowOf,
@@ -234,18 +187,8 @@ fn by_partitions(
     requires partitions { ArePartitions w.now.groupby w.now.sort (map datum_of rows.now) lists.now homes.now ranks.now }
     ensures { Evaluates result (windowed w.now rows.now) }
 {
-    let counted = all_counts(alloc, w.sort.as_slice(), rows, lists)?;
-    let totals = all_totals(alloc, rows, lists, w.ops.as_slice())?;
-    windowed_rows(
-        alloc,
-        w,
-        rows,
-        lists,
-        counted.as_slice(),
-        totals.as_slice(),
-        homes,
-        ranks,
-    )
+    let aids = all_aids(alloc, rows, lists, w)?;
+    windowed_rows(alloc, w, rows, lists, aids.as_slice(), homes, ranks)
 }
 
 // The rows, each with what the operations give.
@@ -266,9 +209,10 @@ fn windowed(alloc: Global, rows: &[Keyed], w: &WindowOf) -> Result<Rows, EvalErr
 /// partition; it begins or ends with the partition where that is None. It is widened to the peers of its first and its last row, which
 /// are the rows equal in `sort`, unless `ignore_peers` is set; without `sort` no two rows are peers. `lag` and `lead` go as far as the
 /// operation's number among `params`. `Overflow` comes exactly where a sum is out of range. The keys of the rows rise, their ids are at
-/// most 10^15, and there are at most 1,600,000 of them. It sorts the rows once,
-/// and finds the peers of a row by halving its partition. `count`, `valid`, `missing`, `sum`, `mean` and `average` then take one step for each
-/// row; the other aggregates take one for each row of each frame.
+/// most 10^15, and there are at most 1,600,000 of them. It sorts the rows once, and finds the peers of a row by halving its partition.
+/// `count`, `valid`, `missing`, `sum`, `mean` and `average` then take one step for each row, and `min` and `max` a number of steps for each
+/// row that is logarithmic in its partition. `distinct` takes one step for each row where `before` is None, and `median`, `q1` and `q3`
+/// where `before` and `after` both are: over other frames these four take a step for each row of each frame.
 pub fn window(alloc: Global, rows: &Rows, w: &WindowOf) -> Result<Rows, EvalError>
     requires rows { AreRows rows.now }
     requires params { length w.now.params ≡ length w.now.ops }

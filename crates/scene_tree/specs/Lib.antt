@@ -1,1 +1,4 @@
 pub mod Outcome
+pub mod Hits
+pub mod HitExamples
+pub mod inner

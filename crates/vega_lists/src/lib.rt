@@ -13,5 +13,6 @@ mod transforms;
 pub use held::Lists;
 pub(crate) use held::RowsIn;
 pub use laws::laws_of_lists;
-pub use lists::lists_of;
-pub use transforms::transformed;
+pub use lists::{lists_of, transforms_of};
+pub use settings::lookup_settings;
+pub use transforms::{looked_up_in, transformed};

@@ -131,8 +131,8 @@ fn with_transformed<P: ParamReader>(
     }
 }
 
-// The transforms of a data set.
-fn transforms_of(set: &DataSet) -> &[Transform]
+/// The transforms of a data set.
+pub fn transforms_of(set: &DataSet) -> &[Transform]
     ensures { result.now ≡ transforms_of set.now }
 {
     match &set.transform {

@@ -79,8 +79,8 @@ fn cell_or_null(cell: &Option<Cell>) -> Result<Cell, OutOfMemory>
     }
 }
 
-/// What a lookup asks of rows.
-pub(crate) fn lookup_settings(alloc: Global, l: &Lookup) -> Result<LookupOf, OutOfMemory>
+/// What a lookup asks of rows, with what stands for the members that are absent: the names of its values, and null.
+pub fn lookup_settings(alloc: Global, l: &Lookup) -> Result<LookupOf, OutOfMemory>
     ensures { IfOk result (λ how. how ≡ lookup_settings l.now) }
 {
     Ok(LookupOf {

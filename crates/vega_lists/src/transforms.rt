@@ -110,8 +110,9 @@ fn folded(alloc: Global, rows: &Rows, f: &Fold) -> Result<Rows, OutOfMemory>
     fold(alloc, rows, &how)
 }
 
-// The rows with cells of the rows of a list, if there is one.
-fn looked_up_in(
+/// The rows with cells of the rows of a list, if there is one: of each the last that has its key, as `lookup` of `plain_rows` gives them.
+/// The keys of either rows rise, their ids are at most 10^15, and there are at most 1,600,000 of them; so it is of those that come out.
+pub fn looked_up_in(
     alloc: Global,
     rows: &Rows,
     other: Option<&Rows>,
@@ -152,8 +153,9 @@ fn looked_up(
 
 /// The rows that a transform makes of rows, where names stand for lists. `Overflow` comes exactly where an expression overflows at one of
 /// the rows, the width or an end of bins over a field with a number is out of range, or the sum of a group or a frame or a total of a stack
-/// is. A lookup has as many names as values, and a given width of bins is over 0. What is asked of the rows, of the lists and of what comes out: their keys rise, their ids are at most
-/// 10^15, and there are at most 1,600,000 of them; a fold's rows are those of a path whose product is at most 8.
+/// is. A lookup has as many names as values, and a given width of bins is over 0. What is asked of the rows, of the lists and of what comes
+/// out: their keys rise, their ids are at most 10^15, and there are at most 1,600,000 of them; a fold's rows are those of a path whose
+/// product is at most 8.
 pub fn transformed<P: ParamReader>(
     alloc: Global,
     sources: &[Named],

@@ -1,6 +1,5 @@
 // Whether the folds of data sets fit.
 ghost use Rattle.std.specs.Prelude.{◌≡◌, ◌≤◌, IfOk, OnOk, IfSome};
-ghost use Rattle.vega_lists.specs.Transforms.{transforms_of};
 ghost use Rattle.vega_lists.specs.Products.{no_folds, begun_product, with_product, fold_length};
 ghost use Rattle.vega_plots.specs.Fitting.{fitted, folds_fit, FittingIsTested};
 ghost use Rattle.vega_plots.specs.inner.Tested.{products_in};
@@ -8,6 +7,7 @@ ghost use Rattle.vega_plots.specs.inner.Tested.{products_in};
 use std::alloc::Global;
 use std::collections::BTreeMap;
 use text_kit::{OutOfMemory, Text};
+use vega_lists::transforms_of;
 use vega_spec::{DataSet, Transform};
 
 // How many rows a transform makes of one at most.
@@ -42,16 +42,6 @@ fn fitted(before: u64, transforms: &[Transform]) -> Option<u64>
         product = next;
     }
     Some(product)
-}
-
-// The transforms of a data set.
-pub(crate) fn transforms_of(set: &DataSet) -> &[Transform]
-    ensures { result.now ≡ transforms_of set.now }
-{
-    match &set.transform {
-        Some(transforms) => transforms.as_slice(),
-        None => &[],
-    }
 }
 
 // The product of a name.

@@ -4,7 +4,7 @@ ghost use Rattle.std.specs.Option.{option_map_or};
 ghost use Rattle.std.specs.List.{list_all};
 ghost use Rattle.expr_eval.specs.Numbers.{the_number};
 ghost use Rattle.vega_spec.specs.declared.spec.Group.{out-Group};
-ghost use Rattle.vega_spec.specs.Names.{signals_of, sources_of};
+ghost use Rattle.vega_spec.specs.Names.{sources_of};
 ghost use Rattle.vega_lists.specs.Transforms.{is_kept};
 ghost use Rattle.vega_scales.specs.Ranges.{two_numbers};
 ghost use Rattle.vega_scales.specs.Scales.{given_ends};
@@ -13,7 +13,7 @@ ghost use Rattle.vega_plots.specs.Built.{is_plain, is_bare};
 ghost use Rattle.vega_plots.specs.Tested.{is_padding, is_pixel, is_range, is_set, has_places, is_scale, is_size, is_space};
 ghost use Rattle.vega_plots.specs.Tested.{is_plot_group, is_one_plot, are_new, is_plot, PlotsAreTested};
 
-use crate::folds::{folds_fit, transforms_of};
+use crate::folds::folds_fit;
 use crate::names::are_new;
 use crate::plots::{marks_in, scales_in};
 use cell_value::Cell;
@@ -21,8 +21,9 @@ use fixed_num::Num;
 use std::alloc::Global;
 use text_kit::{OutOfMemory, Seq};
 use vega_guides::has_kept_axes;
+use vega_lists::transforms_of;
 use vega_scales::{is_built, is_domain_built, is_ordinal};
-use vega_signals::data_of;
+use vega_signals::{data_of, signals_of};
 use vega_spec::{
     DataSet, Group, Lookup, MarkFrom, MarkType, Range, Scale, Signal, Size, Transform, VgMark,
     VgSpec, sources_of,
@@ -234,16 +235,6 @@ fn is_plain(signal: &Signal) -> bool
     ensures { result ≡ is_plain signal.now }
 {
     signal.on.is_none()
-}
-
-// The signals of an object.
-fn signals_of(group: &Group) -> &[Signal]
-    ensures { result.now ≡ signals_of (out-Group group.now) }
-{
-    match &group.signals {
-        Some(signals) => signals.as_slice(),
-        None => &[],
-    }
 }
 
 // None of these is a selection.

@@ -115,16 +115,6 @@ fn run<P: ParamReader>(
     Ok(left)
 }
 
-// The transforms of a data set.
-pub(crate) fn transforms_of(set: &DataSet) -> &[Transform]
-    ensures { result.now ≡ transforms_of set.now }
-{
-    match &set.transform {
-        Some(transforms) => transforms.as_slice(),
-        None => &[],
-    }
-}
-
 // Puts the name of a data set for its rows. It adds the signals of its extents.
 fn add_set<P: ParamReader>(
     alloc: Global,
@@ -147,7 +137,15 @@ fn add_set<P: ParamReader>(
         (transforms_of set.now) (begun_rows (map dataset_of sources.now) (scope_by lists.old) set.now)) }
 {
     let rows = begun_rows(alloc, sources, lists, set)?;
-    let left = run(alloc, lists, empty, transforms_of(set), rows, params, out)?;
+    let left = run(
+        alloc,
+        lists,
+        empty,
+        vega_lists::transforms_of(set),
+        rows,
+        params,
+        out,
+    )?;
     put_rows(lists, &set.name, left)?;
     Ok(())
 }
@@ -156,7 +154,7 @@ fn add_set<P: ParamReader>(
 fn asks(set: &DataSet) -> bool
     ensures { result ≡ asks set.now }
 {
-    transforms_of(set)
+    vega_lists::transforms_of(set)
         .iter()
         .any(|transform| extent_asked(transform).is_some())
 }

@@ -14,5 +14,5 @@ mod steps;
 pub use evaluation::eval_alone;
 pub use laws::laws_of_signals;
 pub use params::PlotParams;
-pub use rounds::data_of;
+pub use rounds::{data_of, signals_of};
 pub use signals::signal_values;

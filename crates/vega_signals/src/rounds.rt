@@ -33,8 +33,8 @@ pub fn data_of(group: &Group) -> &[DataSet]
     }
 }
 
-// The signals of an object.
-pub(crate) fn signals_of(group: &Group) -> &[Signal]
+/// The signals of an object.
+pub fn signals_of(group: &Group) -> &[Signal]
     ensures { result.now ≡ signals_of (out-Group group.now) }
 {
     match &group.signals {

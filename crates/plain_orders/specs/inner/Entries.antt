@@ -1,5 +1,5 @@
 -- Rows as they are sorted: by cells, and then by place.
-use Rattle.std.specs.Prelude.{◌≡◌, refl, ℕ, ◌+◌, Bool, true, false, List, [], ◌∷◌, map, if◌then◌else◌}
+use Rattle.std.specs.Prelude.{◌≡◌, refl, ℕ, ◌+◌, Bool, true, false, List, [], ◌∷◌, map, drop, if◌then◌else◌}
 use mathlib.Core.Path.{subst}
 use Rattle.std.specs.declared.cmp.Ordering.{Ordering}
 use Rattle.std.specs.declared.cmp.Ordering.TheVariants.{Less, Equal, Greater}
@@ -27,9 +27,14 @@ sort_cell_cmp (Rising a) (Rising b) = cell_cmp a b
 sort_cell_cmp (Falling a) (Falling b) = cell_cmp b a
 sort_cell_cmp a b = bool_cmp (falls a) (falls b)
 
+-- how two entries stand by their cells
+abbrev pub entry_cells_cmp : Entry → Entry → Ordering
+entry_cells_cmp a b =
+    ordering_then (ordering_then (sort_cell_cmp a.first b.first) (sort_cell_cmp a.second b.second)) (slice_cmp sort_cell_cmp a.others b.others)
+
 -- how two entries stand: by their cells, and then by their places
 abbrev pub entry_cmp : Entry → Entry → Ordering
-entry_cmp a b = ordering_then (slice_cmp sort_cell_cmp a.cells b.cells) (nat_cmp a.place b.place)
+entry_cmp a b = ordering_then (entry_cells_cmp a b) (nat_cmp a.place b.place)
 
 abbrev rising : SortCell → Cell
 rising (Rising cell) = cell
@@ -59,15 +64,25 @@ sort_cell_cmp_total =
     (then_total (on_total falls bool_cmp_total) (then_total (on_total rising cell_cmp_total)
     (on_total falling (back_total cell_cmp_total))))
 
-abbrev cells_of : Entry → List SortCell
-cells_of entry = entry.cells
+abbrev first_of : Entry → SortCell
+first_of entry = entry.first
+
+abbrev second_of : Entry → SortCell
+second_of entry = entry.second
+
+abbrev others_of : Entry → List SortCell
+others_of entry = entry.others
 
 abbrev place_of : Entry → ℕ
 place_of entry = entry.place
 
 -- the order of entries is total
 pub entry_cmp_total : IsTotalOrder entry_cmp
-entry_cmp_total = then_total (on_total cells_of (lists_total sort_cell_cmp_total)) (on_total place_of nat_cmp_total)
+entry_cmp_total =
+    then_total
+    (then_total (then_total (on_total first_of sort_cell_cmp_total) (on_total second_of sort_cell_cmp_total))
+    (on_total others_of (lists_total sort_cell_cmp_total)))
+    (on_total place_of nat_cmp_total)
 
 -- the cell by which rows are sorted
 abbrev pub sort_cell : SortBy → Cell → SortCell
@@ -77,7 +92,21 @@ sort_cell s cell = if s.descending then Falling cell else Rising cell
 abbrev pub sort_cells : List SortBy → CellAt → List SortCell
 sort_cells sort cells = map (λ (s : SortBy). sort_cell s (cells s.field)) sort
 
+-- the cell of the first field of an order; without one the same for all rows
+abbrev pub first_cell : List SortBy → CellAt → SortCell
+first_cell [] cells = Rising Null
+first_cell (s ∷ sort) cells = sort_cell s (cells s.field)
+
+-- a row at a place as it is sorted
+abbrev pub entry_of : List SortBy → ℕ → CellAt → Entry
+entry_of sort place cells = record {
+  first = first_cell sort cells;
+  second = first_cell (drop 1 sort) cells;
+  others = sort_cells (drop 1 (drop 1 sort)) cells;
+  place = place;
+}
+
 -- rows as they are sorted, their places counted from i
 abbrev pub entries_from : List SortBy → ℕ → List Keyed → List Entry
 entries_from sort i [] = []
-entries_from sort i (row ∷ rows) = record { cells = sort_cells sort (cell_at row); place = i } ∷ entries_from sort (i + 1) rows
+entries_from sort i (row ∷ rows) = entry_of sort i (cell_at row) ∷ entries_from sort (i + 1) rows

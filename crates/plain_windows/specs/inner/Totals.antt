@@ -1,6 +1,6 @@
 -- The totals of cells as they run.
 use Rattle.std.specs.Prelude.{◌≡◌, ℕ, ◌+◌, ◌-◌, ◌*◌, ◌≤◌, ◌<◌, ◌==◌, nat_lt, pos, ◌-ℤ◌, int_lt, unsigned_abs, Option, List, [], ◌∷◌, map, sum_by}
-use Rattle.std.specs.Prelude.{length, slice_index_or, All, if◌then◌else◌}
+use Rattle.std.specs.Prelude.{length, slice_index_or, if◌then◌else◌}
 use Rattle.std.specs.Option.{option_map, option_map_or}
 use Rattle.fixed_num.specs.Number.{limit, rounded}
 use Rattle.fixed_num.specs.Ranges.{in_range}
@@ -80,14 +80,11 @@ total_between a b = record {
 abbrev pub total_at : List Total → ℕ → Total
 total_at totals place = slice_index_or totals place no_total
 
--- Totals of which none has much more than one before it, and lists of such.
+-- Totals of which none has much more than one before it.
 pub record AreSmall (totals : List Total) : Type 0 where
   pub each : (i k : ℕ) → i ≤ k → k < length totals → AtMostSo (total_between (total_at totals i) (total_at totals k)) most_listed
 
-pub record AreAllSmall (lists : List (List Total)) : Type 0 where
-  pub each : All AreSmall lists
-
--- The totals of the cells that an operation reads of rows, none of which is large.
+-- The totals of the cells that an operation reads of rows, of which none has much more than one before it.
 pub record IsTotaled (rows : List Datum) (op : OpOf) (totals : List Total) : Type 0 where
   pub are : totals ≡ totals_of rows op
   pub small : AreSmall totals

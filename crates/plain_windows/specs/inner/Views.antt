@@ -1,6 +1,6 @@
 -- What operations see from the rows of a partition, by places.
 use Rattle.std.specs.Prelude.{◌≡◌, ℕ, ◌+◌, ◌-◌, ◌<◌, ◌≤◌, not, Bool, Option, List, [], ◌∷◌, map, take, drop, length, zip, All}
-use Rattle.std.specs.Prelude.{slice_get, slice_index_or, if◌then◌else◌}
+use Rattle.std.specs.Prelude.{slice_get, if◌then◌else◌}
 use Rattle.std.specs.Option.{option_map, option_map_or}
 use Rattle.std.specs.Ordering.{is_lt}
 use Rattle.fixed_num.specs.Ranges.{all_found}
@@ -12,13 +12,11 @@ use Rattle.plain_rows.specs.declared.transforms.SortBy.{SortBy}
 use Rattle.plain_rows.specs.declared.transforms.WindowOf.{WindowOf}
 use Rattle.plain_rows.specs.Rows.{most_listed}
 use Rattle.plain_groups.specs.GroupRows.{read_by}
-use Rattle.plain_orders.specs.Partitions.{datum_at, data_at}
+use Rattle.plain_orders.specs.Partitions.{data_at}
 use Rattle.plain_windows.specs.declared.frames.Frame.{Frame}
 use Rattle.plain_windows.specs.Frames.{peer_order, are_peers, frame_at, widened}
-use Rattle.plain_windows.specs.Windows.{View, windows, window_of, window_cells}
-use Rattle.plain_windows.specs.declared.totals.Total.{Total}
+use Rattle.plain_windows.specs.Windows.{View, windows, window_of}
 use Rattle.plain_windows.specs.inner.Rising.{Rises}
-use Rattle.plain_windows.specs.inner.Totals.{AreAllSmall, totals_of}
 
 -- Places of rows that stand in the order of peers.
 pub record AreListed (sort : List SortBy) (rows : List Datum) (places : List ℕ) : Type 0 where
@@ -75,25 +73,3 @@ named_by view op = option_map (λ cell. (op.0.out, cell)) (window_of op.0.op (vi
 
 abbrev pub cells_by : List OpOf → List ℕ → (OpOf → ℕ → View) → Option (List (List ℕ × Cell))
 cells_by ops params view = all_found (map (named_by view) (zip ops params))
-
--- Lists of places of rows, and for each row a list and its rank there by which the operations give what they give for it.
-pub record AreSeen (w : WindowOf) (rows : List Datum) (lists counted : List (List ℕ))
-    (summed : List (List (List Total))) (homes ranks : List ℕ) : Type 0 where
-  pub homes_long : length homes ≡ length rows
-  pub ranks_long : length ranks ≡ length rows
-  pub counted_long : length counted ≡ length lists
-  pub summed_long : length summed ≡ length lists
-  pub home : (i : ℕ) → i < length rows → slice_index_or homes i 0 < length lists
-  pub listed : (i : ℕ) → i < length rows → AreListed w.sort rows (slice_index_or lists (slice_index_or homes i 0) [])
-  pub rank : (i : ℕ) → i < length rows → slice_index_or ranks i 0 < length (slice_index_or lists (slice_index_or homes i 0) [])
-  pub itself : (i : ℕ) → i < length rows
-      → slice_index_or (slice_index_or lists (slice_index_or homes i 0) []) (slice_index_or ranks i 0) 0 ≡ i
-  pub counts : (i : ℕ) → i < length rows → slice_index_or counted (slice_index_or homes i 0) []
-      ≡ counts (are_peers w.sort) (data_at rows (slice_index_or lists (slice_index_or homes i 0) []))
-  pub totals : (i : ℕ) → i < length rows → slice_index_or summed (slice_index_or homes i 0) []
-      ≡ map (totals_of (data_at rows (slice_index_or lists (slice_index_or homes i 0) []))) w.ops
-  pub small : All AreAllSmall summed
-  pub cells : (i : ℕ) → i < length rows → (let partition = data_at rows (slice_index_or lists (slice_index_or homes i 0) []) in
-      let rank = slice_index_or ranks i 0 in
-      cells_by w.ops w.params (view_with w.sort partition (datum_at rows i) rank (frame_rows w partition rank)))
-      ≡ window_cells w rows (datum_at rows i)

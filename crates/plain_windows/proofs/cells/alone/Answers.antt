@@ -15,4 +15,4 @@ pub returns-in-14 : goal.returns-in-14
 unfolding windows
 returns-in-14 c =
     rw c.in-14.is
-    (c.dense_rank.ensures (part c.args.frame (data_at (map datum_of c.args.rows.now) c.args.places.now)) c.args.op.now c.args.number)
+    (c.dense_rank_by.ensures (part c.args.frame (data_at (map datum_of c.args.rows.now) c.args.places.now)) c.args.op.now c.args.number)

@@ -8,6 +8,6 @@ use Rattle.plain_windows.proofs.cells.last_value.Goals as goal
 pub returns-then-frame : goal.returns-then-frame
 returns-then-frame c =
     let read : Datum → Cell = λ other. read_by c.args.op.now other.cell in
-    subst (λ v. IfOk c.read_by.result (λ cell. cell ≡ v))
+    subst (λ v. IfOk c.read_cell.result (λ cell. cell ≡ v))
     (ap read c.row_at.ensures.row
-    ∙ last_is (map datum_of c.args.rows.now) c.args.places.now c.args.frame c.requires.frame read c.if-frame.true) c.read_by.ensures
+    ∙ last_is (map datum_of c.args.rows.now) c.args.places.now c.args.frame c.requires.frame read c.if-frame.true) c.read_cell.ensures

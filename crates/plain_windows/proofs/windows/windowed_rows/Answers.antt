@@ -1,4 +1,5 @@
 use Rattle.std.proofs.Common.{◌≡◌, ◌∙◌, ap, sym, subst, map, get_or, Option, Err, Some, option_map}
+use Rattle.std.specs.List.{AllZip}
 use Rattle.cell_value.specs.declared.cell.Cell.{Cell}
 use Rattle.cell_value.specs.declared.state.Keyed.{Keyed}
 use Rattle.cell_value.specs.Datum.{datum_of}
@@ -7,11 +8,10 @@ use Rattle.expr_eval.proofs.Several.{stops_all, all_more}
 use Rattle.plain_rows.specs.Lookups.{with_cells}
 use Rattle.plain_rows.proofs.Keys.{small_id}
 use Rattle.plain_orders.specs.Partitions.{datum_at, data_at}
-use Rattle.plain_windows.specs.Frames.{are_peers}
 use Rattle.plain_windows.specs.Windows.{window_cells}
-use Rattle.plain_windows.specs.inner.Totals.{AreAllSmall}
-use Rattle.plain_windows.specs.inner.Views.{AreListed, counts, frame_rows, view_with, cells_by}
-use Rattle.plain_windows.proofs.WindowLemmas.{listed_in, counts_in, totals_in, small_in, cells_in}
+use Rattle.plain_windows.specs.inner.Aids.{IsAid}
+use Rattle.plain_windows.specs.inner.Views.{AreListed, frame_rows, view_with, cells_by}
+use Rattle.plain_windows.proofs.WindowLemmas.{listed_in, aids_in, cells_in}
 use Rattle.plain_windows.proofs.windows.windowed_rows.Goals as goal
 
 pub windowed_row-requires-clause-id : goal.windowed_row-requires-clause-id
@@ -20,18 +20,10 @@ windowed_row-requires-clause-id c =
 
 pub windowed_row-requires-clause-listed : goal.windowed_row-requires-clause-listed
 windowed_row-requires-clause-listed c =
-    listed_in c.args.w.now c.args.rows.now c.args.lists.now c.args.counted.now c.args.totals.now
+    listed_in c.args.w.now c.args.rows.now c.args.lists.now c.args.aids.now
     c.args.homes.now c.args.ranks.now c.requires.seen
     c.loop-at.at c.index-rows-at.result c.index-lists-home.result c.as_slice.result.now c.loop-at-test.true c.index-rows-at.is
     c.index-lists-home.is c.as_slice.ensures
-
-pub windowed_row-requires-clause-counted : goal.windowed_row-requires-clause-counted
-windowed_row-requires-clause-counted c =
-    c.as_slice-in-loop-at.ensures
-    ∙ counts_in c.args.w.now c.args.rows.now c.args.lists.now c.args.counted.now c.args.totals.now
-    c.args.homes.now c.args.ranks.now c.requires.seen
-    c.loop-at.at c.index-rows-at.result c.index-lists-home.result c.as_slice.result.now c.loop-at-test.true c.index-rows-at.is
-    c.index-lists-home.is c.as_slice.ensures c.index-counted-home.result c.index-counted-home.is
 
 pub returns-in-Err : goal.returns-in-Err
 returns-in-Err c =
@@ -41,7 +33,7 @@ returns-in-Err c =
     stops_all (λ (row : Keyed). option_map (with_cells row) (window_cells w seen (datum_of row))) c.args.rows.now c.loop-at.at row
     c.loop-at-test.true c.index-rows-at.is c.in-Err.error
     (subst (λ o. Evaluates {X = Keyed} (Err c.in-Err.error) (option_map (with_cells row) o))
-    (cells_in w c.args.rows.now c.args.lists.now c.args.counted.now c.args.totals.now c.args.homes.now c.args.ranks.now c.requires.seen
+    (cells_in w c.args.rows.now c.args.lists.now c.args.aids.now c.args.homes.now c.args.ranks.now c.requires.seen
     c.loop-at.at row c.index-lists-home.result c.as_slice.result.now c.loop-at-test.true c.index-rows-at.is
     c.index-lists-home.is c.as_slice.ensures) c.in-Err.ensures)
 
@@ -53,22 +45,16 @@ loop-at-preserved c =
     all_more (λ (row : Keyed). option_map (with_cells row) (window_cells w seen (datum_of row))) c.args.rows.now c.loop-at.at row
     c.loop-at.out c.in-Ok.copy c.loop-at-test.true c.index-rows-at.is c.loop-at.invariant
     (ap (option_map (with_cells row))
-    (sym (cells_in w c.args.rows.now c.args.lists.now c.args.counted.now c.args.totals.now c.args.homes.now c.args.ranks.now c.requires.seen
+    (sym (cells_in w c.args.rows.now c.args.lists.now c.args.aids.now c.args.homes.now c.args.ranks.now c.requires.seen
     c.loop-at.at row c.index-lists-home.result c.as_slice.result.now c.loop-at-test.true c.index-rows-at.is
     c.index-lists-home.is c.as_slice.ensures))
     ∙ c.in-Ok.ensures)
     ∙ ap Some (sym c.in_ok-push-in-Ok.ensures.ok)
 
-pub windowed_row-requires-clause-totals : goal.windowed_row-requires-clause-totals
-windowed_row-requires-clause-totals c =
-    c.as_slice-in-loop-at-2.ensures
-    ∙ totals_in c.args.w.now c.args.rows.now c.args.lists.now c.args.counted.now c.args.totals.now c.args.homes.now c.args.ranks.now
+pub windowed_row-requires-clause-aids : goal.windowed_row-requires-clause-aids
+windowed_row-requires-clause-aids c =
+    subst (AllZip (IsAid c.args.w.now.sort (data_at (map datum_of c.args.rows.now) c.as_slice.result.now)) c.args.w.now.ops)
+    (sym c.as_slice-in-loop-at.ensures)
+    (aids_in c.args.w.now c.args.rows.now c.args.lists.now c.args.aids.now c.args.homes.now c.args.ranks.now
     c.requires.seen c.loop-at.at c.index-rows-at.result c.index-lists-home.result c.as_slice.result.now c.loop-at-test.true
-    c.index-rows-at.is c.index-lists-home.is c.as_slice.ensures c.index-totals-home.result c.index-totals-home.is
-
-pub windowed_row-requires-clause-small : goal.windowed_row-requires-clause-small
-windowed_row-requires-clause-small c =
-    subst AreAllSmall (sym c.as_slice-in-loop-at-2.ensures)
-    (small_in c.args.w.now c.args.rows.now c.args.lists.now c.args.counted.now c.args.totals.now c.args.homes.now c.args.ranks.now
-    c.requires.seen c.loop-at.at c.index-rows-at.result c.index-lists-home.result c.as_slice.result.now c.loop-at-test.true
-    c.index-rows-at.is c.index-lists-home.is c.as_slice.ensures c.index-totals-home.result c.index-totals-home.is)
+    c.index-rows-at.is c.index-lists-home.is c.as_slice.ensures c.index-aids-home.result c.index-aids-home.is)

@@ -1,0 +1,4 @@
+mod LastLemmas
+mod HitLemmas
+mod ExtentLemmas
+mod SquareLemmas
