@@ -65,7 +65,9 @@ use Rattle.mark_encode.specs.declared.spans.Span.{Span}
 use Rattle.mark_encode.specs.Channels.{channel_values}
 use Rattle.mark_encode.specs.Values.{share_of_band, moved, shown}
 use Rattle.mark_encode.specs.Spans.{span_of}
-use Rattle.mark_encode.specs.Items.{rect_over, item_with, item_for, items_for}
+use Rattle.mark_encode.specs.Rects.{rect_over}
+use Rattle.mark_encode.specs.Orders.{rows_in_order}
+use Rattle.mark_encode.specs.Items.{item_with, item_for, items_for, items_over}
 use Rattle.vega_signals.specs.Parameters.{values_with}
 use Rattle.vega_signals.specs.Signals.{data_of, signal_values}
 use Rattle.vega_plots.specs.Sizes.{size_in, size_of, padding_round}
@@ -157,7 +159,7 @@ bar_look = record { fill = Some default_color; stroke = None; stroke_width = pos
 
 abbrev item_over : Key → Option (Option Span) → Option (Option Span) → Option (Option Item)
 item_over key across down =
-    (across >>= (λ x. down >>= (λ y. Some (rect_over x y)))) >>= (λ shape. Some (item_with 0 key shape (Some bar_look)))
+    (across >>= (λ x. down >>= (λ y. Some (rect_over x y)))) >>= (λ shape. Some (item_with 0 (Some key) shape (Some bar_look)))
 
 -- where a bar stands across, by what its place and its width show, and down, by its height and its base
 abbrev across_by : Option (Option ℤ) → Option (Option ℤ) → Option (Option Span)
@@ -192,7 +194,8 @@ no_params = values_with [] []
 module _ (form : FirstForm) (cells : List Cell) (n : ℕ) (few : length cells ≤ 1000) where
   abbrev item : Datum → Option (Option Item)
   item =
-      item_for mark.Rect 0 (channel_values (scales_over cells (plot_width (length cells)) (pos 0, pos n)) (Some (encode_of form))) no_params
+      item_for mark.Rect 0 (plot_width (length cells)) plot_height
+      (channel_values (scales_over cells (plot_width (length cells)) (pos 0, pos n)) (Some (encode_of form))) no_params
 
   item_shown : (d : Datum) → item d ≡ item_over d.key
       (across_by (result_ok (place_of (x_scale cells) (d.cell form.x)))
@@ -295,7 +298,7 @@ scene_in g top signals scope =
     size_of (values_with signals lengths) g.width >>= (λ width.
     size_of (values_with signals lengths) g.height >>= (λ height.
     scale_set (values_with signals []) scope width height (scales_in top) >>= (λ scales.
-    items_of_marks (values_with signals []) scope scales 0 (marks_in top) >>= (λ items.
+    items_of_marks (values_with signals []) scope scales width height 0 (marks_in top) >>= (λ items.
     guided_scene top scales (padding_round g.padding) width height (first_unit (marks_in top)) items)))))
 
 -- the scene of an object over sources
@@ -322,13 +325,13 @@ module _ (form : FirstForm) where
   abbrev with_items : ScaleSet → ℤ → Option (List Item) → Option Scene
   with_items scales width items = (items >>= (λ own. Some (own ++ []))) >>= guided scales width
 
-  abbrev items_over : List Datum → ScaleSet → Option (List Item)
-  items_over rows scales = items_for mark.Rect 0 (channel_values scales (Some (encode_of form))) no_params rows
+  abbrev bars_over : List Datum → ℤ → ScaleSet → Option (List Item)
+  bars_over rows width scales = items_for mark.Rect 0 width plot_height (channel_values scales (Some (encode_of form))) no_params rows
 
   abbrev with_width : List Datum → ℤ → Option Scene
   with_width rows width =
       scale_set no_params (λ name. rows) width plot_height (x_scale_of form ∷ y_scale_of form ∷ []) >>= (λ scales.
-      with_items scales width (items_over rows scales))
+      with_items scales width (bars_over rows width scales))
 
   abbrev rows_scene : List Datum → Option Scene
   rows_scene rows = size_of (values_with [] (lengths rows)) (Some (size.Signal width_expr)) >>= with_width rows
@@ -337,8 +340,9 @@ module _ (form : FirstForm) where
   scene_opened scope = λ i.
       size_of (values_with [] (lengths (scope form.name))) (Some (size.Signal width_expr)) >>= (λ width.
       scale_set no_params scope width plot_height (x_scale_of form ∷ y_scale_of form ∷ []) >>= (λ scales.
-      with_items scales width (items_for (opened_mark form i).type_ 0 (channel_values scales (opened_mark form i).encode) no_params
-      (rows_from scope (opened_mark form i).from))))
+      with_items scales width (items_over (opened_mark form i).type_ 0 width plot_height
+      (channel_values scales (opened_mark form i).encode) no_params
+      (rows_in_order (opened_mark form i).sort (rows_from scope (opened_mark form i).from)))))
 
   -- the name stands for the rows of the one source
   abbrev rows_where : Bool → List Datum → List Datum
@@ -359,13 +363,14 @@ module _ (form : FirstForm) where
 
   scales_known : (rows : List Datum) (width : ℤ) (d : ℤ × ℤ)
       → nice_of 10 (with_zero (extent_of (numbers_among (cells_under form.y rows)))) ≡ Some d
-      → with_width rows width ≡ with_items (scales_over (cells_along rows) width d) width (items_over rows (scales_over (cells_along rows) width d))
+      → with_width rows width ≡ with_items (scales_over (cells_along rows) width d) width
+      (bars_over rows width (scales_over (cells_along rows) width d))
   scales_known rows width d e =
       ap (λ o. option_map (λ made. record { scales = made }) (all_found (
       Some (record { panel = None; name = codes "x"; scale = Band (cells_along rows) inner_padding outer_padding (pos 0) width })
       ∷ option_map (λ made. record { panel = None; name = codes "y"; scale = made })
       (option_map (over_numbers (y_scale_of form) (plot_height, pos 0)) o) ∷ []))
-      >>= (λ scales. with_items scales width (items_over rows scales))) e
+      >>= (λ scales. with_items scales width (bars_over rows width scales))) e
 
   items_known : (cells : List Cell) (n : ℕ) (few : length cells ≤ 1000) → form.x ≢ form.y → (vs : List (ℕ × Value))
       → All (IsBar cells n) (map (reading_of form.x form.y) vs)
@@ -432,7 +437,7 @@ same_scene form drawable =
     ap (λ o. o >>= with_width form rows) wide
     ∙ scales_known form rows (plot_width (length cells)) (pos 0, pos known.end) nice
     ∙ ap (λ c. with_items form (scales_over c (plot_width (length cells)) (pos 0, pos known.end)) (plot_width (length cells))
-    (items_over form rows (scales_over c (plot_width (length cells)) (pos 0, pos known.end)))) along
+    (bars_over form rows (plot_width (length cells)) (scales_over c (plot_width (length cells)) (pos 0, pos known.end)))) along
     ∙ ap (λ bars. with_items form scales (plot_width (length cells)) (option_map (filter_map (λ found. found)) (all_found bars)))
     (items_known form cells known.end known.few drawable.apart vs known.bars)
     ∙ kept (filter_map (λ found. found)) (guided form scales (plot_width (length cells)))

@@ -1,3 +1,7 @@
 mod HalfLemmas
 mod ItemLemmas
-mod RectLemmas
+mod RowLemmas
+mod RunLemmas
+mod PathLemmas
+mod ShapeLemmas
+mod TextLemmas

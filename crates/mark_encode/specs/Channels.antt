@@ -1,5 +1,5 @@
 -- What a mark encodes in its channels.
-use Rattle.std.specs.Prelude.{ℕ, Bool, true, false, Option, Some, None, List, [], ◌∷◌, map, find}
+use Rattle.std.specs.Prelude.{ℕ, Option, List, [], ◌∷◌, map, find}
 use Rattle.std.specs.Option.{option_map, option_map_or, option_or}
 use Rattle.std.specs.Str.{bytes_eq}
 use Rattle.fixed_num.specs.Ranges.{◌>>=◌}
@@ -28,6 +28,14 @@ channel_named name.Fill set = set.fill
 channel_named name.Stroke set = set.stroke
 channel_named name.StrokeWidth set = set.stroke_width
 channel_named name.Opacity set = set.opacity
+channel_named name.Size set = set.size
+channel_named name.Shape set = set.shape
+channel_named name.Text set = set.text
+channel_named name.Align set = set.align
+channel_named name.Baseline set = set.baseline
+channel_named name.Dx set = set.dx
+channel_named name.Dy set = set.dy
+channel_named name.FontSize set = set.font_size
 
 -- the channel of a name in one of the encode sets, if that is there
 abbrev pub channel_in : ChannelName → Option Channels → Option Channel

@@ -1,5 +1,14 @@
 pub mod Channels
 pub mod Values
 pub mod Spans
+pub mod Places
+pub mod Looks
+pub mod Rects
+pub mod Symbols
+pub mod Rules
+pub mod Texts
+pub mod Orders
+pub mod Runs
+pub mod Paths
 pub mod Items
 pub mod inner

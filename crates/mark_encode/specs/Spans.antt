@@ -1,5 +1,5 @@
 -- Where marks stand along x or y. An outer None stands for a number out of range, an inner one for a place that is lacking.
-use Rattle.std.specs.Prelude.{◌≡◌, refl, ℕ, Bool, true, false, ℤ, pos, negsuc, ◌+ℤ◌, ◌-ℤ◌, ◌*◌, unsigned_abs, Option, Some, None, List}
+use Rattle.std.specs.Prelude.{◌≡◌, refl, true, false, ℤ, pos, negsuc, ◌-ℤ◌, ◌*◌, unsigned_abs, Option, Some, None, List}
 use Rattle.std.specs.Option.{option_map}
 use Rattle.std.specs.Int.{int_min}
 use Rattle.fixed_num.specs.Number.{million, limit, rounded, floor_quotient}

@@ -149,27 +149,27 @@ color_shown cells values vs = first_met cells values vs >>= shown_by (color_for 
 -- The rules at work, in millionths.
 
 -- a value without members
-abbrev bare : ChannelValue
+abbrev pub bare : ChannelValue
 bare = record { value = None; field = None; scale = None; band = None; offset = None; signal = None; test = None; format = None }
 
 -- a row with 28 as its amount, and null under each other name
-abbrev amount_of_28 : CellAt
+abbrev pub amount_of_28 : CellAt
 amount_of_28 n = if bytes_eq n (codes "amount") then Number (pos (28 * million)) else Null
 
 -- 0 to 55 over 200 pixels down to 0, and two bands over 40 pixels
-abbrev amounts : Scale
+abbrev pub amounts : Scale
 amounts = Linear (pos 0) (pos (55 * million)) (pos (200 * million)) (pos 0)
 
 abbrev two_bands : Scale
 two_bands = Band (Text (codes "A") ∷ Text (codes "B") ∷ []) (pos 100000) (pos 50000) (pos 0) (pos (40 * million))
 
-abbrev the_amount : ChannelValue
+abbrev pub the_amount : ChannelValue
 the_amount = record bare { field = Some (codes "amount") }
 
 abbrev a_null : ChannelValue
 a_null = record bare { value = Some Null }
 
-abbrev on : Option Scale → ChannelValue → ScaledValue
+abbrev pub on : Option Scale → ChannelValue → ScaledValue
 on s v = record { value = v; scale = s }
 
 the_place_of_the_amount : number_for false amount_of_28 no_values (on (Some amounts) the_amount) ≡ Some (Some (pos 98181818))

@@ -1,3 +1,6 @@
 -- Words that only private contracts and proofs cite.
 pub mod Scaled
-pub mod Rects
+pub mod Shapes
+pub mod Begun
+pub mod Firsts
+pub mod PathParts

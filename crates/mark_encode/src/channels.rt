@@ -25,6 +25,14 @@ pub enum ChannelName {
     Stroke,
     StrokeWidth,
     Opacity,
+    Size,
+    Shape,
+    Text,
+    Align,
+    Baseline,
+    Dx,
+    Dy,
+    FontSize,
 }
 
 /// A value of a channel with the scale that it names.
@@ -51,6 +59,14 @@ fn channel_named(name: ChannelName, set: &Channels) -> Option<&Channel>
         ChannelName::Stroke => set.stroke.as_ref(),
         ChannelName::StrokeWidth => set.stroke_width.as_ref(),
         ChannelName::Opacity => set.opacity.as_ref(),
+        ChannelName::Size => set.size.as_ref(),
+        ChannelName::Shape => set.shape.as_ref(),
+        ChannelName::Text => set.text.as_ref(),
+        ChannelName::Align => set.align.as_ref(),
+        ChannelName::Baseline => set.baseline.as_ref(),
+        ChannelName::Dx => set.dx.as_ref(),
+        ChannelName::Dy => set.dy.as_ref(),
+        ChannelName::FontSize => set.font_size.as_ref(),
     }
 }
 

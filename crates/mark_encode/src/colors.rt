@@ -16,8 +16,8 @@ use scale_kit::Indexed;
 use std::alloc::Global;
 use text_kit::{OutOfMemory, Text};
 
-// The colour on a scale; so much of a band is none.
-fn color_on(
+/// The colour on a scale; so much of a band is none.
+pub fn color_on(
     alloc: Global,
     s: &Indexed,
     cell: &Option<Cell>,

@@ -6,8 +6,17 @@ mod colors;
 mod items;
 mod looks;
 mod numbers;
+mod orders;
+mod paths;
+mod places;
+mod rects;
+mod rules;
+mod runs;
+mod shapes;
 mod shown;
 mod spans;
+mod symbols;
+mod texts;
 mod values;
 
 pub use items::items_of;

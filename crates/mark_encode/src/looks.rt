@@ -1,22 +1,25 @@
 // How items are painted.
-ghost use Rattle.std.specs.Prelude.{◌≡◌, ◌≤◌, ◌*◌, pos};
+ghost use Rattle.std.specs.Prelude.{◌≡◌, ◌≤◌, ◌*◌, pos, IfOk};
 ghost use Rattle.fixed_num.specs.Number.{million};
 ghost use Rattle.cell_value.specs.Datum.{cell_at};
 ghost use Rattle.cell_value.specs.State.{greatest_id};
 ghost use Rattle.expr_eval.specs.Answers.{Evaluates};
-ghost use Rattle.mark_encode.specs.Items.{color_or_none, default_stroke_width, look_of, look_for};
-ghost use Rattle.mark_encode.specs.inner.Rects.{look_values};
+ghost use Rattle.scale_kit.specs.Scale.{AreScales};
+ghost use Rattle.mark_encode.specs.Channels.{channel_values};
+ghost use Rattle.mark_encode.specs.Looks.{color_or_none, default_stroke_width, look_of, look_for, looks_of};
+ghost use Rattle.mark_encode.specs.inner.Scaled.{look_values};
 
-use crate::channels::Scaled;
+use crate::channels::{ChannelName, Scaled, channel_values};
 use crate::colors::color_shown;
 use crate::numbers::number_shown;
 use crate::shown::{Shown, or_default};
 use cell_value::Keyed;
 use expr_eval::{EvalError, ParamReader};
 use fixed_num::Num;
+use scale_kit::ScaleSet;
 use std::alloc::Global;
-use text_kit::{Seq, Text};
-use vega_spec::MarkType;
+use text_kit::{OutOfMemory, Seq, Text};
+use vega_spec::{Encode, MarkType};
 
 /// How an item is painted.
 #[derive(Debug, Drop)]
@@ -40,8 +43,25 @@ pub struct LookChannels<'a> {
     pub opacity: Seq<Scaled<'a>>,
 }
 
-// So many pixels.
-fn pixels(n: u8) -> Num
+/// The values in the channels that say how items are painted.
+pub fn looks_of<'a>(
+    alloc: Global,
+    set: &'a ScaleSet,
+    sets: &'a Option<Encode>,
+) -> Result<LookChannels<'a>, OutOfMemory>
+    requires { AreScales set.now }
+    ensures { IfOk result (λ looks. look_values looks ≡ looks_of (channel_values set.now sets.now)) }
+{
+    Ok(LookChannels {
+        fill: channel_values(alloc, set, sets, ChannelName::Fill)?,
+        stroke: channel_values(alloc, set, sets, ChannelName::Stroke)?,
+        stroke_width: channel_values(alloc, set, sets, ChannelName::StrokeWidth)?,
+        opacity: channel_values(alloc, set, sets, ChannelName::Opacity)?,
+    })
+}
+
+/// So many pixels.
+pub fn pixels(n: u8) -> Num
     ensures { result ≡ pos (n * million) }
 {
     match Num::of_millionths(i128::from(n) * 1_000_000) {
@@ -76,8 +96,8 @@ fn color_or_none(color: Shown<Text>) -> Option<Option<Text>>
     }
 }
 
-// How an item is painted; None where a colour or a number lacks.
-fn look_of(
+/// How an item is painted, by what its channels show; None where a colour or a number lacks.
+pub fn look_of(
     default: u8,
     fill: Shown<Text>,
     stroke: Shown<Text>,

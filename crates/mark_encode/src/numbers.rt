@@ -28,17 +28,17 @@ fn reached(millionths: i128) -> Option<Num>
     Num::of_millionths(millionths)
 }
 
-// The sum; None exactly where it is out of range.
+/// The sum; None exactly where it is out of range.
 #[tactic(auto, using(fixed_num::proofs::RangeLemmas::in_range_from_exact))]
-fn sum_of(a: Num, b: Num) -> Option<Num>
+pub fn sum_of(a: Num, b: Num) -> Option<Num>
     ensures { result ≡ in_range (a +ℤ b) }
 {
     a.add(b)
 }
 
-// So many times a width; None exactly where it is out of range.
+/// So many times a width; None exactly where it is out of range.
 #[tactic(auto, using(fixed_num::proofs::RangeLemmas::in_range_from_exact))]
-fn times(share: Num, width: Num) -> Option<Num>
+pub fn times(share: Num, width: Num) -> Option<Num>
     ensures { result ≡ in_range (rounded (share *ℤ width) million) }
 {
     share.mul(width)
@@ -194,8 +194,8 @@ fn moved(offset: Option<Num>, number: Option<Num>) -> Option<Option<Num>>
     }
 }
 
-// The number of a value with this cell, moved by its offset.
-fn number_by(far: bool, scaled: &Scaled, cell: &Option<Cell>) -> Option<Option<Num>>
+/// The number of a value with this cell, moved by its offset.
+pub fn number_by(far: bool, scaled: &Scaled, cell: &Option<Cell>) -> Option<Option<Num>>
     ensures { result ≡ number_by far (scaled_of scaled.now) cell.now }
 {
     let number = number_at(far, &scaled.scale, scaled.value, cell)?;

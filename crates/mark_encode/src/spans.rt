@@ -51,16 +51,16 @@ fn distance(a: Num, b: Num) -> Option<Num>
     Num::of_millionths((b.millionths() - a.millionths()).abs())
 }
 
-// The difference; None exactly where it is out of range.
+/// The difference; None exactly where it is out of range.
 #[tactic(auto, using(fixed_num::proofs::RangeLemmas::in_range_from_exact))]
-fn difference(a: Num, b: Num) -> Option<Num>
+pub fn difference(a: Num, b: Num) -> Option<Num>
     ensures { result ≡ in_range (a -ℤ b) }
 {
     a.sub(b)
 }
 
-// The half, rounded to the nearest; None exactly where it is out of range.
-fn half(size: Num) -> Option<Num>
+/// The half, rounded to the nearest; None exactly where it is out of range.
+pub fn half(size: Num) -> Option<Num>
     ensures { result ≡ in_range (rounded size 2) }
 {
     zero().along(size.millionths(), 1, 2)

@@ -1,7 +1,7 @@
 -- Scales of tests.
-use Rattle.std.proofs.Common.{◌≡◌, ◌≢◌, ℤ, pos, ◌≤ℤ◌, List, [], ◌∷◌, All, arith}
+use Rattle.std.proofs.Common.{◌≡◌, ◌≢◌, ℤ, pos, ◌≤ℤ◌, List, [], ◌∷◌, ◌++◌, All, arith, subst, sym}
 use Rattle.std.proofs.lemmas.Int.{ints}
-use Rattle.std.proofs.lemmas.List.Elements.{All-cons, All-nil}
+use Rattle.std.proofs.lemmas.List.Elements.{All-cons, All-nil, All-append}
 use Rattle.cell_value.specs.declared.cell.Cell.{Cell}
 use Rattle.scale_kit.specs.declared.scale.Scale.TheVariants.{Linear, Band, Ordinal}
 use Rattle.scale_kit.specs.declared.scale.ScaleIn.{ScaleIn}
@@ -24,11 +24,11 @@ bands_are domain i o c d p q r s =
     let range : IsRange (c, d) = (from, to) in
     (inner, outer, range)
 
-pub colors_are : (domain range : List Cell) → range ≢ [] → IsScale (Ordinal domain range)
-colors_are domain range some none = absurd (some none)
+pub lists_are : (domain range : List Cell) → range ≢ [] → IsScale (Ordinal domain range)
+lists_are domain range some none = absurd (some none)
 
-pub three_scales : (a b c : ScaleIn) → IsScale a.scale → IsScale b.scale → IsScale c.scale
-    → All (λ (s : ScaleIn). IsScale s.scale) (a ∷ b ∷ c ∷ [])
-three_scales a b c p q r =
+pub one_scale_more : (scales grown : List ScaleIn) (s : ScaleIn) → All (λ (s : ScaleIn). IsScale s.scale) scales → IsScale s.scale
+    → grown ≡ scales ++ (s ∷ []) → All (λ (s : ScaleIn). IsScale s.scale) grown
+one_scale_more scales grown s old this is =
     let P : ScaleIn → Type 0 = λ s. IsScale s.scale in
-    All-cons P a (b ∷ c ∷ []) p (All-cons P b (c ∷ []) q (All-cons P c [] r (All-nil P)))
+    subst (All P) (sym is) (All-append P scales (s ∷ []) old (All-cons P s [] this (All-nil P)))

@@ -1,18 +1,14 @@
-// Marks, scales and rows from words.
-ghost use Rattle.std.specs.Prelude.{◌≡◌, ◌≢◌, [], pos, IfOk, IsTrue, All};
-ghost use Rattle.scale_kit.specs.declared.scale.ScaleIn.{ScaleIn as NamedScale};
-ghost use Rattle.plain_rows.specs.Rows.{AreRows};
-ghost use Rattle.scale_kit.specs.Scale.{AreScales, IsScale};
-ghost use Rattle.mark_encode.specs.Items.{is_built};
-
-use cell_value::{Cell, Key, Keyed, Row, Rows};
+// Marks from words.
+use cell_value::Cell;
 use expr_eval::EvalError;
 use expr_syntax::{ExprError, read};
 use fixed_num::Num;
-use scale_kit::{Scale, ScaleIn, ScaleSet};
 use std::alloc::Global;
 use text_kit::{OutOfMemory, Seq, Text};
-use vega_spec::{Channel, ChannelValue, Channels, Encode, Group, MarkFrom, MarkType, VgMark};
+use vega_spec::{
+    Channel, ChannelValue, Channels, Encode, Group, MarkFrom, MarkType, Order, Orders, Sort, Texts,
+    VgMark,
+};
 
 /// Why words have no answer.
 pub enum Stop {
@@ -45,14 +41,11 @@ impl From<ExprError> for Stop {
     }
 }
 
-// A number from a count of thousandths.
+// The number of a decimal.
 fn number(word: &str) -> Result<Num, Stop> {
-    let Some(count) = word.parse::<i64>().ok() else {
-        return Err(Stop::Shape);
-    };
-    match Num::of_millionths(i128::from(count) * 1_000) {
-        Some(number) => Ok(number),
-        None => Err(Stop::Shape),
+    match Num::read_decimal(word.as_bytes()) {
+        Ok(number) => Ok(number),
+        Err(_) => Err(Stop::Shape),
     }
 }
 
@@ -86,6 +79,7 @@ fn put_member(
         "o" => value.offset = Some(number(word)?),
         "g" => value.signal = Some(read(alloc, word)?),
         "if" => value.test = Some(read(alloc, word)?),
+        "F" => value.format = Some(Text::of(alloc, word)?),
         _ => return Err(Stop::Shape),
     }
     Ok(())
@@ -156,6 +150,13 @@ fn put_channel(set: &mut Channels, name: &str, channel: Channel) -> Result<(), S
         "strokeWidth" => set.stroke_width = Some(channel),
         "opacity" => set.opacity = Some(channel),
         "size" => set.size = Some(channel),
+        "shape" => set.shape = Some(channel),
+        "text" => set.text = Some(channel),
+        "align" => set.align = Some(channel),
+        "baseline" => set.baseline = Some(channel),
+        "dx" => set.dx = Some(channel),
+        "dy" => set.dy = Some(channel),
+        "fontSize" => set.font_size = Some(channel),
         _ => return Err(Stop::Shape),
     }
     Ok(())
@@ -189,140 +190,65 @@ fn no_group() -> Group {
     }
 }
 
-/// A rect with the encode sets of these words.
-pub fn rect_of(alloc: Global, enter: &str, update: &str) -> Result<VgMark, Stop>
-    ensures { IfOk result (λ mark. IsTrue (is_built mark)) }
-{
+// The type of a mark.
+fn type_of(word: &str) -> Option<MarkType> {
+    match word {
+        "rect" => Some(MarkType::Rect),
+        "symbol" => Some(MarkType::Symbol),
+        "line" => Some(MarkType::Line),
+        "area" => Some(MarkType::Area),
+        "rule" => Some(MarkType::Rule),
+        "text" => Some(MarkType::Text),
+        "group" => Some(MarkType::Group),
+        _ => None,
+    }
+}
+
+// A sort by fields with blanks between them, each with `-` before it where it falls.
+fn sort_of(alloc: Global, words: &str) -> Result<Option<Sort>, OutOfMemory> {
+    if words.is_empty() {
+        return Ok(None);
+    }
+    let mut fields = Seq::new(alloc);
+    let mut orders = Seq::new(alloc);
+    for word in words.split(' ') {
+        match word.strip_prefix("-") {
+            Some(field) => {
+                fields.push(Text::of(alloc, field)?)?;
+                orders.push(Order::Descending)?;
+            }
+            None => {
+                fields.push(Text::of(alloc, word)?)?;
+                orders.push(Order::Ascending)?;
+            }
+        }
+    }
+    Ok(Some(Sort {
+        field: Texts::Several(fields),
+        order: Some(Orders::Several(orders)),
+    }))
+}
+
+/// A mark of a type with the encode sets and the sort of these words.
+pub fn mark_of(
+    alloc: Global,
+    type_: &str,
+    enter: &str,
+    update: &str,
+    sort: &str,
+) -> Result<VgMark, Stop> {
     let enter = set_of(alloc, enter)?;
     let update = set_of(alloc, update)?;
+    let sort = sort_of(alloc, sort)?;
+    let Some(type_) = type_of(type_) else {
+        return Err(Stop::Shape);
+    };
     Ok(VgMark {
-        type_: MarkType::Rect,
+        type_,
         name: None,
         from: Some(MarkFrom::Data(Text::of(alloc, "rows")?)),
         encode: Some(Encode { enter, update }),
-        sort: None,
+        sort,
         group: no_group(),
     })
-}
-
-/// A count of millionths as a number.
-pub fn count(millionths: u32) -> Num
-    ensures { result ≡ pos millionths }
-{
-    match Num::of_millionths(i128::from(millionths)) {
-        Some(number) => number,
-        None => unreachable!(),
-    }
-}
-
-fn named(alloc: Global, name: &str, scale: Scale) -> Result<ScaleIn, OutOfMemory>
-    ensures { IfOk result (λ named. named.scale ≡ scale) }
-{
-    Ok(ScaleIn {
-        panel: None,
-        name: Text::of(alloc, name)?,
-        scale,
-    })
-}
-
-fn text(alloc: Global, word: &str) -> Result<Seq<Cell>, OutOfMemory>
-    ensures { IfOk result (λ cells. cells ≢ []) }
-{
-    let mut cells = Seq::new(alloc);
-    cells.push(Cell::Text(Text::of(alloc, word)?))?;
-    Ok(cells)
-}
-
-#[tactic(auto, using(crate::proofs::TestScales::linear_is))]
-fn amounts() -> Scale
-    ensures { IsScale result }
-{
-    Scale::Linear {
-        d0: count(0),
-        d1: count(55_000_000),
-        r0: count(200_000_000),
-        r1: count(0),
-    }
-}
-
-#[tactic(auto, using(crate::proofs::TestScales::bands_are))]
-fn bands(alloc: Global) -> Result<Scale, OutOfMemory>
-    ensures { IfOk result IsScale }
-{
-    let mut domain = text(alloc, "A")?;
-    domain.push(Cell::Text(Text::of(alloc, "B")?))?;
-    Ok(Scale::Band {
-        domain,
-        inner: count(100_000),
-        outer: count(50_000),
-        r0: count(0),
-        r1: count(40_000_000),
-    })
-}
-
-#[tactic(auto, using(crate::proofs::TestScales::colors_are))]
-fn colors(alloc: Global) -> Result<Scale, OutOfMemory>
-    ensures { IfOk result IsScale }
-{
-    Ok(Scale::Ordinal {
-        domain: text(alloc, "A")?,
-        range: text(alloc, "red")?,
-    })
-}
-
-#[tactic(auto, using(crate::proofs::TestScales::three_scales))]
-fn three_scales(
-    alloc: Global,
-    amounts: Scale,
-    bands: Scale,
-    colors: Scale,
-) -> Result<Seq<ScaleIn>, OutOfMemory>
-    requires amounts { IsScale amounts }
-    requires bands { IsScale bands }
-    requires colors { IsScale colors }
-    ensures { IfOk result (All (λ (s : NamedScale). IsScale s.scale)) }
-{
-    let amounts = named(alloc, "y", amounts)?;
-    let bands = named(alloc, "x", bands)?;
-    let colors = named(alloc, "color", colors)?;
-    let mut scales = Seq::new(alloc);
-    scales.push(amounts)?;
-    scales.push(bands)?;
-    scales.push(colors)?;
-    Ok(scales)
-}
-
-/// `y` lays 0 to 55 over 200 pixels down to 0, `x` has bands for A and B over 40 pixels, and `color` has red for A alone.
-pub fn scales(alloc: Global) -> Result<ScaleSet, OutOfMemory>
-    ensures { IfOk result AreScales }
-{
-    let bands = bands(alloc)?;
-    let colors = colors(alloc)?;
-    let scales = three_scales(alloc, amounts(), bands, colors)?;
-    Ok(ScaleSet { scales })
-}
-
-fn row(alloc: Global, id: u64, a: &str, amount: Cell) -> Result<Keyed, OutOfMemory>
-    ensures { IfOk result (λ keyed. keyed.key ≡ record { id = id; branch = 0 }) }
-{
-    let mut row = Row::new(alloc);
-    row.set(Text::of(alloc, "a")?, Cell::Text(Text::of(alloc, a)?))?;
-    row.set(Text::of(alloc, "amount")?, amount)?;
-    Ok(Keyed {
-        key: Key { id, branch: 0 },
-        row,
-    })
-}
-
-/// A with 28, B with 55, and C with a text.
-#[tactic(auto, using(crate::proofs::TestRows::three_are_rows))]
-pub fn rows(alloc: Global) -> Result<Rows, OutOfMemory>
-    ensures { IfOk result AreRows }
-{
-    let third = Cell::Text(Text::of(alloc, "none")?);
-    let mut rows = Seq::new(alloc);
-    rows.push(row(alloc, 1, "A", Cell::Number(count(28_000_000)))?)?;
-    rows.push(row(alloc, 2, "B", Cell::Number(count(55_000_000)))?)?;
-    rows.push(row(alloc, 3, "C", third)?)?;
-    Ok(rows)
 }

@@ -56,16 +56,17 @@ rows_from scope None = []
 rows_from scope (Some (Data name)) = scope name
 rows_from scope (Some (Facet facet)) = []
 
--- the items of a mark of this number
-abbrev pub items_of_mark : Values → Scope → ScaleSet → ℕ → VgMark → Option (List Item)
-items_of_mark values scope scales unit mark = items_of mark unit scales values (rows_from scope (out-VgMark mark).from)
+-- the items of a mark of this number in a plot of this width and height
+abbrev pub items_of_mark : Values → Scope → ScaleSet → ℤ → ℤ → ℕ → VgMark → Option (List Item)
+items_of_mark values scope scales width height unit mark =
+    items_of mark unit scales width height values (rows_from scope (out-VgMark mark).from)
 
 -- the items of marks that are numbered from this number on, in their order; None where one overflows
-abbrev pub items_of_marks : Values → Scope → ScaleSet → ℕ → List VgMark → Option (List Item)
-items_of_marks values scope scales unit [] = Some []
-items_of_marks values scope scales unit (mark ∷ marks) = do
-  own ← items_of_mark values scope scales unit mark
-  others ← items_of_marks values scope scales (suc unit) marks
+abbrev pub items_of_marks : Values → Scope → ScaleSet → ℤ → ℤ → ℕ → List VgMark → Option (List Item)
+items_of_marks values scope scales width height unit [] = Some []
+items_of_marks values scope scales width height unit (mark ∷ marks) = do
+  own ← items_of_mark values scope scales width height unit mark
+  others ← items_of_marks values scope scales width height (suc unit) marks
   Some (own ++ others)
 
 -- the least number of the marks of a plot, if it has one
@@ -81,7 +82,7 @@ scene_over g signals scope = do
   width ← size_of (values_with signals lengths) g.width
   height ← size_of (values_with signals lengths) g.height
   scales ← scale_set (values_with signals []) scope width height (scales_in (out-Group g.group))
-  items ← items_of_marks (values_with signals []) scope scales 0 (marks_in (out-Group g.group))
+  items ← items_of_marks (values_with signals []) scope scales width height 0 (marks_in (out-Group g.group))
   scene_of (out-Group g.group) scales (padding_round g.padding) width height (first_unit (marks_in (out-Group g.group))) items
 
 -- a plot whose signals have these values, over sources of rows

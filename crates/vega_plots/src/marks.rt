@@ -1,10 +1,8 @@
 // The items of the marks of a plot.
-ghost use Rattle.std.specs.Prelude.{◌≡◌, ◌<◌, ◌^◌, IsTrue, length, option_copied};
-ghost use Rattle.std.specs.List.{All};
+ghost use Rattle.std.specs.Prelude.{◌≡◌, ◌<◌, ◌^◌, length, option_copied};
 ghost use Rattle.expr_eval.specs.Answers.{Evaluates};
 ghost use Rattle.scale_kit.specs.Scale.{IsPixel, AreScales};
 ghost use Rattle.vega_lists.specs.Held.{scope_in, AreLists};
-ghost use Rattle.mark_encode.specs.Items.{is_built};
 ghost use Rattle.vega_plots.specs.Plots.{items_of_mark, items_of_marks};
 ghost use Rattle.vega_plots.specs.inner.Found.{rows_found_from};
 
@@ -45,11 +43,11 @@ fn items_of_mark<P: ParamReader>(
     params: &P,
 ) -> Result<Seq<Item>, EvalError>
     requires lists { AreLists sources.now lists.now }
-    requires built { IsTrue (is_built mark.now) }
     requires scales { AreScales scales.now }
     requires width { IsPixel size.now.0 }
     requires height { IsPixel size.now.1 }
-    ensures { Evaluates result (items_of_mark (P.values params.now) (scope_in sources.now lists.now) scales.now unit mark.now) }
+    ensures { Evaluates result (items_of_mark (P.values params.now) (scope_in sources.now lists.now) scales.now size.now.0 size.now.1 unit
+        mark.now) }
 {
     match rows_from(sources, lists, &mark.from) {
         Some(rows) => items_of(alloc, mark, unit, rows, scales, size.0, size.1, params),
@@ -78,11 +76,11 @@ pub(crate) fn items_of_marks<P: ParamReader>(
 ) -> Result<Seq<Item>, EvalError>
     requires few { length marks.now < 2 ^ 32 }
     requires lists { AreLists sources.now lists.now }
-    requires built { All (λ m. IsTrue (is_built m)) marks.now }
     requires scales { AreScales scales.now }
     requires width { IsPixel size.now.0 }
     requires height { IsPixel size.now.1 }
-    ensures { Evaluates result (items_of_marks (P.values params.now) (scope_in sources.now lists.now) scales.now 0 marks.now) }
+    ensures { Evaluates result (items_of_marks (P.values params.now) (scope_in sources.now lists.now) scales.now size.now.0 size.now.1 0
+        marks.now) }
 {
     let mut all = Seq::new(alloc);
     for (unit, mark) in marks.iter().enumerate() {

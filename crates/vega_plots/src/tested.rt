@@ -178,13 +178,27 @@ fn is_scale(scale: &Scale) -> bool
         && has_places(scale)
 }
 
+// A type of marks has a meaning.
+fn is_mark_type(type_: MarkType) -> bool
+    ensures { result ≡ items.is_built_type type_ }
+{
+    match type_ {
+        MarkType::Rect => true,
+        MarkType::Symbol => true,
+        MarkType::Line => true,
+        MarkType::Area => true,
+        MarkType::Rule => true,
+        MarkType::Text => true,
+        MarkType::Group => false,
+    }
+}
+
 // A mark has a meaning.
 fn is_mark(mark: &VgMark) -> bool
     ensures { result ≡ items.is_built mark.now }
 {
-    let is_rect = mark.type_ == MarkType::Rect;
     let is_from_data = matches!(mark.from, Some(MarkFrom::Data(_)));
-    is_rect && is_from_data && mark.sort.is_none()
+    is_mark_type(mark.type_) && is_from_data
 }
 
 // Each mark has a meaning.

@@ -1,4 +1,4 @@
-//! Vega specifications with groups, bins, stacks, windows and signals.
+//! Vega specifications with groups, bins, stacks, windows, signals, lines and symbols.
 use super::scripts::PICTURE;
 use super::vega::{THREE_ROWS, TWO_BARS, run_over, vega_of};
 use std::test::Fail;
@@ -215,6 +215,50 @@ const HISTOGRAM_BARS: &str =
 </svg>
 ";
 
+// A line over rows of which one has no place.
+const GAP: &str = concat!(
+    "{\"$schema\":\"https://vega.github.io/schema/vega/v5.json\",\"width\":200,\"height\":200,\"padding\":5,\"data\":[",
+    "{\"name\":\"t\",\"values\":[{\"x\":0,\"y\":0},{\"x\":1,\"y\":2},{\"x\":2,\"y\":null},{\"x\":3,\"y\":4}]}],",
+    "\"scales\":[{\"name\":\"x\",\"type\":\"linear\",\"domain\":{\"data\":\"t\",\"field\":\"x\"},\"nice\":true,\"range\":\"width\"},",
+    "{\"name\":\"y\",\"type\":\"linear\",\"domain\":{\"data\":\"t\",\"field\":\"y\"},\"zero\":true,\"nice\":true,\"range\":\"height\"}],",
+    "\"marks\":[{\"type\":\"line\",\"from\":{\"data\":\"t\"},\"sort\":{\"field\":\"x\"},\"encode\":{\"update\":{",
+    "\"x\":{\"scale\":\"x\",\"field\":\"x\"},\"y\":{\"scale\":\"y\",\"field\":\"y\"},\"stroke\":{\"value\":\"#4c78a8\"}}}}]}",
+);
+
+const BROKEN_LINE: &str =
+    "<svg xmlns=\"http://www.w3.org/2000/svg\" version=\"1.1\" width=\"210\" height=\"210\" viewBox=\"0 0 210 210\">
+<g transform=\"translate(5,5)\">
+<path d=\"M0,200 L66.666667,100 M200,0\" fill=\"none\" stroke=\"#4c78a8\" stroke-width=\"2\"/>
+</g>
+</svg>
+";
+
+// Circles at the ends of a plot, two of them in one place.
+const CIRCLES: &str = concat!(
+    "{\"$schema\":\"https://vega.github.io/schema/vega/v5.json\",\"width\":200,\"height\":20,\"padding\":5,",
+    "\"data\":[{\"name\":\"t\",\"values\":[{\"p\":0},{\"p\":10},{\"p\":10}]}],",
+    "\"scales\":[{\"name\":\"x\",\"type\":\"linear\",\"domain\":{\"data\":\"t\",\"field\":\"p\"},\"zero\":true,\"nice\":true,\"range\":\"width\"}],",
+    "\"marks\":[{\"type\":\"symbol\",\"from\":{\"data\":\"t\"},\"encode\":{\"update\":{",
+    "\"x\":{\"scale\":\"x\",\"field\":\"p\"},\"y\":{\"value\":10},\"fill\":{\"value\":\"red\"},\"opacity\":{\"value\":0.7}}}}]}",
+);
+
+const THREE_CIRCLES: &str =
+    "<svg xmlns=\"http://www.w3.org/2000/svg\" version=\"1.1\" width=\"210\" height=\"30\" viewBox=\"0 0 210 30\">
+<g transform=\"translate(5,5)\">
+<circle cx=\"0\" cy=\"10\" r=\"2.738613\" fill=\"red\" opacity=\"0.7\"/>
+<circle cx=\"200\" cy=\"10\" r=\"2.738613\" fill=\"red\" opacity=\"0.7\"/>
+<circle cx=\"200\" cy=\"10\" r=\"2.738613\" fill=\"red\" opacity=\"0.7\"/>
+</g>
+</svg>
+";
+
+// Specifications with their pictures.
+const DRAWN: [(&str, &str); 3] = [
+    (HISTOGRAM, HISTOGRAM_BARS),
+    (GAP, BROKEN_LINE),
+    (CIRCLES, THREE_CIRCLES),
+];
+
 // The parts of a specification of stacked bars round their values and the way they are stacked.
 const STACK_HEAD: &str = concat!(
     "{\"$schema\":\"https://vega.github.io/schema/vega/v5.json\",\"width\":20,\"height\":200,\"padding\":5,\"data\":[",
@@ -269,12 +313,14 @@ const STACKS: [(&str, &str, &str); 2] = [
 ];
 
 #[test]
-fn bins_and_stacks_are_drawn(rt: HostRuntime) -> Result<(), Fail> {
+fn bins_marks_and_stacks_are_drawn(rt: HostRuntime) -> Result<(), Fail> {
     let alloc = rt.alloc();
     let words = &["render", "s.json"];
-    let bins = run_over(alloc, words, HISTOGRAM.as_bytes(), ("d", b""), "")?;
-    assert_eq!(rt; bins.0, 0);
-    assert_eq!(rt; bins.2.as_slice(), HISTOGRAM_BARS.as_bytes());
+    for (spec, picture) in DRAWN {
+        let run = run_over(alloc, words, spec.as_bytes(), ("d", b""), "")?;
+        assert_eq!(rt; run.0, 0, "{spec}");
+        assert_eq!(rt; run.2.as_slice(), picture.as_bytes(), "{spec}");
+    }
     for (values, offset, picture) in STACKS {
         let mut spec = String::from_str(alloc, STACK_HEAD)?;
         spec.push_str(values)?;

@@ -1,4 +1,4 @@
-use Rattle.std.proofs.Common.{◌*◌, ◌+ℤ◌, ◌*ℤ◌, pos, arith, FitsSigned}
+use Rattle.std.proofs.Common.{◌+ℤ◌, ◌*ℤ◌, pos, arith, FitsSigned}
 use Rattle.std.specs.Int.{w128}
 use Rattle.std.specs.Option.{SomeIff}
 use Rattle.std.proofs.lemmas.Int.{ints, to_z-of_z}

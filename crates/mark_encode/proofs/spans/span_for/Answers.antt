@@ -1,9 +1,9 @@
-use Rattle.std.proofs.Common.{◌≡◌, ◌∙◌, ap, sym, Some, true, false}
+use Rattle.std.proofs.Common.{◌∙◌, ap, sym, true, false}
 use Rattle.cell_value.specs.Datum.{cell_at}
 use Rattle.mark_encode.specs.Values.{number_shown}
 use Rattle.mark_encode.specs.Spans.{span_of}
 use Rattle.mark_encode.specs.inner.Scaled.{scaled_all}
-use Rattle.mark_encode.proofs.RectLemmas.{four_then}
+use Rattle.mark_encode.proofs.ShapeLemmas.{four_then}
 use Rattle.mark_encode.proofs.spans.span_for.Goals as goal
 
 pub returns-in-Some : goal.returns-in-Some

@@ -1,0 +1,341 @@
+// The paths of lines and areas.
+ghost use Rattle.std.specs.Prelude.{◌≡◌, ◌≤◌, IfOk};
+ghost use Rattle.std.specs.Option.{option_to_list};
+ghost use Rattle.cell_value.specs.Datum.{cell_at, datum_of};
+ghost use Rattle.cell_value.specs.State.{greatest_id};
+ghost use Rattle.expr_eval.specs.Answers.{Evaluates};
+ghost use Rattle.scale_kit.specs.Scale.{AreScales};
+ghost use Rattle.mark_encode.specs.Channels.{channel_values};
+ghost use Rattle.mark_encode.specs.Orders.{data_of, HaveIds};
+ghost use Rattle.mark_encode.specs.Paths.{pass_of, stop_at, pass_for, stop_for, stops_for, given_or_absent, path_look, path_look_for};
+ghost use Rattle.mark_encode.specs.Paths.{some_points, path_item, path_of, path_over, is_closed, far_values, passes_of, path_values_of, path_items_of};
+ghost use Rattle.mark_encode.specs.inner.Scaled.{scaled_all};
+ghost use Rattle.mark_encode.specs.inner.Scaled.{look_values};
+ghost use Rattle.mark_encode.specs.inner.PathParts.{pass_values, path_values};
+
+use crate::channels::{ChannelName, Scaled, channel_values};
+use crate::colors::color_shown;
+use crate::looks::{Look, LookChannels, default_stroke_width, look_of, looks_of};
+use crate::numbers::number_shown;
+use crate::places::place_of;
+use crate::runs::{Pass, Stop, points_of};
+use crate::shown::{Shown, or_default};
+use cell_value::Keyed;
+use expr_eval::{EvalError, ParamReader};
+use fixed_num::Num;
+use scale_kit::ScaleSet;
+use scene_tree::{Item, Point, Shape};
+use std::alloc::Global;
+use text_kit::{OutOfMemory, Seq, Text};
+use vega_spec::{Encode, MarkType};
+
+/// The values in the channels that say where a path passes along one direction.
+#[derive(Drop)]
+pub struct PassChannels<'a> {
+    pub near: Seq<Scaled<'a>>,
+    pub middle: Seq<Scaled<'a>>,
+    pub far: Seq<Scaled<'a>>,
+}
+
+/// The values in the channels of a path.
+#[derive(Drop)]
+pub struct PathChannels<'a> {
+    /// Whether it comes back.
+    pub closed: bool,
+    pub across: PassChannels<'a>,
+    pub down: PassChannels<'a>,
+    pub looks: LookChannels<'a>,
+}
+
+// Whether the paths of a type of mark come back along a base.
+fn is_closed(type_: MarkType) -> bool
+    ensures { result ≡ is_closed type_ }
+{
+    match type_ {
+        MarkType::Rect => false,
+        MarkType::Symbol => false,
+        MarkType::Line => false,
+        MarkType::Area => true,
+        MarkType::Rule => false,
+        MarkType::Text => false,
+        MarkType::Group => false,
+    }
+}
+
+// The values in a channel of far ends, which counts where a path comes back.
+fn far_values<'a>(
+    alloc: Global,
+    closed: bool,
+    set: &'a ScaleSet,
+    sets: &'a Option<Encode>,
+    far: ChannelName,
+) -> Result<Seq<Scaled<'a>>, OutOfMemory>
+    requires { AreScales set.now }
+    ensures { IfOk result (λ values. scaled_all values ≡ far_values closed (channel_values set.now sets.now) far) }
+{
+    if closed {
+        channel_values(alloc, set, sets, far)
+    } else {
+        Ok(Seq::new(alloc))
+    }
+}
+
+// The values in the channels of these names, as those of one direction.
+fn passes_of<'a>(
+    alloc: Global,
+    closed: bool,
+    set: &'a ScaleSet,
+    sets: &'a Option<Encode>,
+    near: ChannelName,
+    middle: ChannelName,
+    far: ChannelName,
+) -> Result<PassChannels<'a>, OutOfMemory>
+    requires { AreScales set.now }
+    ensures { IfOk result (λ along. pass_values along ≡ passes_of closed (channel_values set.now sets.now) near middle far) }
+{
+    Ok(PassChannels {
+        near: channel_values(alloc, set, sets, near)?,
+        middle: channel_values(alloc, set, sets, middle)?,
+        far: far_values(alloc, closed, set, sets, far)?,
+    })
+}
+
+// The values in the channels of a path.
+fn path_channels<'a>(
+    alloc: Global,
+    closed: bool,
+    set: &'a ScaleSet,
+    sets: &'a Option<Encode>,
+) -> Result<PathChannels<'a>, OutOfMemory>
+    requires { AreScales set.now }
+    ensures { IfOk result (λ path. path_values path ≡ path_values_of closed (channel_values set.now sets.now)) }
+{
+    use ChannelName::{X, X2, Xc, Y, Y2, Yc};
+    Ok(PathChannels {
+        closed,
+        across: passes_of(alloc, closed, set, sets, X, Xc, X2)?,
+        down: passes_of(alloc, closed, set, sets, Y, Yc, Y2)?,
+        looks: looks_of(alloc, set, sets)?,
+    })
+}
+
+// Where a path passes along one direction; None where a place lacks.
+fn pass_of(near: Shown<Num>, middle: Shown<Num>, far: Shown<Num>) -> Option<Pass>
+    ensures { result ≡ pass_of near middle far }
+{
+    let there = place_of(near, middle)?;
+    let back = or_default(there, far)?;
+    Some(Pass { there, back })
+}
+
+// Where a path passes, if it has a pass along x and one along y.
+fn stop_at(across: Option<Pass>, down: Option<Pass>) -> Option<Stop>
+    ensures { result ≡ stop_at across down }
+{
+    Some(Stop {
+        across: across?,
+        down: down?,
+    })
+}
+
+// Where a path passes along one direction for a row.
+fn pass_for<P: ParamReader>(
+    alloc: Global,
+    along: &PassChannels,
+    row: &Keyed,
+    params: &P,
+) -> Result<Option<Pass>, EvalError>
+    requires { row.now.key.id ≤ greatest_id }
+    ensures { Evaluates result (pass_for (pass_values along.now) (P.values params.now) (cell_at row.now)) }
+{
+    let near = number_shown(alloc, false, along.near.as_slice(), row, params)?;
+    let middle = number_shown(alloc, false, along.middle.as_slice(), row, params)?;
+    let far = number_shown(alloc, true, along.far.as_slice(), row, params)?;
+    Ok(pass_of(near, middle, far))
+}
+
+// Where a path passes for a row; None where the row lacks a place.
+fn stop_for<P: ParamReader>(
+    alloc: Global,
+    path: &PathChannels,
+    row: &Keyed,
+    params: &P,
+) -> Result<Option<Stop>, EvalError>
+    requires { row.now.key.id ≤ greatest_id }
+    ensures { Evaluates result (stop_for (path_values path.now) (P.values params.now) (cell_at row.now)) }
+{
+    let across = pass_for(alloc, &path.across, row, params)?;
+    let down = pass_for(alloc, &path.down, row, params)?;
+    Ok(stop_at(across, down))
+}
+
+// The stops of a path, one for each row.
+fn stops_for<P: ParamReader>(
+    alloc: Global,
+    path: &PathChannels,
+    rows: &[&Keyed],
+    params: &P,
+) -> Result<Seq<Option<Stop>>, EvalError>
+    requires { HaveIds rows.now }
+    ensures { Evaluates result (stops_for (path_values path.now) (P.values params.now) (data_of rows.now)) }
+{
+    let mut stops = Seq::with_capacity(alloc, rows.len())?;
+    for row in rows {
+        match stop_for(alloc, path, row, params) {
+            Ok(stop) => stops.push(stop)?,
+            Err(error) => return Err(error),
+        }
+    }
+    Ok(stops)
+}
+
+// What lacks counts as absent.
+fn given_or_absent(number: Shown<Num>) -> Shown<Num>
+    ensures { result ≡ given_or_absent number }
+{
+    match number {
+        Shown::Absent => Shown::Absent,
+        Shown::Lacking => Shown::Absent,
+        Shown::Given(number) => Shown::Given(number),
+    }
+}
+
+// How a path is painted, by what its first row shows; None where a colour lacks.
+fn path_look(
+    default: u8,
+    fill: Shown<Text>,
+    stroke: Shown<Text>,
+    stroke_width: Shown<Num>,
+    opacity: Shown<Num>,
+) -> Option<Look>
+    ensures { result ≡ path_look default fill stroke stroke_width opacity }
+{
+    let stroke_width = given_or_absent(stroke_width);
+    let opacity = given_or_absent(opacity);
+    look_of(default, fill, stroke, stroke_width, opacity)
+}
+
+// How a path is painted by its first row; None where that lacks a colour.
+fn path_look_for<P: ParamReader>(
+    alloc: Global,
+    default: u8,
+    channels: &LookChannels,
+    row: &Keyed,
+    params: &P,
+) -> Result<Option<Look>, EvalError>
+    requires { row.now.key.id ≤ greatest_id }
+    ensures { Evaluates result (path_look_for default (look_values channels.now) (P.values params.now) (cell_at row.now)) }
+{
+    let fill = color_shown(alloc, channels.fill.as_slice(), row, params)?;
+    let stroke = color_shown(alloc, channels.stroke.as_slice(), row, params)?;
+    let stroke_width = number_shown(alloc, false, channels.stroke_width.as_slice(), row, params)?;
+    let opacity = number_shown(alloc, false, channels.opacity.as_slice(), row, params)?;
+    Ok(path_look(default, fill, stroke, stroke_width, opacity))
+}
+
+// Points, if there are any.
+fn some_points(points: Seq<Point>) -> Option<Seq<Point>>
+    ensures { result ≡ some_points points }
+{
+    if points.is_empty() {
+        return None;
+    }
+    Some(points)
+}
+
+// A path over points that is painted, as the item of a mark; None without a point.
+fn path_item(unit: u32, points: Seq<Point>, painted: Option<Look>) -> Option<Item>
+    ensures { result ≡ path_item unit points painted }
+{
+    let points = some_points(points)?;
+    let look = painted?;
+    Some(Item {
+        shape: Shape::Path {
+            points,
+            picked: None,
+        },
+        fill: look.fill,
+        stroke: look.stroke,
+        stroke_width: look.stroke_width,
+        opacity: look.opacity,
+        unit: Some(unit),
+        key: None,
+    })
+}
+
+// An item as a list; an empty one of none.
+fn listed(alloc: Global, item: Option<Item>) -> Result<Seq<Item>, OutOfMemory>
+    ensures { IfOk result (λ items. items ≡ option_to_list item) }
+{
+    let mut items = Seq::new(alloc);
+    if let Some(item) = item {
+        items.push(item)?;
+    }
+    Ok(items)
+}
+
+// The items of a path over rows that is painted by the first of them, with lines so wide by default.
+fn path_of<P: ParamReader>(
+    alloc: Global,
+    unit: u32,
+    default: u8,
+    path: &PathChannels,
+    first: &Keyed,
+    rows: &[&Keyed],
+    params: &P,
+) -> Result<Seq<Item>, EvalError>
+    requires first { first.now.key.id ≤ greatest_id }
+    requires rows { HaveIds rows.now }
+    ensures { Evaluates result (path_of unit default (path_values path.now) (P.values params.now) (datum_of first.now)
+        (data_of rows.now)) }
+{
+    let stops = stops_for(alloc, path, rows, params)?;
+    let look = path_look_for(alloc, default, &path.looks, first, params)?;
+    let points = points_of(alloc, path.closed, stops.as_slice())?;
+    Ok(listed(alloc, path_item(unit, points, look))?)
+}
+
+// The items of a path over rows, with lines so wide by default.
+fn path_over<P: ParamReader>(
+    alloc: Global,
+    unit: u32,
+    default: u8,
+    path: &PathChannels,
+    rows: &[&Keyed],
+    params: &P,
+) -> Result<Seq<Item>, EvalError>
+    requires { HaveIds rows.now }
+    ensures { Evaluates result (path_over unit default (path_values path.now) (P.values params.now) (data_of rows.now)) }
+{
+    let [first, ..] = rows else {
+        return Ok(Seq::new(alloc));
+    };
+    path_of(alloc, unit, default, path, first, rows, params)
+}
+
+/// The items of a line or an area that is the `unit`-th mark of its chart, over its rows in order: one path, or none. The ids of the rows
+/// are at most 10^15. A scale is the first of its name. `Overflow` comes exactly where a place is out of range at one of the rows, or
+/// what paints the path at the first.
+pub fn path_items<P: ParamReader>(
+    alloc: Global,
+    type_: MarkType,
+    sets: &Option<Encode>,
+    unit: u32,
+    rows: &[&Keyed],
+    scales: &ScaleSet,
+    params: &P,
+) -> Result<Seq<Item>, EvalError>
+    requires rows { HaveIds rows.now }
+    requires scales { AreScales scales.now }
+    ensures { Evaluates result (path_items_of type_ unit (channel_values scales.now sets.now) (P.values params.now) (data_of rows.now)) }
+{
+    let path = path_channels(alloc, is_closed(type_), scales, sets)?;
+    path_over(
+        alloc,
+        unit,
+        default_stroke_width(type_),
+        &path,
+        rows,
+        params,
+    )
+}

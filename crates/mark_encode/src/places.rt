@@ -1,0 +1,70 @@
+// Where marks that have one place stand along x or y.
+ghost use Rattle.std.specs.Prelude.{◌≡◌, ◌≤◌, IfOk};
+ghost use Rattle.cell_value.specs.Datum.{cell_at};
+ghost use Rattle.cell_value.specs.State.{greatest_id};
+ghost use Rattle.expr_eval.specs.Answers.{Evaluates};
+ghost use Rattle.scale_kit.specs.Scale.{AreScales};
+ghost use Rattle.mark_encode.specs.Channels.{channel_values};
+ghost use Rattle.mark_encode.specs.Places.{place_of, places_named, place_for};
+ghost use Rattle.mark_encode.specs.inner.Scaled.{place_values};
+
+use crate::channels::{ChannelName, Scaled, channel_values};
+use crate::numbers::{number_shown, zero};
+use crate::shown::{Shown, or_default};
+use cell_value::Keyed;
+use expr_eval::{EvalError, ParamReader};
+use fixed_num::Num;
+use scale_kit::ScaleSet;
+use std::alloc::Global;
+use text_kit::{OutOfMemory, Seq};
+use vega_spec::Encode;
+
+/// The values in the channels of one direction of a mark that has one place.
+#[derive(Drop)]
+pub struct PlaceChannels<'a> {
+    pub near: Seq<Scaled<'a>>,
+    pub middle: Seq<Scaled<'a>>,
+}
+
+/// The values in the channels of these names.
+pub fn places_named<'a>(
+    alloc: Global,
+    set: &'a ScaleSet,
+    sets: &'a Option<Encode>,
+    near: ChannelName,
+    middle: ChannelName,
+) -> Result<PlaceChannels<'a>, OutOfMemory>
+    requires { AreScales set.now }
+    ensures { IfOk result (λ place. place_values place ≡ places_named (channel_values set.now sets.now) near middle) }
+{
+    Ok(PlaceChannels {
+        near: channel_values(alloc, set, sets, near)?,
+        middle: channel_values(alloc, set, sets, middle)?,
+    })
+}
+
+/// At the near end, if that is given, else at the middle, else at 0; None where what counts lacks.
+pub fn place_of(near: Shown<Num>, middle: Shown<Num>) -> Option<Num>
+    ensures { result ≡ place_of near middle }
+{
+    match near {
+        Shown::Given(near) => Some(near),
+        Shown::Lacking => None,
+        Shown::Absent => or_default(zero(), middle),
+    }
+}
+
+/// Where a mark stands along one direction for a row; None where it lacks a place.
+pub fn place_for<P: ParamReader>(
+    alloc: Global,
+    place: &PlaceChannels,
+    row: &Keyed,
+    params: &P,
+) -> Result<Option<Num>, EvalError>
+    requires { row.now.key.id ≤ greatest_id }
+    ensures { Evaluates result (place_for (cell_at row.now) (P.values params.now) (place_values place.now)) }
+{
+    let near = number_shown(alloc, false, place.near.as_slice(), row, params)?;
+    let middle = number_shown(alloc, false, place.middle.as_slice(), row, params)?;
+    Ok(place_of(near, middle))
+}

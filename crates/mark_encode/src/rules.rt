@@ -1,0 +1,156 @@
+// Rules.
+ghost use Rattle.std.specs.Prelude.{◌≡◌, ◌≤◌, IfOk};
+ghost use Rattle.cell_value.specs.Datum.{cell_at};
+ghost use Rattle.cell_value.specs.State.{greatest_id};
+ghost use Rattle.expr_eval.specs.Answers.{Evaluates};
+ghost use Rattle.scale_kit.specs.Scale.{AreScales};
+ghost use Rattle.mark_encode.specs.Channels.{channel_values};
+ghost use Rattle.mark_encode.specs.Rules.{ends_from, ends_to, ends_of, ends_named, ends_for, rule_values_of, line_between, rule_for};
+ghost use Rattle.mark_encode.specs.inner.Scaled.{end_values, rule_values};
+
+use crate::channels::{ChannelName, Scaled, channel_values};
+use crate::numbers::{number_shown, zero};
+use crate::shown::{Shown, or_default};
+use cell_value::Keyed;
+use expr_eval::{EvalError, ParamReader};
+use fixed_num::Num;
+use scale_kit::ScaleSet;
+use scene_tree::Shape;
+use std::alloc::Global;
+use text_kit::{OutOfMemory, Seq};
+use vega_spec::Encode;
+
+/// Where a rule begins and ends along one direction, in pixels.
+#[derive(Clone, Copy, Debug)]
+pub struct Ends {
+    /// Where it begins.
+    pub from: Num,
+    /// Where it ends.
+    pub to: Num,
+}
+
+/// The values in the channels of one direction of a rule, and how long its plot is.
+#[derive(Drop)]
+pub struct EndChannels<'a> {
+    pub near: Seq<Scaled<'a>>,
+    pub far: Seq<Scaled<'a>>,
+    pub whole: Num,
+}
+
+/// The values in the channels of a rule, with the size of its plot.
+#[derive(Drop)]
+pub struct RuleChannels<'a> {
+    pub across: EndChannels<'a>,
+    pub down: EndChannels<'a>,
+}
+
+// The values in the channels of these names.
+fn ends_named<'a>(
+    alloc: Global,
+    set: &'a ScaleSet,
+    sets: &'a Option<Encode>,
+    near: ChannelName,
+    far: ChannelName,
+    whole: Num,
+) -> Result<EndChannels<'a>, OutOfMemory>
+    requires { AreScales set.now }
+    ensures { IfOk result (λ ends. end_values ends ≡ ends_named (channel_values set.now sets.now) near far whole) }
+{
+    Ok(EndChannels {
+        near: channel_values(alloc, set, sets, near)?,
+        far: channel_values(alloc, set, sets, far)?,
+        whole,
+    })
+}
+
+/// The values in the channels of a rule in a plot of this size.
+pub fn rule_channels<'a>(
+    alloc: Global,
+    set: &'a ScaleSet,
+    sets: &'a Option<Encode>,
+    width: Num,
+    height: Num,
+) -> Result<RuleChannels<'a>, OutOfMemory>
+    requires { AreScales set.now }
+    ensures { IfOk result (λ rule. rule_values rule ≡ rule_values_of width height (channel_values set.now sets.now)) }
+{
+    Ok(RuleChannels {
+        across: ends_named(alloc, set, sets, ChannelName::X, ChannelName::X2, width)?,
+        down: ends_named(alloc, set, sets, ChannelName::Y, ChannelName::Y2, height)?,
+    })
+}
+
+// From 0 to the far end, if that is given, else over the whole plot.
+fn ends_to(whole: Num, far: Shown<Num>) -> Option<Ends>
+    ensures { result ≡ ends_to whole far }
+{
+    Some(Ends {
+        from: zero(),
+        to: or_default(whole, far)?,
+    })
+}
+
+// From the near end to the far end, to the near end again where no far end is encoded.
+fn ends_from(near: Num, far: Shown<Num>) -> Option<Ends>
+    ensures { result ≡ ends_from near far }
+{
+    Some(Ends {
+        from: near,
+        to: or_default(near, far)?,
+    })
+}
+
+// Where a rule begins and ends along one direction; None where it lacks an end.
+fn ends_of(whole: Num, near: Shown<Num>, far: Shown<Num>) -> Option<Ends>
+    ensures { result ≡ ends_of whole near far }
+{
+    match near {
+        Shown::Given(near) => ends_from(near, far),
+        Shown::Lacking => None,
+        Shown::Absent => ends_to(whole, far),
+    }
+}
+
+// Where a rule begins and ends along one direction for a row.
+fn ends_for<P: ParamReader>(
+    alloc: Global,
+    ends: &EndChannels,
+    row: &Keyed,
+    params: &P,
+) -> Result<Option<Ends>, EvalError>
+    requires { row.now.key.id ≤ greatest_id }
+    ensures { Evaluates result (ends_for (cell_at row.now) (P.values params.now) (end_values ends.now)) }
+{
+    let near = number_shown(alloc, false, ends.near.as_slice(), row, params)?;
+    let far = number_shown(alloc, true, ends.far.as_slice(), row, params)?;
+    Ok(ends_of(ends.whole, near, far))
+}
+
+// A line between its ends along x and along y.
+fn line_between(across: Option<Ends>, down: Option<Ends>) -> Option<Shape>
+    ensures { result ≡ line_between across down }
+{
+    let x = across?;
+    let y = down?;
+    Some(Shape::Line {
+        x1: x.from,
+        y1: y.from,
+        x2: x.to,
+        y2: y.to,
+    })
+}
+
+/// The rule of a row; None where it lacks an end.
+pub fn rule_for<P: ParamReader>(
+    alloc: Global,
+    rule: &RuleChannels,
+    row: &Keyed,
+    params: &P,
+) -> Result<Option<Shape>, EvalError>
+    requires { row.now.key.id ≤ greatest_id }
+    ensures { Evaluates result (rule_for (rule_values rule.now) (cell_at row.now) (P.values params.now)) }
+{
+    let across = ends_for(alloc, &rule.across, row, params)?;
+    let down = ends_for(alloc, &rule.down, row, params)?;
+    Ok(line_between(across, down))
+}
