@@ -1,0 +1,4 @@
+pub mod Facets
+pub mod Rows
+pub mod Laws
+pub mod inner

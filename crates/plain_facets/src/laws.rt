@@ -1,0 +1,11 @@
+// What holds of copies, beside their definitions.
+ghost use Rattle.plain_facets.specs.Laws.{CopiesAreDifferent, EachIsAtHome, PartsAreMembers, PartsAreRows};
+
+/// No two copies have the same cells, each stands at the first place of its cells, and the rows that belong to a copy are those that
+/// have its cells; of a list of rows they are a list of rows again.
+pub fn laws_of_facets()
+    ensures different { CopiesAreDifferent }
+    ensures at_home { EachIsAtHome }
+    ensures members { PartsAreMembers }
+    ensures rows { PartsAreRows }
+{}
