@@ -1,5 +1,6 @@
 #!/usr/bin/env python3
-"""Writes the table of layouts: the places and the size that are expected, and the tree of boxes.
+"""Writes the table of layouts: the places and the size that are expected, and the tree of boxes. Lines that begin with the word titles
+have the titles of grids among the places, and the width of each.
 
 Usage: bench/layout_table.py > crates/layout_table/stdin
 """
@@ -18,11 +19,11 @@ def grid(columns, spacing, title, *cells):
     return ("grid", columns, F(spacing), title, list(cells))
 
 
-# A box (left, top, width, height, right, bottom), and the plots' places from its plot's corner. All sums are exact; since no number is
-# below zero, a sum that is cut at each step is the exact sum cut at the end.
+# A box (left, top, width, height, right, bottom), and what stands in it, from its plot's corner: plots and titles, each with its width.
+# All sums are exact; since no number is below zero, a sum that is cut at each step is the exact sum cut at the end.
 def measured(t):
     if t[0] == "leaf":
-        return t[1], [(F(0), F(0))]
+        return t[1], [("plot", F(0), F(0), t[1][2])]
     _, columns, spacing, title, cells = t
     boxes = [measured(cell) for cell in cells]
     at = {(i // columns, i % columns): box for i, box in enumerate(boxes)}
@@ -39,9 +40,9 @@ def measured(t):
         y += spacing if r else 0
         ys[r] = y + max(b[1] for b in here)
         y = ys[r] + max(b[3] + b[5] for b in here)
-    places = []
+    places = [("title", F(0), F(0), x)] if title else []
     for i, (_, inner) in enumerate(boxes):
-        places += [(xs[i % columns] + px, ys[i // columns] + py) for px, py in inner]
+        places += [(kind, xs[i % columns] + px, ys[i // columns] + py, width) for kind, px, py, width in inner]
     return (F(0), F(0), x, y, F(0), F(0)), places
 
 
@@ -62,7 +63,14 @@ def spelled(t):
 
 def line(t):
     (left, top, width, height, right, bottom), places = measured(t)
-    words = [decimal(n) for x, y in places for n in (left + x, top + y)]
+    words = [decimal(n) for kind, x, y, _ in places if kind == "plot" for n in (left + x, top + y)]
+    words += ["|", decimal(left + width + right), decimal(top + height + bottom)]
+    return " ".join(words) + " \t" + spelled(t)
+
+
+def line_with_titles(t):
+    (left, top, width, height, right, bottom), places = measured(t)
+    words = ["titles"] + [decimal(n) for _, x, y, wide in places for n in (left + x, top + y, wide)]
     words += ["|", decimal(left + width + right), decimal(top + height + bottom)]
     return " ".join(words) + " \t" + spelled(t)
 
@@ -114,4 +122,20 @@ for _ in range(200):
     deep = grid(1, 20, True, deep)
 lines.append(line(deep))
 lines += [line(any_tree(random.randint(1, 4))) for _ in range(1000)]
+headed = leaf(0, 15, 100, 20)
+lines += [
+    line_with_titles(t)
+    for t in (
+        plot,
+        leaf(1, 2, 3, 4, 5, 6),
+        grid(1, 20, True),
+        grid(1, 20, False),
+        grid(2, 20, False, grid(2, 20, True, headed, headed), leaf(0, 0, 20, 200)),
+        grid(2, 20, True, grid(2, 20, True, plot, plot), plot, grid(1, 0, True)),
+        grid(1, 20, True, grid(1, 20, True, grid(1, 20, True, grid(1, 20, True, leaf(1, 2, 3, 4, 5, 6))))),
+        grid(2, BIG, True, huge, huge, huge),
+        deep,
+    )
+]
+lines += [line_with_titles(any_tree(random.randint(1, 4))) for _ in range(100)]
 print("\n".join(lines))

@@ -30,6 +30,7 @@ CHANGES = {
     "lollipops": [lambda rows: rows + [{"town": "Legden", "change": F(900)}, {"town": "Heek"}]],
     "river": [lambda rows: rows[:4] + [rows[4] | {"level": F(137)}] + rows[5:], lambda rows: [row for row in rows if row["gauge"] != "weir"]],
 }
+MADE_OF = {"max": lambda numbers: max(numbers, default=None), "sum": lambda numbers: sum(numbers, F(0))}
 EPOCH = datetime.datetime(1970, 1, 1)
 LACKING = object()
 
@@ -89,12 +90,13 @@ def time_label(at, form=None):
     return t.strftime(form)
 
 
-def value_of(expression, row):
-    """What an expression gives for a row, by python's own reading of it."""
+def value_of(expression, row, values={}):
+    """What an expression gives for a row and values of signals, by python's own reading of it."""
     names = re.sub(r"datum\.(\w+)", r"row.get('\1')", expression).replace("&&", " and ").replace("||", " or ").replace("null", "None")
+    names = re.sub(r"domain\((.*?)\)\.length", r"length_of(\1)", names)
     try:
-        value = eval(names, {"row": row})
-    except TypeError:
+        value = eval(names, {"row": row, **values})
+    except (TypeError, NameError):
         return None
     return near(value) if isinstance(value, (int, F)) and not isinstance(value, bool) else value
 
@@ -103,8 +105,8 @@ def given_rows(data, known):
     """The rows with which a data set begins."""
     if "source" in data:
         rows = [dict(row) for row in known[data["source"]]]
-    elif "values" in data:
-        rows = [dict(row) for row in data["values"]]
+    elif "url" not in data:
+        rows = [dict(row) for row in data.get("values", [])]
     else:
         with open(data["url"], newline="") as file:
             rows = list(csv.DictReader(file))
@@ -161,10 +163,10 @@ def scale_of(s, lists, width, height):
             cells = list(dict.fromkeys(cells))
             sort = domain.get("sort")
             if isinstance(sort, dict):
-                assert sort["op"] == "max" and len(references) == 1
+                assert sort["op"] in MADE_OF and len(references) == 1
                 found = {c: [row.get(sort["field"]) for row in lists[domain["data"]] if row.get(domain["field"]) == c] for c in cells}
-                greatest = {c: max(filter(is_number, found[c]), default=None) for c in cells}
-                cells = sorted(sorted(cells, key=rank), key=lambda c: rank(greatest[c]), reverse=sort.get("order") == "descending")
+                made = {c: MADE_OF[sort["op"]](list(filter(is_number, found[c]))) for c in cells}
+                cells = sorted(sorted(cells, key=rank), key=lambda c: rank(made[c]), reverse=sort.get("order") == "descending")
             elif sort:
                 cells = sorted(cells, key=rank)
     else:
@@ -206,17 +208,17 @@ def label_of(cell, form):
 class Channels:
     """The channels of a mark for a row."""
 
-    def __init__(self, sets, scales, row):
-        self.sets, self.scales, self.row = sets.get("enter", {}) | sets.get("update", {}), scales, row
+    def __init__(self, sets, scales, row, values={}):
+        self.sets, self.scales, self.row, self.values = sets.get("enter", {}) | sets.get("update", {}), scales, row, values
 
     def value(self, name):
         for v in listed(self.sets.get(name, [])):
-            if "test" not in v or value_of(v["test"], self.row):
+            if "test" not in v or value_of(v["test"], self.row, self.values):
                 return v
         return None
 
     def cell(self, v):
-        return value_of(v["signal"], self.row) if "signal" in v else self.row.get(v["field"]) if "field" in v else v.get("value")
+        return value_of(v["signal"], self.row, self.values) if "signal" in v else self.row.get(v["field"]) if "field" in v else v.get("value")
 
     def on(self, v):
         """The number that a value gives, None where it has none."""
@@ -344,8 +346,8 @@ def track(type_, over):
     return path(steps) if steps else None
 
 
-def items_of(mark, lists, scales, width, height):
-    over = [Channels(mark.get("encode", {}), scales, row) for row in in_order(lists[mark["from"]["data"]], mark.get("sort"))]
+def items_of(mark, lists, scales, width, height, values={}):
+    over = [Channels(mark.get("encode", {}), scales, row, values) for row in in_order(lists[mark["from"]["data"]], mark.get("sort"))]
     type_ = mark["type"]
     if type_ in ("line", "area"):
         if over:

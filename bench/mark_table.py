@@ -5,7 +5,7 @@ Usage: bench/mark_table.py > crates/mark_tests/stdin
 
 Each line is the items, a tab, and the type of the mark, its enter set, its update set and its sort between tabs. A set has channels with
 blanks between them, a channel values with `|` between them, and a value members like `f:amount` with `,` between them. A sort has fields
-with blanks between them, each with `-` before it where it falls. The plot is 200 by 80.
+with blanks between them, each with `-` before it where it falls. The plot is 200 by 80. A line of `group-` and a channel has the number that a group encodes in it.
 """
 from fractions import Fraction as F
 from math import floor, isqrt
@@ -491,7 +491,31 @@ OTHERS = [
 ]
 
 
+# the channels in which groups encode numbers, over a facet of A and another, inside it, of B with 28
+FACET = {"a": "B", "amount": F(28)}
+GROUP_VALUES = NUMBERS + ("f:other", "s:x,f:a", "s:y,null:-", "null:-", "t:word", "b:1", "s:x,b:0.5", "if:datum.a=='A',n:3|n:4", "g:1000000000000000,o:1",
+                          "f:a|n:3", "if:datum.a=='A',g:1000000000000000+1|n:5", "if:datum.a=='B',g:1000000000000000+1|n:5")
+
+
+def group_line(channel, enter, update=""):
+    """The number that a group encodes in a channel, 0 where it encodes none."""
+    sets = {}
+    for words in (enter, update):
+        sets.update(word.split("=", 1) for word in words.split(" ") if word)
+    try:
+        found = Channels(sets, FACET).number(channel)
+        answer = spelled([found if is_number(found) else F(0)])
+    except OverflowError:
+        answer = "overflow"
+    return "\t".join((answer, "group-" + channel, enter, update, ""))
+
+
 def lines():
+    for channel in ("x", "y", "width", "height"):
+        for words in GROUP_VALUES:
+            yield group_line(channel, f"{channel}={words}")
+        yield group_line(channel, "fill=t:blue")
+        yield group_line(channel, f"{channel}=n:1", f"{channel}=n:2")
     for type_, (base, channels) in TYPES.items():
         yield line(type_, base)
         for name, values in (channels | LOOKS).items():

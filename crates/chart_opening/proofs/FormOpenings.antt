@@ -17,7 +17,7 @@ use Rattle.first_form.specs.declared.form.FirstForm.{FirstForm}
 use Rattle.first_form.specs.declared.form.Value.{Value}
 use Rattle.first_form.specs.Bars.{with_ids}
 use Rattle.first_form.specs.Opening.{no_parts, mark_parts, bars_mark, bars_parts, bars_of, data_set_of, values_of, value_row, opening_of}
-use Rattle.first_form.proofs.BarPlots.{opened_group}
+use Rattle.first_form.proofs.BarCharts.{opened_group}
 use Rattle.first_form.proofs.ValueRows.{values_are_rows}
 use Rattle.chart_opening.specs.declared.refusal.Refusal.{Refusal}
 use Rattle.chart_opening.specs.declared.refusal.Refusal.TheVariants as refusal

@@ -4,7 +4,7 @@ use Rattle.chart_io.specs.Outside.{Files}
 use Rattle.cell_value.specs.State.{state_of}
 use Rattle.cell_value.specs.declared.state.ChartState.{ChartState}
 use Rattle.vega_spec.specs.declared.spec.VgSpec.{VgSpec}
-use Rattle.vega_plots.specs.Tested.{is_plot}
+use Rattle.vega_charts.specs.Tested.{is_chart}
 use Rattle.vega_meaning.specs.States.{IsStateOf}
 use Rattle.first_form.specs.declared.form.FirstForm.{FirstForm}
 use Rattle.first_form.specs.Drawable.{IsDrawable}
@@ -33,7 +33,7 @@ FormsOpen =
     (reading : Reading) (files : Files) (form : FirstForm) → IsDrawable form → opening_by reading files (bars_of form) ≡ Ok (opening_of form)
 
 -- what is opened of a file is drawn yet
-abbrev pub OpenedArePlots : Type 0
-OpenedArePlots =
+abbrev pub OpenedAreCharts : Type 0
+OpenedAreCharts =
     (reading : Reading) (files : Files) (name : List ℕ) (opened : Opened) → opened_by reading files name ≡ Ok opened
-    → is_plot opened.spec ≡ true
+    → is_chart opened.spec ≡ true

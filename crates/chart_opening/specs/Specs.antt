@@ -6,7 +6,7 @@ use Rattle.json_exact.specs.declared.spec_error.SpecKind.TheVariants.{Unsupporte
 use Rattle.chart_io.specs.Outside.{Files}
 use Rattle.vega_spec.specs.declared.spec.VgSpec.{VgSpec}
 use Rattle.vega_model.specs.Reading.{Refused, read_of}
-use Rattle.vega_plots.specs.Tested.{is_plot}
+use Rattle.vega_charts.specs.Tested.{is_chart}
 use Rattle.first_form.specs.declared.form.FirstForm.{FirstForm}
 use Rattle.first_form.specs.FirstForm.{form_of}
 use Rattle.first_form.specs.Opening.{bars_of}
@@ -24,7 +24,7 @@ not_drawn_yet = refusal.Spec Unsupported []
 
 -- a specification that breaks no rule, where it is one that is drawn yet
 abbrev pub if_drawn : VgSpec → Result VgSpec Refusal
-if_drawn g = if is_plot g then Ok g else Err not_drawn_yet
+if_drawn g = if is_chart g then Ok g else Err not_drawn_yet
 
 -- the Vega specification that a tree says, or its first fault
 abbrev pub vega_read : Result VgSpec Refused → Result VgSpec Refusal

@@ -1,5 +1,5 @@
 //! What holds of readings and of opening states.
-ghost use Rattle.chart_opening.specs.Laws.{JsonIsRead, ReadingsAgree, OpeningsAreStates, FormsOpen, OpenedArePlots};
+ghost use Rattle.chart_opening.specs.Laws.{JsonIsRead, ReadingsAgree, OpeningsAreStates, FormsOpen, OpenedAreCharts};
 
 /// There is a right reading of JSON.
 pub fn json_is_read()
@@ -21,7 +21,7 @@ pub fn forms_open()
     ensures { FormsOpen }
 {}
 
-/// What is opened of a file is a plot that is drawn yet.
-pub fn opened_are_plots()
-    ensures { OpenedArePlots }
+/// What is opened of a file has a meaning so far and keeps the rules.
+pub fn opened_are_charts()
+    ensures { OpenedAreCharts }
 {}

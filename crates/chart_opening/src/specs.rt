@@ -15,7 +15,7 @@ use first_form::{bars_of, first_form};
 use json_exact::{Json, SpecError, SpecKind};
 use std::alloc::Global;
 use text_kit::Text;
-use vega_plots::is_plot;
+use vega_charts::is_chart;
 use vega_spec::VgSpec;
 
 // Why what is no specification that is drawn yet is refused.
@@ -29,7 +29,7 @@ fn not_drawn_yet(alloc: Global) -> Stop
 fn if_drawn(alloc: Global, g: VgSpec) -> Result<VgSpec, Stop>
     ensures { Gives result (if_drawn g) }
 {
-    if is_plot(alloc, &g)? {
+    if is_chart(alloc, &g)? {
         Ok(g)
     } else {
         Err(not_drawn_yet(alloc))

@@ -21,7 +21,7 @@ use Rattle.expr_syntax.specs.Writing.{text_of}
 use Rattle.chart_io.specs.Outside.{Files, file_of}
 use Rattle.cell_value.specs.declared.state.ChartState.{ChartState}
 use Rattle.vega_spec.specs.declared.spec.VgSpec.{VgSpec}
-use Rattle.vega_plots.specs.Tested.{is_plot}
+use Rattle.vega_charts.specs.Tested.{is_chart}
 use Rattle.vega_model.specs.Reading.{read_of}
 use Rattle.vega_writing.specs.Spec.{tree_of}
 use Rattle.compiled_bars.specs.Bars.{bars_over, width}
@@ -36,7 +36,7 @@ use Rattle.first_form.specs.declared.form.Value.{Value}
 use Rattle.first_form.specs.FirstForm.{form_of}
 use Rattle.first_form.specs.Drawable.{IsDrawable}
 use Rattle.first_form.specs.Opening.{bars_of, value_object}
-use Rattle.first_form.specs.Laws.{BarsArePlots}
+use Rattle.first_form.specs.Laws.{BarsAreCharts}
 use Rattle.first_form.proofs.FormLemmas.{forms_are_drawable}
 use Rattle.chart_opening.specs.declared.opened.Opened.{Opened}
 use Rattle.chart_opening.specs.declared.refusal.Refusal.{Refusal}
@@ -130,10 +130,10 @@ spec_is : (tree : Json) (g : VgSpec) → is_vega tree ≡ false → form_read (f
 spec_is tree g other is = ap (λ (b : Bool). if b then vega_read (read_of tree) else form_read (form_of tree)) other ∙ is
 
 -- that of a tree that says that it is one
-vega_is : (tree : Json) (g : VgSpec) → is_vega tree ≡ true → read_of tree ≡ Ok g → is_plot g ≡ true → spec_of tree ≡ Ok g
-vega_is tree g vega is plot =
+vega_is : (tree : Json) (g : VgSpec) → is_vega tree ≡ true → read_of tree ≡ Ok g → is_chart g ≡ true → spec_of tree ≡ Ok g
+vega_is tree g vega is chart =
     ap (λ (b : Bool). if b then vega_read (read_of tree) else form_read (form_of tree)) vega
-    ∙ ap vega_read is ∙ ap (λ (b : Bool). if b then Ok g else Err not_drawn_yet) plot
+    ∙ ap vega_read is ∙ ap (λ (b : Bool). if b then Ok g else Err not_drawn_yet) chart
 
 -- ---- a file of the text
 
@@ -153,7 +153,7 @@ tree_read : (name bytes : List ℕ) (r : Result Json ℕ) (tree : Json) → IsRi
 tree_read name bytes (Ok own) tree is e = let same : own ≡ tree = cc in subst (Reads bytes) same is
 tree_read name bytes (Err place) tree is e = absurd cc
 
-module _ (forms_open : FormsOpen) (plots : BarsArePlots) (reading : Reading) (reads : ReadsJson reading) (files others : Files) where
+module _ (forms_open : FormsOpen) (charts : BarsAreCharts) (reading : Reading) (reads : ReadsJson reading) (files others : Files) where
   -- what bytes spell is what such a reading reads
   tree_here : (name bytes : List ℕ) (tree : Json) → Reads bytes tree → tree_in reading name bytes ≡ Ok tree
   tree_here name bytes tree is =
@@ -187,7 +187,7 @@ module _ (forms_open : FormsOpen) (plots : BarsArePlots) (reading : Reading) (re
       let says : Says (line_of g) g = form_says form is sound in
       let tree : tree_of_file reading others emitted ≡ Ok (tree_of g) =
       told_tree reading others emitted (line_of g) told small ∙ tree_here emitted (line_of g) (tree_of g) says.0 in
-      let spec : spec_of (tree_of g) ≡ Ok g = vega_is (tree_of g) g (bars_are_vega form) (says.1 (tree_of g) says.0) (plots form) in
+      let spec : spec_of (tree_of g) ≡ Ok g = vega_is (tree_of g) g (bars_are_vega form) (says.1 (tree_of g) says.0) (charts form) in
       ap (λ (r : Result Json Refusal). r >>= opened_tree reading others) tree
       ∙ ap (λ (r : Result VgSpec Refusal). r >>= opened_with reading others) spec
       ∙ opened_here form is
@@ -215,6 +215,6 @@ module _ (forms_open : FormsOpen) (plots : BarsArePlots) (reading : Reading) (re
       let opens = emitted_opens form emitted (forms_are_drawable tree form found) sound here fitting in
       (opens ∙ ap (opened_with reading files) bars ∙ rest, file_opens name tree g file (spec_is tree g other read) ∙ rest)
 
-pub compiled_opens_alike : FormsOpen → BarsArePlots → CompiledOpensAlike
-compiled_opens_alike forms_open plots = λ reading files others name emitted opened reads is told small.
-    both_open forms_open plots reading reads files others name emitted opened is told small
+pub compiled_opens_alike : FormsOpen → BarsAreCharts → CompiledOpensAlike
+compiled_opens_alike forms_open charts = λ reading files others name emitted opened reads is told small.
+    both_open forms_open charts reading reads files others name emitted opened is told small

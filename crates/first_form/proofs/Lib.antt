@@ -6,5 +6,5 @@ pub mod DrawableLemmas
 pub mod OpeningStates
 pub mod SameChart
 pub mod Opened
-pub mod BarPlots
+pub mod BarCharts
 pub mod ValueRows

@@ -1,20 +1,17 @@
 -- Why the state in which a form opens is one of its Vega specification.
-use Rattle.std.proofs.Common.{◌≡◌, ◌≢◌, ℕ, suc, ◌+◌, ◌<◌, ◌≤◌, List, [], ◌∷◌, ◌++◌, length, map, arith, refl, sym, ap, subst, ◌∙◌}
+use Rattle.std.proofs.Common.{◌≡◌, ◌≢◌, ℕ, suc, ◌+◌, ◌<◌, ◌≤◌, List, [], ◌∷◌, length, map, arith, refl, sym, ap, subst}
 use Rattle.std.specs.List.{All, AllPairs}
 use Rattle.std.proofs.lemmas.List.{append-nil}
 use Rattle.std.proofs.lemmas.List.Elements.{All-nil, All-cons}
 use Rattle.std.proofs.lemmas.List.Kept.{AllPairs-cons}
 use Rattle.cell_value.specs.Datum.{Datum, datum_of}
 use Rattle.cell_value.specs.State.{Dataset, state_of, ids_of, all_rows, ReadsItsId}
-use Rattle.vega_spec.specs.declared.spec.Group.{fold-roll-Group}
-use Rattle.vega_spec.specs.declared.spec.VgMark.{fold-roll-VgMark}
-use Rattle.vega_spec.specs.Names.{parameter_of, signals_of, sources_here, mark_sources_here, mark_sources, sources_of}
+use Rattle.vega_spec.specs.Names.{parameter_of, signals_of}
 use Rattle.vega_meaning.specs.States.{settable_names}
-use Rattle.first_form.specs.declared.form.FirstForm.{FirstForm}
 use Rattle.first_form.specs.declared.form.Value.{Value}
 use Rattle.first_form.specs.Bars.{with_ids}
-use Rattle.first_form.specs.Opening.{no_parts, mark_parts, bars_mark, bars_parts, bars_of, value_row, opening_of}
-use Rattle.first_form.proofs.BarPlots.{opened_group, named_sources}
+use Rattle.first_form.specs.Opening.{value_row, opening_of}
+use Rattle.first_form.proofs.BarCharts.{opened_group, named_sources}
 use Rattle.first_form.specs.Laws.{OpeningIsState}
 
 module _ (x y : List ℕ) where

@@ -1,6 +1,7 @@
 -- Why the places of bars are in range.
 use Rattle.std.proofs.Common.{◌≡◌, ℕ, zero, suc, ◌+◌, ◌*◌, ◌<◌, ◌≤◌, ◌==◌, ℤ, pos, ◌+ℤ◌, ◌-ℤ◌, ◌*ℤ◌, ◌≤ℤ◌, int_lt, Bool, true, false}
 use Rattle.std.proofs.Common.{if◌then◌else◌, Option, Some, None, List, length, unsigned_abs, arith, refl, ap, subst, ◌∙◌}
+use Rattle.std.specs.Prelude.{IfSome}
 use Rattle.std.specs.Option.{option_map, ok_or}
 use Rattle.std.specs.Result.{result_ok}
 use Rattle.std.specs.Ordering.{int_eq}
@@ -83,19 +84,21 @@ width_known (suc n) few =
     (steps_usual (suc n)) (omega arith) (width_usual (suc n) few) in
     record { width = 18 * million; is = rw some known; small = omega arith }
 
--- a cell has its place, if any
+-- a cell has its place, if any, and that is in range
 entry_placed : (n index : ℕ) (b : Bool) → (b ≡ true → index < n) → n ≤ 1000
     → (x : Option ℤ) × (result_ok (reached_place (option_map (place_of_band (usual_bands n)) (if b then Some index else None))) ≡ Some x)
+    × IfSome x IsNumber
 entry_placed n index true below few =
     let within : IsNumber (pos (20 * (50000 + index * million))) = (omega (arith, ints), omega (arith, ints, below refl)) in (
       Some (pos (20 * (50000 + index * million))),
       ap (λ z. result_ok (reached_place (Some z))) (band_place n index (below refl) few)
           ∙ reached (pos (20 * (50000 + index * million))) within,
+      within,
     )
-entry_placed n index false below few = (None, refl)
+entry_placed n index false below few = (None, refl, tt)
 
 pub placed : (domain : List Cell) (cell : Cell) → length domain ≤ 1000
-    → (x : Option ℤ) × (result_ok (place_of (x_scale domain) cell) ≡ Some x)
+    → (x : Option ℤ) × (result_ok (place_of (x_scale domain) cell) ≡ Some x) × IfSome x IsNumber
 placed domain cell few =
     entry_placed (length domain) (position_or_len (same_cells cell) domain) _ (λ test. grind (arith, nat_tests)) few
 

@@ -25,7 +25,6 @@ use Rattle.cell_value.specs.declared.state.Key.{Key}
 use Rattle.cell_value.specs.Cell.{cell_cmp}
 use Rattle.cell_value.specs.Row.{cell_of}
 use Rattle.cell_value.specs.Datum.{Datum, datum_of, id_name}
-use Rattle.cell_value.specs.State.{Dataset}
 use Rattle.cell_value.proofs.LawLemmas.{what_is_set_is_read, other_names_stay}
 use Rattle.expr_syntax.specs.declared.expr.Expr.{Expr, fold-roll-Expr}
 use Rattle.expr_syntax.specs.declared.expr.Expr.TheVariants as expr
@@ -33,7 +32,7 @@ use Rattle.expr_syntax.specs.declared.expr.Expr.TheOpen as node
 use Rattle.expr_syntax.specs.declared.expr.BinOp.{BinOp}
 use Rattle.expr_syntax.specs.declared.expr.BinOp.TheVariants.{Mul}
 use Rattle.expr_eval.specs.Values.{Values}
-use Rattle.expr_eval.specs.Plain.{null_row}
+use Rattle.expr_eval.specs.Plain.{null_row, no_values}
 use Rattle.expr_eval.specs.Ranges.{number_cell}
 use Rattle.expr_eval.specs.Numbers.{the_number}
 use Rattle.expr_eval.specs.Operations.{binary_of}
@@ -46,19 +45,16 @@ use Rattle.scale_kit.specs.declared.scale.Overflow.{Overflow}
 use Rattle.scale_kit.specs.declared.scale.Scale.TheVariants.{Band}
 use Rattle.scale_kit.specs.declared.scale.ScaleSet.{ScaleSet}
 use Rattle.scale_kit.specs.Places.{place_of}
-use Rattle.scene_tree.specs.declared.scene.Scene.{Scene}
 use Rattle.scene_tree.specs.declared.scene.Item.{Item}
 use Rattle.scene_tree.specs.Outcome.{outcome_map, in_reach}
 use Rattle.svg_text.specs.SceneText.{svg_of}
 use Rattle.vega_spec.specs.declared.marks.MarkType.TheVariants as mark
-use Rattle.vega_spec.specs.declared.spec.Group.{Group, Group-F, out-Group}
-use Rattle.vega_spec.specs.declared.spec.VgMark.{VgMark}
 use Rattle.vega_spec.specs.declared.spec.Size.TheVariants as size
-use Rattle.vega_spec.specs.declared.spec.VgSpec.{VgSpec}
 use Rattle.vega_lists.specs.Scopes.{Scope, no_lists, with_list}
-use Rattle.vega_lists.specs.Lists.{lists_of}
 use Rattle.vega_scales.specs.Domains.{column_of}
-use Rattle.vega_scales.specs.Scales.{over_numbers}
+use Rattle.vega_scales.specs.declared.scaled.Scaled.{Scaled}
+use Rattle.vega_scales.specs.declared.scaled.Scaled.TheVariants.{Cells}
+use Rattle.vega_scales.specs.Scales.{between}
 use Rattle.mark_encode.specs.declared.looks.Look.{Look}
 use Rattle.mark_encode.specs.declared.shown.Shown.TheVariants.{Absent}
 use Rattle.mark_encode.specs.declared.spans.Span.{Span}
@@ -66,26 +62,30 @@ use Rattle.mark_encode.specs.Channels.{channel_values}
 use Rattle.mark_encode.specs.Values.{share_of_band, moved, shown}
 use Rattle.mark_encode.specs.Spans.{span_of}
 use Rattle.mark_encode.specs.Rects.{rect_over}
-use Rattle.mark_encode.specs.Orders.{rows_in_order}
-use Rattle.mark_encode.specs.Items.{item_with, item_for, items_for, items_over}
-use Rattle.vega_signals.specs.Parameters.{values_with}
-use Rattle.vega_signals.specs.Signals.{data_of, signal_values}
-use Rattle.vega_plots.specs.Sizes.{size_in, size_of, padding_round}
-use Rattle.vega_plots.specs.Plots.{scales_in, marks_in, lengths_of, scale_set, rows_from, items_of_marks, first_unit}
-use Rattle.vega_guides.specs.Plots.{plain_scene, scene_of as guided_scene}
-use Rattle.vega_guides.proofs.BareLaw.{law as bare_law}
+use Rattle.mark_encode.specs.Items.{item_with, item_for, items_for}
+use Rattle.vega_signals.specs.Settling.{values_inside}
+use Rattle.vega_signals.specs.Lost.{lost_inside}
+use Rattle.vega_scenes.specs.declared.scenes.Drawing.{Drawing}
+use Rattle.vega_charts.specs.Sizes.{size_in, size_of}
+use Rattle.vega_charts.specs.Scopes.{Names, names_at_top}
+use Rattle.vega_charts.specs.Scales.{ScaleHere, own_scale, and_outer, with_domains}
+use Rattle.vega_charts.specs.Copies.{Frame, with_scales}
+use Rattle.vega_charts.specs.Tops.{of_chart, round_top, sized_top, top_frame}
+use Rattle.vega_charts.specs.Charts.{drawing_of}
+use Rattle.vega_charts.specs.OnePlotLaws.{items_of_marks}
+use Rattle.vega_charts.proofs.OnePlotLaw.{laws}
 use Rattle.first_form.specs.declared.form.FirstForm.{FirstForm}
 use Rattle.first_form.specs.declared.form.Value.{Value}
-use Rattle.first_form.specs.Bars.{with_ids, Reading, category_of, amount_of, reading_of, readings_of, amounts_of, categories_of, pixels}
+use Rattle.first_form.specs.Bars.{with_ids, Reading, category_of, amount_of, reading_of, readings_of, amounts_of, categories_of}
 use Rattle.first_form.specs.Bars.{default_color}
 use Rattle.first_form.specs.Bars.{inner_padding, outer_padding, step_width, plot_width, plot_height, x_scale, y_scale, bar_of, scene_of}
-use Rattle.first_form.specs.Opening.{space_expr, width_expr, x_scale_of, y_scale_of, encode_of, bars_parts, bars_of, value_row}
+use Rattle.first_form.specs.Opening.{space_expr, width_expr, x_scale_of, y_scale_of, encode_of, bars_of, value_row}
 use Rattle.first_form.specs.Drawable.{IsDrawable}
 use Rattle.first_form.specs.Laws.{VegaChartIsTheChart}
 use Rattle.first_form.proofs.RangeLemmas.{in_range_at_number, rounded_multiple}
 use Rattle.first_form.proofs.PlaceLemmas.{space_usual, width_usual, width_known, IsPlace, place_to, base_within, place_in_range}
-use Rattle.first_form.proofs.DrawableLemmas.{bar_at, IsBar, height_known, width, base, bar_drawn, form_scene, scene_with_bars}
-use Rattle.first_form.proofs.BarPlots.{opened_group, opened_mark}
+use Rattle.first_form.proofs.DrawableLemmas.{bar_at, IsBar, height_known, width, base, bar_drawn, bars_drawn, form_scene, scene_from}
+use Rattle.first_form.proofs.BarCharts.{bars_object, the_bars, outlined}
 
 -- ---- the width of the plot
 
@@ -188,8 +188,9 @@ scales_over cells width domain = record {
       ∷ record { panel = None; name = codes "y"; scale = y_scale domain } ∷ [];
 }
 
+-- the values where there are no signals
 abbrev no_params : Values
-no_params = values_with [] []
+no_params = values_inside [] no_values
 
 module _ (form : FirstForm) (cells : List Cell) (n : ℕ) (few : length cells ≤ 1000) where
   abbrev item : Datum → Option (Option Item)
@@ -289,25 +290,31 @@ module _ (x y : List ℕ) (apart : x ≢ y) where
   amounts (v ∷ vs) =
       ap (λ c. filter_map the_number (c ∷ column_of y (rows vs))) (amount_is v) ∙ ap (λ ns. amount_of y v ∷ ns) (amounts vs)
 
--- ---- the scene
-
--- the scene of an object whose signals have these values, over its lists of rows
-abbrev scene_in : VgSpec → Group-F Group VgMark → List (List ℕ × Cell) → Scope → Option Scene
-scene_in g top signals scope =
-    lengths_of (values_with signals []) scope (scales_in top) >>= (λ lengths.
-    size_of (values_with signals lengths) g.width >>= (λ width.
-    size_of (values_with signals lengths) g.height >>= (λ height.
-    scale_set (values_with signals []) scope width height (scales_in top) >>= (λ scales.
-    items_of_marks (values_with signals []) scope scales width height 0 (marks_in top) >>= (λ items.
-    guided_scene top scales (padding_round g.padding) width height (first_unit (marks_in top)) items)))))
-
--- the scene of an object over sources
-abbrev plot_in : VgSpec → List Dataset → Group-F Group VgMark → Option Scene
-plot_in g sources top =
-    signal_values top sources [] >>= (λ signals.
-    lists_of (values_with signals []) sources no_lists (data_of top) >>= scene_in g top signals)
+-- ---- what names stand for
 
 module _ (form : FirstForm) where
+  -- where the name of the values stands for rows
+  abbrev scope_over : List Datum → Scope
+  scope_over rows = with_list form.name (with_list form.name rows no_lists form.name) no_lists
+
+  abbrev names_over : List Datum → Names
+  names_over rows = record { lists = scope_over rows; values = no_params; is_lost = lost_inside no_values (λ name. false) [] [] }
+
+  named : (rows : List Datum)
+      → names_at_top no_values [] (record { name = form.name; rows = rows } ∷ []) (bars_object form) ≡ Some (names_over rows)
+  named rows = refl
+
+  -- the name stands for the rows of the one source
+  abbrev rows_where : Bool → List Datum → List Datum
+  rows_where b rows = if b then rows else []
+
+  the_rows : (rows : List Datum) → scope_over rows form.name ≡ rows
+  the_rows rows =
+      let same = (bytes_eq-Decides form.name form.name).1 refl in
+      λ i. rows_where (same i) (rows_where (same i) rows)
+
+  -- ---- the scales
+
   -- the cells of the one reference of a domain
   abbrev cells_under : List ℕ → List Datum → List Cell
   cells_under name rows = column_of name rows ++ []
@@ -315,62 +322,62 @@ module _ (form : FirstForm) where
   abbrev cells_along : List Datum → List Cell
   cells_along rows = ascending cell_cmp (cells_under form.x rows)
 
-  abbrev lengths : List Datum → List (List ℕ × ℕ)
-  lengths rows = (codes "x", length (cells_along rows)) ∷ (codes "y", 2) ∷ []
+  abbrev domain_up : List Datum → Option (ℤ × ℤ)
+  domain_up rows = nice_of 10 (with_zero (extent_of (numbers_among (cells_under form.y rows))))
 
-  -- the scene of the bars over some scales, round these items
-  abbrev guided : ScaleSet → ℤ → List Item → Option Scene
-  guided scales width items = guided_scene (bars_parts form) scales (pixels 5) width plot_height (Some 0) items
+  abbrev scale_along : List Cell → ScaleHere
+  scale_along cells = record { scale = x_scale_of form; domain = Cells cells; is_of_chart = true; passed = [] }
 
-  abbrev with_items : ScaleSet → ℤ → Option (List Item) → Option Scene
-  with_items scales width items = (items >>= (λ own. Some (own ++ []))) >>= guided scales width
+  abbrev scale_up : Scaled → ScaleHere
+  scale_up domain = record { scale = y_scale_of form; domain = domain; is_of_chart = true; passed = [] }
 
-  abbrev bars_over : List Datum → ℤ → ScaleSet → Option (List Item)
-  bars_over rows width scales = items_for mark.Rect 0 width plot_height (channel_values scales (Some (encode_of form))) no_params rows
+  abbrev scales_here : List Cell → ℤ × ℤ → List ScaleHere
+  scales_here cells domain = scale_along cells ∷ scale_up (between domain) ∷ []
 
-  abbrev with_width : List Datum → ℤ → Option Scene
-  with_width rows width =
-      scale_set no_params (λ name. rows) width plot_height (x_scale_of form ∷ y_scale_of form ∷ []) >>= (λ scales.
-      with_items scales width (bars_over rows width scales))
+  abbrev scales_by : List Datum → Option (ℤ × ℤ) → Option (List ScaleHere)
+  scales_by rows domain = all_found (Some (scale_along (cells_along rows)) ∷ option_map scale_up (option_map between domain) ∷ [])
 
-  abbrev rows_scene : List Datum → Option Scene
-  rows_scene rows = size_of (values_with [] (lengths rows)) (Some (size.Signal width_expr)) >>= with_width rows
+  scales_opened : (rows : List Datum)
+      → all_found (map (own_scale (of_chart None) (names_over rows)) (x_scale_of form ∷ y_scale_of form ∷ []))
+      ≡ scales_by (scope_over rows form.name) (domain_up (scope_over rows form.name))
+  scales_opened rows = refl
 
-  scene_opened : (scope : Scope) → scene_in (bars_of form) (bars_parts form) [] scope ≡ rows_scene (scope form.name)
-  scene_opened scope = λ i.
-      size_of (values_with [] (lengths (scope form.name))) (Some (size.Signal width_expr)) >>= (λ width.
-      scale_set no_params scope width plot_height (x_scale_of form ∷ y_scale_of form ∷ []) >>= (λ scales.
-      with_items scales width (items_over (opened_mark form i).type_ 0 width plot_height
-      (channel_values scales (opened_mark form i).encode) no_params
-      (rows_in_order (opened_mark form i).sort (rows_from scope (opened_mark form i).from)))))
+  scales_known : (rows : List Datum) (cells : List Cell) (domain : ℤ × ℤ) → cells_along rows ≡ cells → domain_up rows ≡ Some domain
+      → all_found (map (own_scale (of_chart None) (names_over rows)) (x_scale_of form ∷ y_scale_of form ∷ [])) ≡ Some (scales_here cells domain)
+  scales_known rows cells domain along up =
+      scales_opened rows
+      ∙ ap (λ rows. scales_by rows (domain_up rows)) (the_rows rows)
+      ∙ ap (scales_by rows) up
+      ∙ ap (λ cells. Some (scales_here cells domain)) along
 
-  -- the name stands for the rows of the one source
-  abbrev rows_where : Bool → List Datum → List Datum
-  rows_where b rows = if b then rows else []
+  -- ---- the frame
 
-  the_rows : (rows : List Datum)
-      → with_list form.name (with_list form.name rows no_lists form.name) no_lists form.name ≡ rows
-  the_rows rows =
-      let same = (bytes_eq-Decides form.name form.name).1 refl in
-      λ i. rows_where (same i) (rows_where (same i) rows)
+  abbrev frame_over : List Datum → List ScaleHere → ℤ → Frame
+  frame_over rows scales width = record (round_top (names_over rows)) { scales = scales; width = width; height = plot_height }
 
-  plot_is : (rows : List Datum)
-      → plot_in (bars_of form) (record { name = form.name; rows = rows } ∷ []) (out-Group (bars_of form).group) ≡ rows_scene rows
-  plot_is rows =
-      ap (plot_in (bars_of form) (record { name = form.name; rows = rows } ∷ [])) (opened_group form)
-      ∙ scene_opened (with_list form.name (with_list form.name rows no_lists form.name) no_lists)
-      ∙ ap rows_scene (the_rows rows)
+  abbrev frame_with : List Datum → Option (List ScaleHere) → Option Frame
+  frame_with rows own =
+      option_map (λ own. with_scales (round_top (names_over rows)) (names_over rows) (and_outer [] own)) own
+      >>= sized_top (Some (size.Signal width_expr)) (Some (size.Number plot_height))
 
-  scales_known : (rows : List Datum) (width : ℤ) (d : ℤ × ℤ)
-      → nice_of 10 (with_zero (extent_of (numbers_among (cells_under form.y rows)))) ≡ Some d
-      → with_width rows width ≡ with_items (scales_over (cells_along rows) width d) width
-      (bars_over rows width (scales_over (cells_along rows) width d))
-  scales_known rows width d e =
-      ap (λ o. option_map (λ made. record { scales = made }) (all_found (
-      Some (record { panel = None; name = codes "x"; scale = Band (cells_along rows) inner_padding outer_padding (pos 0) width })
-      ∷ option_map (λ made. record { panel = None; name = codes "y"; scale = made })
-      (option_map (over_numbers (y_scale_of form) (plot_height, pos 0)) o) ∷ []))
-      >>= (λ scales. with_items scales width (bars_over rows width scales))) e
+  framed : (rows : List Datum) (cells : List Cell) (domain : ℤ × ℤ) → length cells ≤ 1000 → cells_along rows ≡ cells
+      → domain_up rows ≡ Some domain → top_frame (bars_of form).width (bars_of form).height (names_over rows) (bars_object form)
+      ≡ Some (frame_over rows (scales_here cells domain) (plot_width (length cells)))
+  framed rows cells domain few along up =
+      let values = with_domains (scales_here cells domain) no_params in
+      ap (frame_with rows) (scales_known rows cells domain along up)
+      ∙ ap (λ o. o >>= λ width. Some (frame_over rows (scales_here cells domain) width)) (width_size values (length cells) refl few)
+
+  -- ---- the bars
+
+  abbrev bars_over : List Cell → ℤ × ℤ → ℤ → List Datum → Option (List Item)
+  bars_over cells domain width rows =
+      items_for mark.Rect 0 width plot_height (channel_values (scales_over cells width domain) (Some (encode_of form))) no_params rows
+
+  bars_opened : (rows : List Datum) (cells : List Cell) (domain : ℤ × ℤ) (wide : ℤ)
+      → items_of_marks (frame_over rows (scales_here cells domain) wide) (the_bars form)
+      ≡ (bars_over cells domain wide (scope_over rows form.name) >>= λ own. Some (own ++ []))
+  bars_opened rows cells domain wide = refl
 
   items_known : (cells : List Cell) (n : ℕ) (few : length cells ≤ 1000) → form.x ≢ form.y → (vs : List (ℕ × Value))
       → All (IsBar cells n) (map (reading_of form.x form.y) vs)
@@ -386,11 +393,19 @@ module _ (form : FirstForm) where
       let rest = items_known cells n few apart vs (All-tail (IsBar cells n) r others all) in
       λ i. first i ∷ rest i
 
--- what is kept of a list is a list
-kept : {A B C : Type 0} (f : A → List B) (h : List B → Option C) (g : List B → C) → ((bs : List B) → h bs ≡ Some (g bs)) → (o : Option A)
-    → ((option_map f o >>= (λ own. Some (own ++ []))) >>= h) ≡ (o >>= (λ a. Some (g (f a))))
-kept f h g is None = refl
-kept f h g is (Some a) = ap h (append-nil (f a)) ∙ is (f a)
+  bars_found : (cells : List Cell) (n : ℕ) → length cells ≤ 1000 → form.x ≢ form.y → (vs : List (ℕ × Value))
+      → All (IsBar cells n) (map (reading_of form.x form.y) vs) → (bars : List (Option Item))
+      → all_found (map (bar_of (x_scale cells) (pos 0, pos n)) (map (reading_of form.x form.y) vs)) ≡ Some bars
+      → (let rows = map datum_of (map (value_row form.x form.y) vs) in
+      items_of_marks (frame_over rows (scales_here cells (pos 0, pos n)) (plot_width (length cells))) (the_bars form)
+      ≡ Some (filter_map (λ bar. bar) bars))
+  bars_found cells n few apart vs all bars drawn =
+      let rows = map datum_of (map (value_row form.x form.y) vs) in
+      bars_opened rows cells (pos 0, pos n) (plot_width (length cells))
+      ∙ ap (λ rows. bars_over cells (pos 0, pos n) (plot_width (length cells)) rows >>= λ own. Some (own ++ [])) (the_rows rows)
+      ∙ ap (λ found. option_map (filter_map (λ bar. bar)) (all_found found) >>= λ own. Some (own ++ [])) (items_known cells n few apart vs all)
+      ∙ ap (λ found. option_map (filter_map (λ bar. bar)) found >>= λ own. Some (own ++ [])) drawn
+      ∙ ap Some (append-nil (filter_map (λ bar. bar) bars))
 
 -- a number above 0, twenty times
 twenty_times : (s : ℤ) → int_lt (pos 0) s ≡ true → pos 0 ≤ℤ (pos 20 *ℤ s)
@@ -410,15 +425,12 @@ space_above n =
 cut_width : (w : ℤ) → pos 0 ≤ℤ w → IsPixel (int_min w (pos (10 ^ 11 * million)))
 cut_width w above = omega (arith, ints, clamps, above)
 
--- the bars have no axes, legends and title
-bare : (form : FirstForm) (scales : ScaleSet) (width : ℤ) → IsPixel width → (items : List Item)
-    → guided form scales width items ≡ Some (plain_scene (pixels 5) width plot_height (Some 0) items)
-bare form scales width pixel items =
-    bare_law (bars_parts form) scales (pixels 5) width plot_height (Some 0) items refl (omega (arith, ints), omega (arith, ints)) pixel
-    (omega (arith, ints), omega (arith, ints))
-
+-- the specification has the scene of the form
 same_scene : (form : FirstForm) → IsDrawable form
-    → rows_scene form (map datum_of (map (value_row form.x form.y) (with_ids 1 form.values))) ≡ scene_of (readings_of form)
+    → outcome_map (λ (d : Drawing). d.scene) (drawing_of (bars_of form) no_values [] (record {
+      name = form.name;
+      rows = map datum_of (map (value_row form.x form.y) (with_ids 1 form.values));
+    } ∷ [])) ≡ in_reach (scene_of (readings_of form))
 same_scene form drawable =
     let vs = with_ids 1 form.values in
     let rows = map datum_of (map (value_row form.x form.y) vs) in
@@ -427,25 +439,23 @@ same_scene form drawable =
     let cells = categories_of rs in
     let along : cells_along form rows ≡ cells =
     ap (ascending cell_cmp) (append-nil (column_of form.x rows) ∙ categories form.x form.y drawable.apart vs) in
-    let wide : size_of (values_with [] (lengths form rows)) (Some (size.Signal width_expr)) ≡ Some (plot_width (length cells)) =
-    width_size (values_with [] (lengths form rows)) (length cells) (ap length along) known.few in
-    let nice : nice_of 10 (with_zero (extent_of (numbers_among (cells_under form form.y rows)))) ≡ Some (pos 0, pos known.end) =
+    let up : domain_up form rows ≡ Some (pos 0, pos known.end) =
     ap (λ ns. nice_of 10 (with_zero (extent_of ns)))
     (ap numbers_among (append-nil (column_of form.y rows)) ∙ amounts form.x form.y drawable.apart vs) ∙ known.domain in
-    let scales = scales_over cells (plot_width (length cells)) (pos 0, pos known.end) in
-    let wide_enough : IsPixel (plot_width (length cells)) = cut_width _ (space_above (length cells)) in
-    ap (λ o. o >>= with_width form rows) wide
-    ∙ scales_known form rows (plot_width (length cells)) (pos 0, pos known.end) nice
-    ∙ ap (λ c. with_items form (scales_over c (plot_width (length cells)) (pos 0, pos known.end)) (plot_width (length cells))
-    (bars_over form rows (plot_width (length cells)) (scales_over c (plot_width (length cells)) (pos 0, pos known.end)))) along
-    ∙ ap (λ bars. with_items form scales (plot_width (length cells)) (option_map (filter_map (λ found. found)) (all_found bars)))
-    (items_known form cells known.end known.few drawable.apart vs known.bars)
-    ∙ kept (filter_map (λ found. found)) (guided form scales (plot_width (length cells)))
-    (plain_scene (pixels 5) (plot_width (length cells)) plot_height (Some 0)) (bare form scales (plot_width (length cells)) wide_enough)
-    (all_found (map (bar_of (x_scale cells) (pos 0, pos known.end)) rs))
-    ∙ sym (ap (λ o. o >>= scene_with_bars rs) known.domain)
+    let bars = bars_drawn cells known.end rs known.bars in
+    let items : List Item = filter_map (λ bar. bar) bars.0 in
+    laws.alone (bars_of form) no_values [] (record { name = form.name; rows = rows } ∷ []) (bars_object form) (the_bars form) (names_over form rows)
+    (frame_over form rows (scales_here form cells (pos 0, pos known.end)) (plot_width (length cells))) items (record {
+      outline = outlined form;
+      layout = refl;
+      no_groups = refl;
+      named = named form rows;
+      framed = framed form rows cells (pos 0, pos known.end) known.few along up;
+      found = bars_found form cells known.end known.few drawable.apart vs known.bars bars.0 bars.1;
+      stay = bars.2;
+    }) (record { axes = refl; legends = refl; title = refl }) (omega (arith, ints), omega (arith, ints))
+    (cut_width _ (space_above (length cells))) (omega (arith, ints), omega (arith, ints))
+    ∙ ap in_reach (sym (scene_from rs known bars.0 bars.1))
 
 pub vega_chart_is : VegaChartIsTheChart
-vega_chart_is form drawable =
-    let rows = map datum_of (map (value_row form.x form.y) (with_ids 1 form.values)) in
-    ap (λ o. outcome_map svg_of (in_reach o)) (plot_is form rows ∙ same_scene form drawable)
+vega_chart_is form drawable = ap (outcome_map svg_of) (same_scene form drawable)

@@ -5,7 +5,7 @@ use Rattle.cell_value.specs.declared.state.Keyed.{Keyed}
 use Rattle.cell_value.specs.State.{state_of}
 use Rattle.data_rows.specs.JsonRows.{rows_of_json}
 use Rattle.scene_tree.specs.Outcome.{Drawn}
-use Rattle.vega_plots.specs.Tested.{is_plot}
+use Rattle.vega_charts.specs.Tested.{is_chart}
 use Rattle.vega_meaning.specs.Charts.{vega_chart_of}
 use Rattle.vega_meaning.specs.States.{IsStateOf}
 use Rattle.first_form.specs.declared.form.FirstForm.{FirstForm}
@@ -30,9 +30,9 @@ ChartsAreDrawn = (form : FirstForm) → IsDrawable form → (text : List ℕ) ×
 abbrev pub OpeningIsState : Type 0
 OpeningIsState = (form : FirstForm) → IsDrawable form → IsStateOf (bars_of form) (state_of (opening_of form))
 
--- its Vega specification is a plot that has a meaning and keeps the rules
-abbrev pub BarsArePlots : Type 0
-BarsArePlots = (form : FirstForm) → is_plot (bars_of form) ≡ true
+-- its Vega specification has a meaning and keeps the rules
+abbrev pub BarsAreCharts : Type 0
+BarsAreCharts = (form : FirstForm) → is_chart (bars_of form) ≡ true
 
 -- the values that its Vega specification has, read as rows, are those of its opening state
 abbrev pub ValuesAreRows : Type 0

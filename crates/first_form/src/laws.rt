@@ -1,5 +1,5 @@
 //! What holds of each chart of the first form.
-ghost use Rattle.first_form.specs.Laws.{FormsAreDrawable, VegaChartIsTheChart, ChartsAreDrawn, OpeningIsState, BarsArePlots, ValuesAreRows};
+ghost use Rattle.first_form.specs.Laws.{FormsAreDrawable, VegaChartIsTheChart, ChartsAreDrawn, OpeningIsState, BarsAreCharts, ValuesAreRows};
 
 /// A form that is read has at most 1,000 values, with amounts from 0 to 1,000,000,000, under two fields.
 pub fn forms_are_drawable()
@@ -24,10 +24,10 @@ pub fn opening_is_a_state()
     ensures { OpeningIsState }
 {}
 
-/// The Vega specification of a form is a plot that has a meaning and keeps the rules.
-#[tactic(auto, using(crate::proofs::BarPlots::bars_are_plots))]
-pub fn bars_are_plots()
-    ensures { BarsArePlots }
+/// The Vega specification of a form has a meaning and keeps the rules.
+#[tactic(auto, using(crate::proofs::BarCharts::bars_are_charts))]
+pub fn bars_are_charts()
+    ensures { BarsAreCharts }
 {}
 
 /// The values of its Vega specification, read as rows, are the rows of the state in which it opens.

@@ -18,5 +18,7 @@ mod titles;
 pub use axes::{AxisOf, Guide, axis_of};
 pub use errors::GuideError;
 pub use frames::Side;
+pub use items::{Style, label_style, view_title_style, words_at};
 pub use legends::{Block, LegendOf, has_legend, legend_of};
+pub use measures::{half, minus, pixels, plus};
 pub use titles::title_of;

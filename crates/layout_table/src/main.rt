@@ -1,13 +1,14 @@
 //! A table of trees of boxes, each with its layout: the places of the plots, the width and the height, a tab, and the tree. A box is
-//! its six numbers with commas; a grid is its cells between brackets, and then its columns, its spacing and whether it has a title. It
-//! writes each line whose tree has another layout, and how many lines there were. `bench/layout_table.py` writes the table.
+//! its six numbers with commas; a grid is its cells between brackets, and then its columns, its spacing and whether it has a title. A line
+//! that begins with the word titles has the titles of grids among the places, and the width of each. It writes each line whose tree has
+//! another layout, and how many lines there were. `bench/layout_table.py` writes the table.
 #![tactic(auto)]
 
 use fixed_num::Num;
 use std::alloc::Global;
 use std::io;
 use text_kit::{OutOfMemory, Seq, Text};
-use view_layout::{BoxOf, BoxTree, Laid, lay_out};
+use view_layout::{BoxOf, BoxTree, Laid, LaidWithTitles, lay_out, lay_out_with_titles};
 
 // The number of a decimal.
 fn number_by(decimal: &str) -> Option<Num> {
@@ -99,6 +100,13 @@ fn say(text: &mut Text, number: Num) -> Result<(), OutOfMemory> {
     text.push_str(" ")
 }
 
+// Adds the width and the height of a layout.
+fn say_size(text: &mut Text, width: Num, height: Num) -> Result<(), OutOfMemory> {
+    text.push_str("| ")?;
+    say(text, width)?;
+    say(text, height)
+}
+
 // How a layout is spelled.
 fn said(alloc: Global, laid: &Laid) -> Result<Text, OutOfMemory> {
     let mut text = Text::new(alloc);
@@ -106,16 +114,35 @@ fn said(alloc: Global, laid: &Laid) -> Result<Text, OutOfMemory> {
         say(&mut text, place.0)?;
         say(&mut text, place.1)?;
     }
-    text.push_str("| ")?;
-    say(&mut text, laid.width)?;
-    say(&mut text, laid.height)?;
+    say_size(&mut text, laid.width, laid.height)?;
     Ok(text)
 }
 
-// What is found for a tree.
-fn found(alloc: Global, text: &str) -> Result<Text, OutOfMemory> {
+// How a layout with titles is spelled.
+fn said_with_titles(alloc: Global, laid: &LaidWithTitles) -> Result<Text, OutOfMemory> {
+    let mut text = Text::of(alloc, "titles ")?;
+    for place in laid.places.as_slice() {
+        say(&mut text, place.x)?;
+        say(&mut text, place.y)?;
+        say(&mut text, place.width)?;
+    }
+    say_size(&mut text, laid.width, laid.height)?;
+    Ok(text)
+}
+
+// How the layout of a tree is spelled, with titles or without.
+fn answer(alloc: Global, titles: bool, tree: &BoxTree) -> Result<Text, OutOfMemory> {
+    if titles {
+        said_with_titles(alloc, &lay_out_with_titles(alloc, tree)?)
+    } else {
+        said(alloc, &lay_out(alloc, tree)?)
+    }
+}
+
+// What is found for a text.
+fn found(alloc: Global, titles: bool, text: &str) -> Result<Text, OutOfMemory> {
     match tree_by(alloc, text)? {
-        Some(tree) => said(alloc, &lay_out(alloc, &tree)?),
+        Some(tree) => answer(alloc, titles, &tree),
         None => Text::of(alloc, "no tree"),
     }
 }
@@ -127,7 +154,7 @@ fn main(rt: HostRuntime) -> io::Result<()> {
         let line = line?;
         count = count.saturating_add(1);
         if let Some((expected, tree)) = line.as_str().split_once('\t') {
-            match found(alloc, tree) {
+            match found(alloc, expected.starts_with("titles"), tree) {
                 Ok(answer) if answer.as_str() == expected => {}
                 Ok(answer) => println!(rt; "{} at {line}", answer.as_str())?,
                 Err(_) => println!(rt; "no memory at {line}")?,

@@ -5,3 +5,4 @@ mod RunLemmas
 mod PathLemmas
 mod ShapeLemmas
 mod TextLemmas
+mod GroupLemmas

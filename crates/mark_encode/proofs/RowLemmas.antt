@@ -1,26 +1,27 @@
 -- Why rows behind references are those of a mark in order.
-use Rattle.std.proofs.Common.{◌≡◌, ℕ, ◌+◌, ◌<◌, ◌≤◌, List, [], ◌∷◌, ◌++◌, map, filter, length, take, get_or, All, arith}
-use Rattle.std.proofs.Common.{Result, OnOk, refl, sym, ap, ◌∙◌, subst, add-one, take_all}
+use Rattle.std.proofs.Common.{◌≡◌, ℕ, ◌+◌, ◌<◌, ◌≤◌, List, [], ◌∷◌, ◌++◌, map, length, take, get_or, arith}
+use Rattle.std.proofs.Common.{Result, OnOk, sym, ap, ◌∙◌, subst, add-one, take_all}
 use Rattle.std.specs.Borrow.{Bor}
-use Rattle.std.specs.declared.cmp.Ordering.{Ordering}
 use Rattle.std.proofs.Math.Seq.{take-suc}
 use Rattle.std.proofs.lemmas.List.{get_or-map, get_or_default, length-map, map-append}
 use Rattle.std.proofs.lemmas.List.Elements.{All-nil, All-cons, All-append}
 use Rattle.std.proofs.lemmas.Result.{on_ok_weaker}
+use Rattle.cell_value.specs.declared.state.Key.{Key}
 use Rattle.cell_value.specs.declared.state.Keyed.{Keyed}
 use Rattle.cell_value.specs.Datum.{Datum, datum_of}
 use Rattle.cell_value.specs.State.{greatest_id}
-use Rattle.plain_rows.specs.declared.transforms.SortBy.{SortBy}
-use Rattle.plain_groups.specs.Groups.{alike}
-use Rattle.plain_orders.specs.Orders.{in_order, row_order, cells_of}
-use Rattle.plain_orders.specs.Partitions.{datum_at, data_at, ArePartitions}
+use Rattle.plain_rows.specs.Rows.{AreRows}
+use Rattle.plain_orders.specs.Listed.{AreListed}
+use Rattle.plain_orders.specs.Partitions.{datum_at}
+use Rattle.plain_orders.proofs.ListedLemmas.{rows_are_listed}
 use Rattle.mark_encode.specs.Orders.{data_of, HaveIds, ReadAs}
-use Rattle.mark_encode.specs.inner.Firsts.{first_list}
 
 -- the row at a place
-pub row_there : (rows : List Keyed) (p : ℕ) (row : Keyed) → p < length rows → row ≡ get_or rows p row
-    → datum_of row ≡ datum_at (map datum_of rows) p
-row_there rows p row below is = ap datum_of is ∙ sym (get_or-map datum_of rows p row _ below)
+pub row_there : (rows : List (Bor Keyed)) (p : ℕ) (row : Bor Keyed) → p < length rows → row ≡ get_or rows p row
+    → datum_of row.now ≡ datum_at (data_of rows) p
+row_there rows p row below is =
+    let read : Bor Keyed → Datum = λ r. datum_of r.now in
+    ap read is ∙ sym (get_or-map read rows p row _ below)
 
 -- what is read of no rows
 pub none_read : (found : List (Bor Keyed)) → found ≡ [] → ReadAs found []
@@ -73,35 +74,23 @@ pub id_there : (rows : List (Bor Keyed)) (i : ℕ) (row : Bor Keyed) → HaveIds
     → row.now.key.id ≤ greatest_id
 id_there rows i row have within is = subst (λ (r : Bor Keyed). r.now.key.id ≤ greatest_id) (sym is) (have i row within)
 
--- all rows are alike in no field
-all_alike : (x : Datum) (xs : List Datum) → filter (alike cells_of [] x) xs ≡ xs
-all_alike x [] = refl
-all_alike x (y ∷ ys) = ap (λ l. y ∷ l) (all_alike x ys)
+-- listed rows have ids
+key_at : (rows : List (Bor Keyed)) (i : ℕ) (row : Bor Keyed) (k : Key) → i < length rows
+    → get_or (map (λ (d : Datum). d.key) (data_of rows)) i k ≡ (get_or rows i row).now.key
+key_at rows i row k within =
+    let read : Bor Keyed → Datum = λ r. datum_of r.now in
+    get_or-map (λ (d : Datum). d.key) (data_of rows) i (read row) k (omega (arith, within, length-map rows read))
+    ∙ ap (λ (d : Datum). d.key) (get_or-map read rows i row (read row) within)
 
-empty_in_order : (order : Datum → Datum → Ordering) (xs : List Datum) → length xs ≡ 0 → [] ≡ in_order order xs
-empty_in_order order [] e = refl
-empty_in_order order (x ∷ xs) e = absurd (omega (arith, e))
+pub ids_listed : (rows : List (Bor Keyed)) → AreListed (data_of rows) → HaveIds rows
+ids_listed rows are i row within =
+    let read : Bor Keyed → Datum = λ r. datum_of r.now in
+    subst (λ (k : Key). k.id ≤ greatest_id) (key_at rows i row row.now.key within)
+    (are.small_ids i row.now.key (omega (arith, within, length-map rows read, length-map (data_of rows) (λ (d : Datum). d.key))))
 
-module _ (sort : List SortBy) (rows : List Keyed) (lists : List (List ℕ)) where
-  abbrev seen : List Datum
-  seen = map datum_of rows
-
-  -- each home has a list
-  pub homes_within : (homes ranks : List ℕ) → ArePartitions [] sort seen lists homes ranks → All (λ home. home < length lists) homes
-  homes_within homes ranks are k d within =
-      subst (λ home. home < length lists) (get_or_default homes k 0 d within) (are.home k (omega (arith, within, are.homes_long)))
-
-  -- each place in the first list is that of a row
-  pub first_within : (homes ranks : List ℕ) → ArePartitions [] sort seen lists homes ranks
-      → All (λ place. place < length rows) (first_list lists homes)
-  first_within [] ranks are = All-nil (λ place. place < length rows)
-  first_within (home ∷ homes) ranks are =
-      subst (λ n. All (λ place. place < n) (get_or lists home [])) (length-map rows datum_of)
-      (are.places home (are.home 0 (omega (arith, are.homes_long))))
-
-  -- the rows of the first list are all rows in order
-  pub first_shows : (homes ranks : List ℕ) → ArePartitions [] sort seen lists homes ranks
-      → data_at seen (first_list lists homes) ≡ in_order (row_order sort) seen
-  first_shows [] ranks are = empty_in_order (row_order sort) seen (sym are.homes_long)
-  first_shows (home ∷ homes) ranks are =
-      (are.stands 0 (omega (arith, are.homes_long))).partition ∙ all_alike (datum_at seen 0) (in_order (row_order sort) seen)
+-- references that read as rows are listed
+pub listed_as : (found references : List (Bor Keyed)) (rows slice : List Keyed) → found ≡ references → data_of references ≡ map datum_of slice
+    → slice ≡ rows
+    → AreRows rows → AreListed (data_of found)
+listed_as found references rows slice same reads is are =
+    subst AreListed (sym (ap data_of same ∙ reads ∙ ap (map datum_of) is)) (rows_are_listed rows are)

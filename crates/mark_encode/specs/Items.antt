@@ -11,10 +11,12 @@ use Rattle.scene_tree.specs.declared.scene.Item.{Item}
 use Rattle.scene_tree.specs.declared.shape.Shape.{Shape}
 use Rattle.scene_tree.specs.declared.shape.Shape.TheVariants.{Rect}
 use Rattle.scale_kit.specs.declared.scale.ScaleSet.{ScaleSet}
+use Rattle.vega_spec.specs.declared.encode.Encode.{Encode}
 use Rattle.vega_spec.specs.declared.marks.MarkType.{MarkType}
 use Rattle.vega_spec.specs.declared.marks.MarkType.TheVariants as mark
 use Rattle.vega_spec.specs.declared.marks.MarkFrom.{MarkFrom}
 use Rattle.vega_spec.specs.declared.marks.MarkFrom.TheVariants.{Data, Facet}
+use Rattle.vega_spec.specs.declared.orders.Sort.{Sort}
 use Rattle.vega_spec.specs.declared.spec.VgMark.{VgMark, out-VgMark}
 use Rattle.mark_encode.specs.declared.channels.ChannelName.{ChannelName}
 use Rattle.mark_encode.specs.declared.looks.Look.{Look}
@@ -112,11 +114,16 @@ items_by false type unit width height channels values rows = items_for type unit
 abbrev pub items_over : MarkType → ℕ → ℤ → ℤ → (ChannelName → List ScaledValue) → Values → List Datum → Option (List Item)
 items_over type unit width height channels values rows = items_by (is_path type) type unit width height channels values rows
 
--- the items of a mark of this number over rows, in a plot of this width and height; None where a number is out of range
+-- The items of a mark with this type, these encode sets and this order, of this number, over rows in a plot of this width and height: a path
+-- or an item for each row, in its order. None where a number is out of range.
+abbrev pub items_in_order : MarkType → Option Encode → Option Sort → ℕ → ScaleSet → ℤ → ℤ → Values → List Datum → Option (List Item)
+items_in_order type encode sort unit scales width height values rows =
+    items_over type unit width height (channel_values scales encode) values (rows_in_order sort rows)
+
+-- the items of a mark
 abbrev pub items_of : VgMark → ℕ → ScaleSet → ℤ → ℤ → Values → List Datum → Option (List Item)
 items_of m unit scales width height values rows =
-    items_over (out-VgMark m).type_ unit width height (channel_values scales (out-VgMark m).encode) values
-    (rows_in_order (out-VgMark m).sort rows)
+    items_in_order (out-VgMark m).type_ (out-VgMark m).encode (out-VgMark m).sort unit scales width height values rows
 
 -- whether a mark comes from the rows of a data set
 abbrev pub is_from_data : Option MarkFrom → Bool

@@ -11,4 +11,5 @@ pub mod Orders
 pub mod Runs
 pub mod Paths
 pub mod Items
+pub mod Groups
 pub mod inner

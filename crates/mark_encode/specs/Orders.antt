@@ -5,10 +5,11 @@ use Rattle.std.specs.Borrow.{Bor}
 use Rattle.cell_value.specs.declared.cell.Cell.{Cell}
 use Rattle.cell_value.specs.declared.cell.Cell.TheVariants.{Null, Number}
 use Rattle.cell_value.specs.declared.state.Keyed.{Keyed}
-use Rattle.cell_value.specs.Datum.{Datum, datum_of}
+use Rattle.cell_value.specs.Datum.{Datum}
 use Rattle.cell_value.specs.State.{greatest_id}
 use Rattle.plain_rows.specs.declared.transforms.SortBy.{SortBy}
 use Rattle.plain_orders.specs.Orders.{row_order, in_order}
+pub use Rattle.plain_orders.specs.Listed.{data_of}
 use Rattle.vega_spec.specs.declared.orders.Order.{Order}
 use Rattle.vega_spec.specs.declared.orders.Order.TheVariants.{Ascending, Descending}
 use Rattle.vega_spec.specs.declared.orders.Orders.{Orders}
@@ -46,10 +47,6 @@ sort_settings sort = map (setting_of (directions_in sort.order)) (enumerate_from
 abbrev pub rows_in_order : Option Sort → List Datum → List Datum
 rows_in_order None rows = rows
 rows_in_order (Some sort) rows = in_order (row_order (sort_settings sort)) rows
-
--- rows behind references, as they are read
-abbrev pub data_of : List (Bor Keyed) → List Datum
-data_of rows = map (λ row. datum_of row.now) rows
 
 -- each has an id that a row may have
 abbrev pub HaveIds : List (Bor Keyed) → Type 0

@@ -1,20 +1,21 @@
 // The items of marks.
-ghost use Rattle.std.specs.Prelude.{◌≡◌, ◌≤◌, ◌++◌, map, IfOk, OnOk};
+ghost use Rattle.std.specs.Prelude.{◌≡◌, ◌≤◌, ◌++◌, Some, map, IfOk, OnOk};
 ghost use Rattle.std.specs.Option.{option_to_list};
 ghost use Rattle.cell_value.specs.Datum.{datum_of};
 ghost use Rattle.cell_value.specs.State.{greatest_id};
 ghost use Rattle.expr_eval.specs.Answers.{Evaluates};
 ghost use Rattle.plain_rows.specs.Rows.{AreRows};
+ghost use Rattle.plain_orders.specs.Listed.{AreListed};
 ghost use Rattle.scale_kit.specs.Scale.{IsPixel, AreScales};
 ghost use Rattle.mark_encode.specs.Channels.{channel_values};
 ghost use Rattle.mark_encode.specs.Looks.{looks_of};
-ghost use Rattle.mark_encode.specs.Items.{shape_for, picked_key, item_with, items_with, items_for, is_path, items_over, items_of};
+ghost use Rattle.mark_encode.specs.Items.{shape_for, picked_key, item_with, items_with, items_for, is_path, items_over, items_in_order, items_of};
 ghost use Rattle.mark_encode.specs.Orders.{data_of, HaveIds};
 ghost use Rattle.mark_encode.specs.inner.Scaled.{look_values};
 ghost use Rattle.mark_encode.specs.inner.Shapes.{shape_by, row_item};
 
 use crate::looks::{Look, LookChannels, default_stroke_width, look_for, looks_of};
-use crate::orders::rows_in_order;
+use crate::orders::{all_rows, rows_by_sort};
 use crate::paths::path_items;
 use crate::shapes::{ShapeChannels, shape_channels, shape_for};
 use cell_value::{Key, Keyed, Rows};
@@ -24,7 +25,7 @@ use scale_kit::ScaleSet;
 use scene_tree::{Item, Shape};
 use std::alloc::Global;
 use text_kit::{OutOfMemory, Seq};
-use vega_spec::{Encode, MarkType, VgMark};
+use vega_spec::{Encode, MarkType, Sort, VgMark};
 
 /// The values in the channels of a mark of this type.
 #[derive(Drop)]
@@ -202,6 +203,68 @@ fn items_over<P: ParamReader>(
     }
 }
 
+// The items of a mark of a type over rows by its sort.
+fn items_by_sort<P: ParamReader>(
+    alloc: Global,
+    type_: MarkType,
+    encode: &Option<Encode>,
+    sort: &Sort,
+    unit: u32,
+    rows: &[&Keyed],
+    scales: &ScaleSet,
+    width: Num,
+    height: Num,
+    params: &P,
+) -> Result<Seq<Item>, EvalError>
+    requires rows { AreListed (data_of rows.now) }
+    requires scales { AreScales scales.now }
+    ensures { Evaluates result (items_in_order type_ encode.now (Some sort.now) unit scales.now width height (P.values params.now)
+        (data_of rows.now)) }
+{
+    let sorted = rows_by_sort(alloc, rows, sort)?;
+    items_over(
+        alloc,
+        type_,
+        encode,
+        unit,
+        sorted.as_slice(),
+        scales,
+        width,
+        height,
+        params,
+    )
+}
+
+/// The items of a mark with this type, these encode sets and this sort, the `unit`-th of its chart, over rows whose keys rise, with ids of at
+/// most 10^15, and of which there are at most 1,600,000. They are in the order of the sort, or else of the rows: an item for each row that
+/// has its places, numbers and colours, of lines and areas one path. A scale is the first of its name. The plot's size is in pixels.
+/// `Overflow` comes exactly where a number is out of range at one of the rows.
+pub fn items_over_rows<P: ParamReader>(
+    alloc: Global,
+    type_: MarkType,
+    encode: &Option<Encode>,
+    sort: &Option<Sort>,
+    unit: u32,
+    rows: &[&Keyed],
+    scales: &ScaleSet,
+    width: Num,
+    height: Num,
+    params: &P,
+) -> Result<Seq<Item>, EvalError>
+    requires rows { AreListed (data_of rows.now) }
+    requires scales { AreScales scales.now }
+    ensures { Evaluates result (items_in_order type_ encode.now sort.now unit scales.now width height (P.values params.now) (data_of rows.now)) }
+{
+    match sort {
+        Some(sort) => items_by_sort(
+            alloc, type_, encode, sort, unit, rows, scales, width, height, params,
+        ),
+        None => items_over(
+            alloc, type_, encode, unit, rows, scales, width, height, params,
+        ),
+    }
+}
+
 /// The items of a mark that is the `unit`-th of its chart, over rows whose keys rise, with ids of at most 10^15, and of which there are at
 /// most 1,600,000. They are in the order of the mark's sort, or else of the rows: an item for each row that has its places, numbers and
 /// colours, of lines and areas one path. A scale is the first of its name. The plot's size is in pixels, from 0 to 10^11. `Overflow` comes
@@ -222,11 +285,12 @@ pub fn items_of<P: ParamReader>(
     requires height { IsPixel height }
     ensures { Evaluates result (items_of mark.now unit scales.now width height (P.values params.now) (map datum_of rows.now)) }
 {
-    let rows = rows_in_order(alloc, rows.as_slice(), &mark.sort)?;
-    items_over(
+    let rows = all_rows(alloc, rows.as_slice())?;
+    items_over_rows(
         alloc,
         mark.type_,
         &mark.encode,
+        &mark.sort,
         unit,
         rows.as_slice(),
         scales,

@@ -3,6 +3,8 @@
 
 mod channels;
 mod colors;
+mod evaluation;
+mod groups;
 mod items;
 mod looks;
 mod numbers;
@@ -19,4 +21,6 @@ mod symbols;
 mod texts;
 mod values;
 
-pub use items::items_of;
+pub use channels::ChannelName;
+pub use groups::number_encoded;
+pub use items::{items_of, items_over_rows};

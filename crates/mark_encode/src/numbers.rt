@@ -12,9 +12,9 @@ ghost use Rattle.mark_encode.specs.inner.Scaled.{scaled_of, scaled_all};
 
 use crate::channels::Scaled;
 use crate::shown::{Shown, shown_number};
-use crate::values::{cell_for, first_met};
+use crate::values::{cell_over, first_met_over};
 use cell_value::{Cell, Keyed};
-use expr_eval::{EvalError, ParamReader};
+use expr_eval::{EvalError, ParamReader, PlainRow, RowReader};
 use fixed_num::Num;
 use scale_kit::{Indexed, Scale, band_width, base_of};
 use std::alloc::Global;
@@ -203,24 +203,39 @@ pub fn number_by(far: bool, scaled: &Scaled, cell: &Option<Cell>) -> Option<Opti
 }
 
 // The number of a value for a row, in the channel of a far end or in another.
-fn number_for<P: ParamReader>(
+fn number_for<R: RowReader, P: ParamReader>(
     alloc: Global,
     far: bool,
     scaled: &Scaled,
-    row: &Keyed,
+    row: &R,
     params: &P,
 ) -> Result<Option<Num>, EvalError>
-    requires { row.now.key.id ≤ greatest_id }
-    ensures { Evaluates result (number_for far (cell_at row.now) (P.values params.now) (scaled_of scaled.now)) }
+    ensures { Evaluates result (number_for far (R.cells row.now) (P.values params.now) (scaled_of scaled.now)) }
 {
-    let cell = cell_for(alloc, scaled.value, row, params)?;
+    let cell = cell_over(alloc, scaled.value, row, params)?;
     match number_by(far, scaled, &cell) {
         Some(number) => Ok(number),
         None => Err(EvalError::Overflow),
     }
 }
 
-/// The number that a channel shows of a row; of the channels of far ends `far` is true.
+/// The number that a channel shows of any row that can be read; of the channels of far ends `far` is true.
+pub fn number_over<R: RowReader, P: ParamReader>(
+    alloc: Global,
+    far: bool,
+    values: &[Scaled],
+    row: &R,
+    params: &P,
+) -> Result<Shown<Num>, EvalError>
+    ensures { Evaluates result (number_shown far (R.cells row.now) (P.values params.now) (scaled_all values.now)) }
+{
+    let Some(scaled) = first_met_over(alloc, values, row, params)? else {
+        return Ok(Shown::Absent);
+    };
+    Ok(shown_number(number_for(alloc, far, scaled, row, params)?))
+}
+
+/// The number that a channel shows of a row.
 pub fn number_shown<P: ParamReader>(
     alloc: Global,
     far: bool,
@@ -231,8 +246,5 @@ pub fn number_shown<P: ParamReader>(
     requires { row.now.key.id ≤ greatest_id }
     ensures { Evaluates result (number_shown far (cell_at row.now) (P.values params.now) (scaled_all values.now)) }
 {
-    let Some(scaled) = first_met(alloc, values, row, params)? else {
-        return Ok(Shown::Absent);
-    };
-    Ok(shown_number(number_for(alloc, far, scaled, row, params)?))
+    number_over(alloc, far, values, &PlainRow::of(row), params)
 }

@@ -1,15 +1,15 @@
 // The order of the rows of a mark.
-ghost use Rattle.std.specs.Prelude.{◌≡◌, ◌<◌, ◌≤◌, [], ◌∷◌, ◌++◌, map, length, option_copied, All, IfOk, OnOk};
+ghost use Rattle.std.specs.Prelude.{◌≡◌, ◌<◌, ◌≤◌, Some, [], ◌∷◌, ◌++◌, map, length, option_copied, All, IfOk, OnOk};
 ghost use Rattle.cell_value.specs.Datum.{datum_of};
 ghost use Rattle.cell_value.specs.State.{greatest_id};
 ghost use Rattle.plain_rows.specs.Rows.{AreRows};
 ghost use Rattle.plain_orders.specs.Orders.{row_order, in_order};
+ghost use Rattle.plain_orders.specs.Listed.{AreListed};
 ghost use Rattle.plain_orders.specs.Partitions.{datum_at, data_at};
 ghost use Rattle.mark_encode.specs.Orders.{fields_in, directions_in, descends, setting_of, sort_settings, rows_in_order, data_of, HaveIds, ReadAs};
-ghost use Rattle.mark_encode.specs.inner.Firsts.{first_list};
 
 use cell_value::Keyed;
-use plain_orders::{Partitions, partitions_of};
+use plain_orders::places_in_order;
 use plain_rows::SortBy;
 use std::alloc::Global;
 use text_kit::{OutOfMemory, Seq, Text};
@@ -79,8 +79,8 @@ fn push_row<'a>(found: &mut Seq<&'a Keyed>, row: &'a Keyed) -> Result<(), OutOfM
     found.push(row)
 }
 
-// All rows, as they stand.
-fn all_rows(alloc: Global, rows: &[Keyed]) -> Result<Seq<&Keyed>, OutOfMemory>
+/// All rows, as they stand.
+pub fn all_rows(alloc: Global, rows: &[Keyed]) -> Result<Seq<&Keyed>, OutOfMemory>
     requires { AreRows rows.now }
     ensures { IfOk result (λ found. ReadAs found (map datum_of rows.now)) }
 {
@@ -92,24 +92,24 @@ fn all_rows(alloc: Global, rows: &[Keyed]) -> Result<Seq<&Keyed>, OutOfMemory>
 }
 
 // The row at a place.
-fn row_at(rows: &[Keyed], place: usize) -> &Keyed
-    requires rows { AreRows rows.now }
+fn row_at<'a>(rows: &[&'a Keyed], place: usize) -> &'a Keyed
+    requires rows { HaveIds rows.now }
     requires place { place < length rows.now }
-    ensures reads { datum_of result.now ≡ datum_at (map datum_of rows.now) place }
+    ensures reads { datum_of result.now ≡ datum_at (data_of rows.now) place }
     ensures id { result.now.key.id ≤ greatest_id }
 {
-    &rows[place]
+    rows[place]
 }
 
 // The rows at places.
 fn rows_at<'a>(
     alloc: Global,
-    rows: &'a [Keyed],
+    rows: &[&'a Keyed],
     places: &[usize],
 ) -> Result<Seq<&'a Keyed>, OutOfMemory>
-    requires rows { AreRows rows.now }
+    requires rows { HaveIds rows.now }
     requires places { All (λ place. place < length rows.now) places.now }
-    ensures { IfOk result (λ found. ReadAs found (data_at (map datum_of rows.now) places.now)) }
+    ensures { IfOk result (λ found. ReadAs found (data_at (data_of rows.now) places.now)) }
 {
     let mut found = Seq::with_capacity(alloc, places.len())?;
     for place in places {
@@ -118,42 +118,28 @@ fn rows_at<'a>(
     Ok(found)
 }
 
-// The places of the partition of the first row, in order; none without rows.
-fn first_partition(partitions: &Partitions) -> &[usize]
-    requires { All (λ home. home < length partitions.now.lists.items) partitions.now.homes }
-    ensures { result.now ≡ first_list partitions.now.lists.items partitions.now.homes }
-{
-    match partitions.homes.get(0) {
-        Some(home) => partitions.lists[*home].as_slice(),
-        None => &[],
-    }
-}
-
-// The rows by a sort, with ties by key.
+// The rows in the order of settings, with ties by key.
 fn sorted_rows<'a>(
     alloc: Global,
-    rows: &'a [Keyed],
-    sort: &[SortBy],
+    rows: &[&'a Keyed],
+    settings: &[SortBy],
 ) -> Result<Seq<&'a Keyed>, OutOfMemory>
-    requires { AreRows rows.now }
-    ensures { IfOk result (λ found. ReadAs found (in_order (row_order sort.now) (map datum_of rows.now))) }
+    requires { AreListed (data_of rows.now) }
+    ensures { IfOk result (λ found. ReadAs found (in_order (row_order settings.now) (data_of rows.now))) }
 {
-    let partitions = partitions_of(alloc, rows, &[], sort)?;
-    rows_at(alloc, rows, first_partition(&partitions))
+    let places = places_in_order(alloc, rows, settings)?;
+    rows_at(alloc, rows, places.as_slice())
 }
 
-/// The rows of a mark in the order of its sort, with ties by key; without a sort as they stand. Their keys rise, with ids of at most
-/// 10^15, and there are at most 1,600,000 of them.
-pub fn rows_in_order<'a>(
+/// The rows of a mark by its sort, with ties by key.
+pub fn rows_by_sort<'a>(
     alloc: Global,
-    rows: &'a [Keyed],
-    sort: &Option<Sort>,
+    rows: &[&'a Keyed],
+    sort: &Sort,
 ) -> Result<Seq<&'a Keyed>, OutOfMemory>
-    requires { AreRows rows.now }
-    ensures { IfOk result (λ found. ReadAs found (rows_in_order sort.now (map datum_of rows.now))) }
+    requires { AreListed (data_of rows.now) }
+    ensures { IfOk result (λ found. ReadAs found (rows_in_order (Some sort.now) (data_of rows.now))) }
 {
-    match sort {
-        Some(sort) => sorted_rows(alloc, rows, sort_settings(alloc, sort)?.as_slice()),
-        None => all_rows(alloc, rows),
-    }
+    let settings = sort_settings(alloc, sort)?;
+    sorted_rows(alloc, rows, settings.as_slice())
 }

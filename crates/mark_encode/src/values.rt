@@ -7,27 +7,45 @@ ghost use Rattle.mark_encode.specs.Values.{is_met, first_met, cell_for};
 ghost use Rattle.mark_encode.specs.inner.Scaled.{scaled_all, first_of};
 
 use crate::channels::Scaled;
+use crate::evaluation::{eval_over, field_over, test_over};
 use cell_value::{Cell, Keyed};
-use expr_eval::{EvalError, ParamReader};
-use plain_rows::{cell_of, eval_row, eval_test};
+use expr_eval::{EvalError, ParamReader, PlainRow, RowReader};
 use std::alloc::Global;
 use text_kit::Copies;
 use vega_spec::ChannelValue;
 
 // Whether a value counts for a row: its test is met, or it has none.
-fn is_met<P: ParamReader>(
+fn is_met<R: RowReader, P: ParamReader>(
     alloc: Global,
     value: &ChannelValue,
-    row: &Keyed,
+    row: &R,
     params: &P,
 ) -> Result<bool, EvalError>
-    requires { row.now.key.id ≤ greatest_id }
-    ensures { Evaluates result (is_met (cell_at row.now) (P.values params.now) value.now) }
+    ensures { Evaluates result (is_met (R.cells row.now) (P.values params.now) value.now) }
 {
     match &value.test {
-        Some(test) => eval_test(alloc, test, row, params),
+        Some(test) => test_over(alloc, test, row, params),
         None => Ok(true),
     }
+}
+
+/// The first value that counts for any row that can be read, if one does.
+pub fn first_met_over<'a, 'b, R: RowReader, P: ParamReader>(
+    alloc: Global,
+    values: &'b [Scaled<'a>],
+    row: &R,
+    params: &P,
+) -> Result<Option<&'b Scaled<'a>>, EvalError>
+    ensures { Evaluates (first_of result) (first_met (R.cells row.now) (P.values params.now) (scaled_all values.now)) }
+{
+    for value in values {
+        match is_met(alloc, value.value, row, params) {
+            Ok(true) => return Ok(Some(value)),
+            Ok(false) => {}
+            Err(error) => return Err(error),
+        }
+    }
+    Ok(None)
 }
 
 /// The first value that counts for a row, if one does.
@@ -40,17 +58,28 @@ pub fn first_met<'a, 'b, P: ParamReader>(
     requires { row.now.key.id ≤ greatest_id }
     ensures { Evaluates (first_of result) (first_met (cell_at row.now) (P.values params.now) (scaled_all values.now)) }
 {
-    for value in values {
-        match is_met(alloc, value.value, row, params) {
-            Ok(true) => return Ok(Some(value)),
-            Ok(false) => {}
-            Err(error) => return Err(error),
-        }
-    }
-    Ok(None)
+    first_met_over(alloc, values, &PlainRow::of(row), params)
 }
 
-/// The cell that a value has for a row: of its signal, else of its field, else its own.
+/// The cell that a value has for any row that can be read: of its signal, else of its field, else its own.
+pub fn cell_over<R: RowReader, P: ParamReader>(
+    alloc: Global,
+    value: &ChannelValue,
+    row: &R,
+    params: &P,
+) -> Result<Option<Cell>, EvalError>
+    ensures { Evaluates result (cell_for (R.cells row.now) (P.values params.now) value.now) }
+{
+    if let Some(signal) = &value.signal {
+        return Ok(Some(eval_over(alloc, signal, row, params)?));
+    }
+    if let Some(field) = &value.field {
+        return Ok(Some(field_over(alloc, row, field)?));
+    }
+    Ok(Copies::copied(&value.value, alloc)?)
+}
+
+/// The cell that a value has for a row.
 pub fn cell_for<P: ParamReader>(
     alloc: Global,
     value: &ChannelValue,
@@ -60,11 +89,5 @@ pub fn cell_for<P: ParamReader>(
     requires { row.now.key.id ≤ greatest_id }
     ensures { Evaluates result (cell_for (cell_at row.now) (P.values params.now) value.now) }
 {
-    if let Some(signal) = &value.signal {
-        return Ok(Some(eval_row(alloc, signal, row, params)?));
-    }
-    if let Some(field) = &value.field {
-        return Ok(Some(cell_of(row, field.as_str())?));
-    }
-    Ok(Copies::copied(&value.value, alloc)?)
+    cell_over(alloc, value, &PlainRow::of(row), params)
 }

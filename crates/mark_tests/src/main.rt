@@ -1,14 +1,18 @@
 //! A table of marks over three rows, A with 28, B with 55 and C with a text, each with its items: the items, a tab, and the type of the
-//! mark, its enter set, its update set and its sort between tabs. It writes each line of which other items are found, and how many lines
-//! there were. `bench/mark_table.py` writes the table.
+//! mark, its enter set, its update set and its sort between tabs. A line of `group-` and a channel has the number that a group encodes in it
+//! where the facets round it have A, and then B and 28. It writes each line of which something else is found, and how many lines there were.
+//! `bench/mark_table.py` writes the table.
 #![tactic(auto)]
 
 mod building;
+mod groups;
 mod settings;
 mod shown;
 
 use building::{Stop, mark_of};
 use expr_eval::NoParams;
+use fixed_num::Num;
+use groups::number_of;
 use mark_encode::items_of;
 use scene_tree::Item;
 use settings::{count, rows, scales};
@@ -61,12 +65,30 @@ fn said(alloc: Global, items: Result<Seq<Item>, Stop>) -> Result<Text, OutOfMemo
     }
 }
 
-// The items in words that are found for a line, where it expects others.
+// A number in words.
+fn said_of_number(alloc: Global, number: Result<Num, Stop>) -> Result<Text, OutOfMemory> {
+    match number {
+        Ok(number) => Text::of(alloc, number.decimal().as_str()),
+        Err(Stop::Shape) => Text::of(alloc, "unread"),
+        Err(Stop::Overflow) => Text::of(alloc, "overflow"),
+        Err(Stop::Memory) => Err(OutOfMemory),
+    }
+}
+
+// What is found for a line, in words.
+fn found(alloc: Global, line: &Line) -> Result<Text, OutOfMemory> {
+    match line.type_.strip_prefix("group-") {
+        Some(channel) => said_of_number(alloc, number_of(alloc, channel, line.enter, line.update)),
+        None => said(alloc, items(alloc, line)),
+    }
+}
+
+// What is found for a line in words, where it expects something else.
 fn failed(alloc: Global, line: &str) -> Result<Option<Text>, OutOfMemory> {
     let Some(line) = parts_of(line) else {
         return Ok(Some(Text::of(alloc, "unread")?));
     };
-    let found = said(alloc, items(alloc, &line))?;
+    let found = found(alloc, &line)?;
     if found.as_str() == line.expected {
         Ok(None)
     } else {

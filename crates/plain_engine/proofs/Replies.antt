@@ -14,7 +14,7 @@ use Rattle.cell_value.specs.State.{Dataset, State, IsState, dataset_of, state_of
 use Rattle.data_rows.specs.JsonRows.{first_bad}
 use Rattle.fixed_num.specs.Ranges.{◌>>=◌}
 use Rattle.scene_tree.specs.declared.scene.Scene.{Scene}
-use Rattle.scene_tree.specs.Outcome.{Outcome, Drawn, Overflow, Panels, outcome_map, in_reach}
+use Rattle.scene_tree.specs.Outcome.{Outcome, Drawn, Overflow, Panels, outcome_map}
 use Rattle.svg_text.specs.SceneText.{svg_of}
 use Rattle.param_flow.specs.declared.command.ChangeOf.{ChangeOf}
 use Rattle.param_flow.specs.declared.command.Command.{Command}
@@ -29,8 +29,8 @@ use Rattle.param_flow.specs.Machine.{reply_to_set, state_changed, state_if, stat
 use Rattle.param_flow.specs.Machine.{reply_of, state_after}
 use Rattle.vega_spec.specs.declared.spec.VgSpec.{VgSpec}
 use Rattle.vega_spec.specs.Names.{sources_of}
-use Rattle.vega_plots.specs.Plots.{plot_over}
-use Rattle.vega_plots.specs.Tested.{is_plot}
+use Rattle.vega_charts.specs.Tested.{is_chart}
+use Rattle.vega_meaning.specs.Charts.{scene_over}
 use Rattle.vega_meaning.specs.Semantics.{vega_semantics, signals_in, values_in}
 use Rattle.vega_meaning.specs.States.{IsStateOf}
 use Rattle.play_script.specs.Meaning.{Meaning}
@@ -162,7 +162,7 @@ module _ (g : VgSpec) (st : ChartState) (name : List ℕ) (change : ChangeOf) (h
             → reply_to_state (vega_semantics g) (option_map state_now found)
             ≡ reply_to_sources g st.params found
         reply_to_found None = refl
-        reply_to_found (Some sources) = to_drawn (in_reach (plot_over g sources st.params))
+        reply_to_found (Some sources) = to_drawn (scene_over g sources st.params)
 
         -- the reply
         pub replied : reply_at g st.next_id st.params (signals_in g (state_of st)) (map dataset_of st.sources) index change
@@ -196,10 +196,10 @@ module _ (g : VgSpec) (st : ChartState) (signals : List (List ℕ × Cell)) (ind
       subst at (λ i. record { next_id = st.next_id; sources = map dataset_of st.sources; params = st.params; stores = none i }) h.is
 
   -- what is kept after a change that is done
-  pub kept_done : (sources : List Named) (scene : Scene) → is_plot g ≡ true
+  pub kept_done : (sources : List Named) (scene : Scene) → is_chart g ≡ true
       → sources_changed st.next_id signals (map dataset_of st.sources) index change ≡ Some (map dataset_of sources)
       → Done ≡ reply_at g st.next_id st.params signals (map dataset_of st.sources) index change
-      → plot_over g (map dataset_of sources) st.params ≡ Some scene
+      → scene_over g (map dataset_of sources) st.params ≡ Drawn scene
       → (let now : ChartState = record {
         next_id = st.next_id + length change.insert;
         sources = sources;
@@ -208,7 +208,7 @@ module _ (g : VgSpec) (st : ChartState) (signals : List (List ℕ × Cell)) (ind
             st.stores;
       } in
       IsKept g now scene)
-  kept_done sources scene plot changed replied drawn =
+  kept_done sources scene chart changed replied drawn =
       let free = done_is_free _ _ replied in
       let found = some_of (rows_changed st.next_id signals (map dataset_of st.sources) index change) (map dataset_of st.sources)
       (map dataset_of sources) index changed in
@@ -218,7 +218,7 @@ module _ (g : VgSpec) (st : ChartState) (signals : List (List ℕ × Cell)) (ind
       let same = found.2 in
       let at : State → Type 0 = λ st. IsState st in
       record {
-        plot = plot;
+        chart = chart;
         of = record {
           is = subst at (λ i. record {
             next_id = st.next_id + length change.insert;
@@ -231,7 +231,7 @@ module _ (g : VgSpec) (st : ChartState) (signals : List (List ℕ × Cell)) (ind
           params = h.params;
           stores = h.stores;
         };
-        drawn = ap in_reach drawn;
+        drawn = drawn;
       }
 
 -- a state whose sources and scene are as they were is kept

@@ -8,7 +8,7 @@ use Rattle.cell_value.specs.declared.state.ChartState.{ChartState}
 use Rattle.cell_value.specs.declared.state.Params.{Params}
 use Rattle.cell_value.specs.State.{State, IsState, dataset_of, state_of}
 use Rattle.scene_tree.specs.declared.scene.Scene.{Scene}
-use Rattle.scene_tree.specs.Outcome.{in_reach}
+use Rattle.scene_tree.specs.Outcome.{Drawn}
 use Rattle.param_flow.specs.declared.param_error.ParamError.{ParamError}
 use Rattle.param_flow.specs.declared.param_error.ParamError.TheVariants as error
 use Rattle.param_flow.specs.declared.reply.Reply.{Reply}
@@ -23,8 +23,7 @@ use Rattle.vega_spec.specs.declared.names.ParameterKind.{ParameterKind}
 use Rattle.vega_spec.specs.declared.names.ParameterKind.TheVariants as kind
 use Rattle.vega_spec.specs.declared.spec.VgSpec.{VgSpec}
 use Rattle.vega_spec.specs.Names.{parameters_of}
-use Rattle.vega_plots.specs.Plots.{plot_over}
-use Rattle.vega_plots.specs.Tested.{is_plot}
+use Rattle.vega_meaning.specs.Charts.{scene_over}
 use Rattle.vega_meaning.specs.Semantics.{param_kind_of, param_of, vega_semantics}
 use Rattle.vega_meaning.specs.States.{IsStateOf, settable_names}
 use Rattle.plain_engine.specs.inner.Kept.{IsKept}
@@ -62,10 +61,10 @@ names_stay name value (param ∷ params) = ap₂ (λ first rest. first ∷ rest)
 
 -- what is kept once values were put in place
 pub kept_put : (g : VgSpec) (st : ChartState) (scene drawn : Scene) (params : List (List ℕ × Cell)) → IsKept g st scene → names_of params ≡ settable_names (parameters_of g)
-    → plot_over g (map dataset_of st.sources) params ≡ Some drawn
+    → scene_over g (map dataset_of st.sources) params ≡ Drawn drawn
     → (let put : ChartState = record { next_id = st.next_id; sources = st.sources; params = params; stores = st.stores } in IsKept g put drawn)
 kept_put g st scene drawn params h names e = record {
-  plot = h.plot;
+  chart = h.chart;
   of = record {
     is = record {
       ids_read = h.of.is.ids_read;
@@ -81,7 +80,7 @@ kept_put g st scene drawn params h names e = record {
     params = names;
     stores = h.of.stores;
   };
-  drawn = ap in_reach e;
+  drawn = e;
 }
 
 module _ (g : VgSpec) (st : ChartState) (name : List ℕ) (value : Cell) where
@@ -104,11 +103,11 @@ module _ (g : VgSpec) (st : ChartState) (name : List ℕ) (value : Cell) where
     pub values_set : next.params ≡ now
     values_set = ap (λ (params : Params). params.params) (sym both.1)
 
-    pub reply_set : reply_to_chart (in_reach (plot_over g (map dataset_of st.sources) next.params)) ≡ reply_to_set (vega_semantics g) (state_of st) name value
+    pub reply_set : reply_to_chart (scene_over g (map dataset_of st.sources) next.params) ≡ reply_to_set (vega_semantics g) (state_of st) name value
     reply_set =
         let there : meaning.has_settable (vega_semantics g) name ≡ true = same_settable (parameters_of g) name ∙ both.0 in
-        ap (λ params. reply_to_chart (in_reach (plot_over g (map dataset_of st.sources) params))) values_set
-        ∙ sym (to_drawn (in_reach (plot_over g (map dataset_of st.sources) now)))
+        ap (λ params. reply_to_chart (scene_over g (map dataset_of st.sources) params)) values_set
+        ∙ sym (to_drawn (scene_over g (map dataset_of st.sources) now))
         ∙ sym (rw there refl)
 
   -- where none was

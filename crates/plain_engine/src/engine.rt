@@ -2,15 +2,16 @@
 ghost use Rattle.std.specs.Prelude.{◌≡◌, true, Some, IfOk, OnErr};
 ghost use Rattle.cell_value.specs.State.{state_of};
 ghost use Rattle.param_flow.specs.Machine.{reply_to_change, reply_to_set, state_changed, state_if, state_set};
-ghost use Rattle.vega_plots.specs.Tested.{is_plot};
+ghost use Rattle.vega_charts.specs.Tested.{is_chart};
 ghost use Rattle.vega_meaning.specs.Semantics.{vega_semantics, values_in};
 ghost use Rattle.vega_meaning.specs.States.{IsStateOf};
 ghost use Rattle.plain_engine.specs.inner.Kept.{IsKept, IsKept-prop};
 
 use crate::json_rows::first_bad;
 use crate::mentions::mentions_params;
+use crate::scenes::scene_of_state;
 use crate::settings::set_param;
-use crate::sources::{change_source, place_of, scene_of_state};
+use crate::sources::{change_source, place_of};
 use cell_value::{Cell, ChartState, Steps};
 use chart_io::{Sink, WriteFault};
 use param_flow::{Cause, ChangeOf, Command, Reply};
@@ -35,9 +36,9 @@ pub struct PlainEngine {
 impl PlainEngine {
     ghost use Rattle.plain_engine.specs.Engine.{meaning_of, Opens};
 
-    /// Opens a specification that is a plot in a state of it. `Overflow` and `Panels` come exactly where its chart is that.
+    /// Opens a specification that has a meaning so far in a state of it. `Overflow` and `Panels` come exactly where its chart is that.
     pub fn open(alloc: Global, g: VgSpec, st: ChartState) -> Result<PlainEngine, OpenError>
-        requires built { is_plot g ≡ true }
+        requires built { is_chart g ≡ true }
         requires state { IsStateOf g (state_of st) }
         ensures { Opens (record { spec = g; state = state_of st }) result }
     {

@@ -4,6 +4,7 @@
 mod engine;
 mod json_rows;
 mod mentions;
+mod scenes;
 mod settings;
 mod sources;
 

@@ -2,21 +2,20 @@
 ghost use Rattle.std.specs.Prelude.{◌≡◌, Some, map, IfOk, OnErr};
 ghost use Rattle.cell_value.specs.State.{dataset_of, state_of};
 ghost use Rattle.param_flow.specs.Machine.{reply_to_chart, reply_to_set, state_if, state_set};
-ghost use Rattle.scene_tree.specs.Outcome.{in_reach};
-ghost use Rattle.vega_plots.specs.Plots.{plot_over};
 ghost use Rattle.vega_spec.specs.Names.{parameters_of};
+ghost use Rattle.vega_meaning.specs.Charts.{scene_over};
 ghost use Rattle.vega_meaning.specs.Semantics.{vega_semantics};
 ghost use Rattle.vega_meaning.specs.States.{settable_names};
 ghost use Rattle.plain_engine.specs.inner.Kept.{IsKept};
 ghost use Rattle.plain_engine.specs.inner.Settings.{names_of, state_if_put};
 
+use crate::scenes::scene_over;
 use cell_value::{Cell, ChartState, Params};
-use expr_eval::EvalError;
 use param_flow::{Cause, ParamError, Reply, set};
 use scene_tree::Scene;
 use std::alloc::Global;
 use text_kit::{OutOfMemory, Seq, Text, copy_list};
-use vega_plots::scene_of;
+use vega_meaning::OpenError;
 use vega_spec::VgSpec;
 
 // Copies of the values of the parameters and of what the selections hold in a state.
@@ -39,19 +38,20 @@ fn put_params(
 ) -> Result<Reply, OutOfMemory>
     requires kept { IsKept g.now st.old scene.old }
     requires names { names_of params ≡ settable_names (parameters_of g.now) }
-    ensures reply { IfOk result (λ reply. reply ≡ reply_to_chart (in_reach (plot_over g.now (map dataset_of st.old.sources) params))) }
+    ensures reply { IfOk result (λ reply. reply ≡ reply_to_chart (scene_over g.now (map dataset_of st.old.sources) params)) }
     ensures done { IfOk result (λ reply. state_of st.new ≡ state_if_put reply (state_of st.old) params) }
     ensures memory { OnErr result (st.new ≡ st.old) }
     ensures kept { IsKept g.now st.new scene.new }
 {
-    match scene_of(alloc, g, st.sources.as_slice(), params.as_slice()) {
+    match scene_over(alloc, g, st.sources.as_slice(), params.as_slice()) {
         Ok(drawn) => {
             st.params = params;
             *scene = drawn;
             Ok(Reply::Done)
         }
-        Err(EvalError::Overflow) => Ok(Reply::Refused(Cause::Overflow)),
-        Err(EvalError::Memory) => Err(OutOfMemory),
+        Err(OpenError::Overflow) => Ok(Reply::Refused(Cause::Overflow)),
+        Err(OpenError::Panels(_)) => Ok(Reply::Refused(Cause::Limit)),
+        Err(OpenError::Memory) => Err(OutOfMemory),
     }
 }
 

@@ -3,13 +3,10 @@ ghost use Rattle.std.specs.Prelude.{◌≡◌, ◌≤◌, ◌<◌, ◌+◌, ◌+
 ghost use Rattle.std.specs.Str.{bytes_eq};
 ghost use Rattle.cell_value.specs.State.{IsState, state_of, dataset_of, most_rows, greatest_id};
 ghost use Rattle.vega_lists.specs.Held.{AreSources};
-ghost use Rattle.vega_plots.specs.Tested.{is_plot};
-ghost use Rattle.vega_plots.specs.Plots.{plot_over};
-ghost use Rattle.vega_meaning.specs.Answers.{Draws};
-ghost use Rattle.vega_meaning.specs.Charts.{vega_scene_of};
+ghost use Rattle.vega_charts.specs.Tested.{is_chart};
+ghost use Rattle.vega_meaning.specs.Charts.{scene_over};
 ghost use Rattle.vega_meaning.specs.Semantics.{signals_in};
 ghost use Rattle.param_flow.specs.Machine.{state_if, reply_to_chart};
-ghost use Rattle.scene_tree.specs.Outcome.{in_reach};
 ghost use Rattle.row_edits.specs.Edits.{edited};
 ghost use Rattle.row_edits.specs.Marks.{taken_back};
 ghost use Rattle.plain_engine.specs.inner.Kept.{IsKept};
@@ -17,6 +14,7 @@ ghost use Rattle.plain_engine.specs.inner.Sources.{rows_at, with_rows, state_in,
 ghost use Rattle.plain_engine.specs.inner.Sources.{sources_if, IsLeft, IsShown};
 
 use crate::json_rows::new_rows;
+use crate::scenes::scene_over;
 use cell_value::{Cell, ChartState, Keyed, Named, Rows};
 use expr_eval::EvalError;
 use param_flow::{Cause, ChangeOf, Reply};
@@ -26,7 +24,6 @@ use std::alloc::Global;
 use std::mem::replace;
 use text_kit::{OutOfMemory, Seq, Text};
 use vega_meaning::OpenError;
-use vega_plots::scene_of;
 use vega_signals::{PlotParams, signal_values};
 use vega_spec::VgSpec;
 
@@ -74,22 +71,9 @@ fn is_past_limit(next_id: u64, staying: usize, more: usize) -> bool
     more > MOST_ROWS - staying || more as u64 > GREATEST_ID + 1 - next_id
 }
 
-/// The scene of a specification over a state of it.
-pub fn scene_of_state(alloc: Global, g: &VgSpec, st: &ChartState) -> Result<Scene, OpenError>
-    requires built { is_plot g.now ≡ true }
-    requires state { IsState (state_of st.now) }
-    ensures { Draws (vega_scene_of g.now (state_of st.now)) result }
-{
-    match scene_of(alloc, g, st.sources.as_slice(), st.params.as_slice()) {
-        Ok(scene) => Ok(scene),
-        Err(EvalError::Overflow) => Err(OpenError::Overflow),
-        Err(EvalError::Memory) => Err(OpenError::Memory),
-    }
-}
-
 // The values of the signals in a state of a specification; none where one of them is out of range.
 fn signals_in(alloc: Global, g: &VgSpec, st: &ChartState) -> Result<Seq<(Text, Cell)>, OutOfMemory>
-    requires built { is_plot g.now ≡ true }
+    requires built { is_chart g.now ≡ true }
     requires state { IsState (state_of st.now) }
     ensures { IfOk result (λ signals. signals ≡ signals_in g.now (state_of st.now)) }
 {
@@ -140,28 +124,32 @@ fn put_rows(
     edits: Seq<Edit>,
     more: Rows,
 ) -> Result<Reply, OutOfMemory>
-    requires built { is_plot g.now ≡ true }
+    requires built { is_chart g.now ≡ true }
     requires within { index < length sources.old }
     requires each { length edits ≡ length (rows_at sources.old index) }
     requires fit { AreSources (with_rows sources.old index (edited edits (rows_at sources.old index) ++ more)) }
-    ensures reply { IfOk result (λ reply. reply ≡ reply_to_chart (in_reach
-        (plot_over g.now (map dataset_of (with_rows sources.old index (edited edits (rows_at sources.old index) ++ more))) params.now))) }
+    ensures reply { IfOk result (λ reply. reply ≡ reply_to_chart
+        (scene_over g.now (map dataset_of (with_rows sources.old index (edited edits (rows_at sources.old index) ++ more))) params.now)) }
     ensures sources { IfOk result (λ reply. sources.new
         ≡ sources_if reply sources.old (with_rows sources.old index (edited edits (rows_at sources.old index) ++ more))) }
     ensures drawn { IfOk result (λ reply. IsShown reply g.now params.now sources.new scene.old scene.new) }
     ensures kept { OnErr result ((sources.new ≡ sources.old) × (scene.new ≡ scene.old)) }
 {
     let undo = commit_at(alloc, sources, index, edits, more)?;
-    match scene_of(alloc, g, sources, params) {
+    match scene_over(alloc, g, sources, params) {
         Ok(drawn) => {
             *scene = drawn;
             Ok(Reply::Done)
         }
-        Err(EvalError::Overflow) => {
+        Err(OpenError::Overflow) => {
             take_back_at(alloc, sources, index, undo);
             Ok(Reply::Refused(Cause::Overflow))
         }
-        Err(EvalError::Memory) => {
+        Err(OpenError::Panels(_)) => {
+            take_back_at(alloc, sources, index, undo);
+            Ok(Reply::Refused(Cause::Limit))
+        }
+        Err(OpenError::Memory) => {
             take_back_at(alloc, sources, index, undo);
             Err(OutOfMemory)
         }
@@ -180,7 +168,7 @@ fn change_rows(
     next_id: u64,
     change: &ChangeOf,
 ) -> Result<Reply, OutOfMemory>
-    requires built { is_plot g.now ≡ true }
+    requires built { is_chart g.now ≡ true }
     requires within { index < length sources.old }
     requires state { IsState (state_in next_id params.now (map dataset_of sources.old)) }
     ensures reply { IfOk result (λ reply. reply ≡ reply_at g.now next_id params.now signals.now

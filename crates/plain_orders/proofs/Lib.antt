@@ -4,3 +4,4 @@ mod RankLemmas
 pub mod OrderLemmas
 mod KeyOrder
 mod PartitionLemmas
+pub mod ListedLemmas

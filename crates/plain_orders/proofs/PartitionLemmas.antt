@@ -67,7 +67,7 @@ length_in_order : (es : List Entry) → length (in_order entry_cmp es) ≡ lengt
 length_in_order [] = refl
 length_in_order (e ∷ es) = omega (arith, length_placed e (in_order entry_cmp es), length_in_order es)
 
-each_all : (P : ℕ → Type 0) (qs : List ℕ) → Each P qs → All P qs
+pub each_all : (P : ℕ → Type 0) (qs : List ℕ) → Each P qs → All P qs
 each_all P [] e = All-nil P
 each_all P (q ∷ qs) e = All-cons P q qs e.0 (each_all P qs e.1)
 
@@ -160,13 +160,13 @@ module _ (rows : List Keyed) (are : AreRows rows) (groupby : List (List ℕ)) (s
       ∙ ap₂ entry_cmp (sym h.1) (sym k.1)
 
   -- the rows at the places in order are the rows in order
-  order_shows : data_at seen order ≡ in_order (row_order sort) seen
+  pub order_shows : data_at seen order ≡ in_order (row_order sort) seen
   order_shows =
       seen_twice (datum_at seen) place_of (in_order entry_cmp made)
       ∙ map_in_order entry_cmp (row_order sort) row_of IsEntry agree made (entries_are [] rows 0 refl refl)
       ∙ ap (in_order (row_order sort)) (entries_show [] rows 0 refl refl)
 
-  order_within : Each (λ p. p < n) order
+  pub order_within : Each (λ p. p < n) order
   order_within =
       each_place (λ p. p < n) (in_order entry_cmp made)
       (each_kept IsEntry (λ (e : Entry). e.place < n) (λ e h. h.0) (in_order entry_cmp made)

@@ -1,3 +1,4 @@
 pub mod Orders
+pub mod Listed
 pub mod Partitions
 pub mod inner

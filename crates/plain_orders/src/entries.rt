@@ -177,8 +177,13 @@ fn behind_first(sort: &[SortBy]) -> &[SortBy]
     }
 }
 
-// A row at a place as it is sorted.
-fn entry_of(alloc: Global, row: &Keyed, place: usize, sort: &[SortBy]) -> Result<Entry, OutOfMemory>
+/// A row at a place as it is sorted.
+pub(crate) fn entry_of(
+    alloc: Global,
+    row: &Keyed,
+    place: usize,
+    sort: &[SortBy],
+) -> Result<Entry, OutOfMemory>
     requires { row.now.key.id ≤ greatest_id }
     ensures { IfOk result (λ entry. entry ≡ entry_of sort.now place (cell_at row.now)) }
 {
@@ -205,8 +210,8 @@ fn entries(alloc: Global, rows: &[Keyed], sort: &[SortBy]) -> Result<Vec<Entry>,
     Ok(entries)
 }
 
-// The entries in order.
-fn sorted(entries: Vec<Entry>) -> Vec<Entry>
+/// The entries in order.
+pub(crate) fn sorted(entries: Vec<Entry>) -> Vec<Entry>
     ensures { result.items ≡ in_order entry_cmp entries.items }
 {
     let mut entries = entries;
@@ -214,8 +219,8 @@ fn sorted(entries: Vec<Entry>) -> Vec<Entry>
     entries
 }
 
-// The places of entries.
-fn places(alloc: Global, entries: &[Entry]) -> Result<Seq<usize>, OutOfMemory>
+/// The places of entries.
+pub(crate) fn places(alloc: Global, entries: &[Entry]) -> Result<Seq<usize>, OutOfMemory>
     ensures { IfOk result (λ places. places ≡ map (λ (entry : Entry). entry.place) entries.now) }
 {
     let mut places = Seq::with_capacity(alloc, entries.len())?;

@@ -2,6 +2,8 @@
 #![tactic(auto)]
 
 mod entries;
+mod listed;
 mod partitions;
 
+pub use listed::places_in_order;
 pub use partitions::{Partitions, partitions_of};

@@ -2,3 +2,4 @@ mod LastLemmas
 mod HitLemmas
 mod ExtentLemmas
 mod SquareLemmas
+mod MoveLemmas

@@ -1,4 +1,5 @@
 pub mod Outcome
 pub mod Hits
 pub mod HitExamples
+pub mod Moves
 pub mod inner

@@ -1,4 +1,4 @@
-mod AxisLemmas
+pub mod AxisLemmas
 pub mod BareLaw
 mod LeafLemmas
 pub mod TestedLaw

@@ -62,8 +62,8 @@ fn guide_of(
     }
 }
 
-// No axes, where so much extends beyond the plot.
-fn no_axes(alloc: Global, extents: Extents) -> Axes
+/// No axes, where so much extends beyond the plot.
+pub fn no_axes(alloc: Global, extents: Extents) -> Axes
     ensures { result ≡ no_axes extents }
 {
     Axes {
@@ -73,8 +73,8 @@ fn no_axes(alloc: Global, extents: Extents) -> Axes
     }
 }
 
-// One axis outside what extends beyond the plot at its side.
-fn one_axis(side: Side, before: &Extents, guide: Guide) -> Axes
+/// One axis outside what extends beyond the plot at its side.
+pub fn one_axis(side: Side, before: &Extents, guide: Guide) -> Axes
     ensures { result ≡ one_axis side before.now guide }
 {
     let Guide {
@@ -106,8 +106,8 @@ fn axis_outside(
     Ok(one_axis(axis.orient, before, guide))
 }
 
-// Some axes, and then others outside them.
-fn and_then(inner: Axes, outer: Axes) -> Result<Axes, OutOfMemory>
+/// Some axes, and then others outside them.
+pub fn and_then(inner: Axes, outer: Axes) -> Result<Axes, OutOfMemory>
     ensures { IfOk result (λ axes. axes ≡ and_then inner outer) }
 {
     let Axes {
@@ -129,8 +129,8 @@ fn and_then(inner: Axes, outer: Axes) -> Result<Axes, OutOfMemory>
     })
 }
 
-// Whether an axis runs along x, or along y.
-fn along(x: bool, axis: &Axis) -> bool
+/// Whether an axis runs along x, or along y.
+pub fn along(x: bool, axis: &Axis) -> bool
     ensures { result ≡ along x axis.now }
 {
     if x {

@@ -33,7 +33,7 @@ pub(crate) fn channel_of(channel: LegendChannel) -> u16
 }
 
 /// The name of the scale that a legend shows in a channel, if it does.
-pub(crate) fn scale_shown(channel: LegendChannel, legend: &Legend) -> &Option<Text>
+pub fn scale_shown(channel: LegendChannel, legend: &Legend) -> &Option<Text>
     ensures { result.now ≡ scale_shown channel legend.now }
 {
     match channel {

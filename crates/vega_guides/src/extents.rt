@@ -20,7 +20,7 @@ pub struct Extents {
 }
 
 /// Where nothing extends beyond a plot.
-pub(crate) fn no_extents() -> Extents
+pub fn no_extents() -> Extents
     ensures { result ≡ no_extents }
 {
     Extents {
@@ -32,7 +32,7 @@ pub(crate) fn no_extents() -> Extents
 }
 
 /// How far it extends at a side.
-pub(crate) fn at_side(side: Side, extents: &Extents) -> Num
+pub fn at_side(side: Side, extents: &Extents) -> Num
     ensures { result ≡ at_side side extents.now }
 {
     match side {
@@ -44,7 +44,7 @@ pub(crate) fn at_side(side: Side, extents: &Extents) -> Num
 }
 
 /// The extents with one more outside those at a side.
-pub(crate) fn widened(side: Side, more: Num, extents: &Extents) -> Extents
+pub fn widened(side: Side, more: Num, extents: &Extents) -> Extents
     ensures { result ≡ widened side more extents.now }
 {
     match side {

@@ -14,8 +14,8 @@ use std::alloc::Global;
 use text_kit::{Copies, OutOfMemory, Seq, Text};
 use vega_spec::Legend;
 
-// A legend in a channel.
-fn legend_shown(
+/// A legend in a channel.
+pub fn legend_shown(
     alloc: Global,
     channel: LegendChannel,
     legend: &Legend,

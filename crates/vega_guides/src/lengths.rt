@@ -78,14 +78,14 @@ pub(crate) fn beyond(a: Num, b: Num) -> Num
 }
 
 /// The space between the content and legends, and between legends.
-pub(crate) fn gap() -> Num
+pub fn gap() -> Num
     ensures { result ≡ gap }
 {
     number(18_000_000)
 }
 
 /// The space that a title takes above.
-pub(crate) fn title_space() -> Num
+pub fn title_space() -> Num
     ensures { result ≡ title_space }
 {
     number(23_000_000)

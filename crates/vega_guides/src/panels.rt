@@ -36,8 +36,8 @@ fn next_top(y: Num, block: &Block) -> Num
     plus(plus(y, block.height), gap())
 }
 
-// Adds legends one below the other, the first with its corner at `x`, `y`.
-fn push_legends(
+/// Adds legends one below the other with gaps of 18 pixels, the first with its corner at `x`, `y`.
+pub fn push_legends(
     x: Num,
     y: Num,
     blocks: Seq<Block>,
@@ -89,8 +89,8 @@ fn farther_down(most: Num, panel: &Panel) -> Num
     greater(most, lower_end(panel))
 }
 
-// How far panels and what reaches so far to the right reach together.
-fn reach_right(far: Num, panels: &[Panel]) -> Num
+/// How far panels and what reaches so far to the right reach together.
+pub fn reach_right(far: Num, panels: &[Panel]) -> Num
     ensures { result ≡ reach_right far panels.now }
 {
     let mut most = far;
@@ -100,8 +100,8 @@ fn reach_right(far: Num, panels: &[Panel]) -> Num
     most
 }
 
-// How far panels and what reaches so far down reach together.
-fn reach_down(far: Num, panels: &[Panel]) -> Num
+/// How far panels and what reaches so far down reach together.
+pub fn reach_down(far: Num, panels: &[Panel]) -> Num
     ensures { result ≡ reach_down far panels.now }
 {
     let mut most = far;
@@ -111,8 +111,8 @@ fn reach_down(far: Num, panels: &[Panel]) -> Num
     most
 }
 
-// A plot with what extends beyond its sides, as a box.
-fn box_of(size: &(Num, Num), extents: &Extents) -> BoxOf
+/// A plot of this size in pixels with what extends beyond its sides, as a box.
+pub fn box_of(size: &(Num, Num), extents: &Extents) -> BoxOf
     ensures { result ≡ box_of size.now.0 size.now.1 extents.now }
 {
     BoxOf {

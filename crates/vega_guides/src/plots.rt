@@ -59,8 +59,8 @@ pub fn has_kept_axes(group: &Group) -> bool
     axes_in(group).iter().all(is_kept_axis)
 }
 
-// Adds the title of a plot of this width, above what extends above it.
-fn push_title(
+/// Adds the title of a plot of this width in pixels, above what extends above it, if it has one.
+pub fn push_title(
     alloc: Global,
     title: &Option<Text>,
     width: Num,
@@ -75,8 +75,8 @@ fn push_title(
     }
 }
 
-// The extents with the title.
-fn with_title(title: &Option<Text>, extents: &Extents) -> Extents
+/// The extents with the title, if there is one.
+pub fn with_title(title: &Option<Text>, extents: &Extents) -> Extents
     ensures { result ≡ with_title title.now extents.now }
 {
     match title {

@@ -65,8 +65,8 @@ fn are_turned(angle: Option<Num>) -> bool
     }
 }
 
-// The whole part of a number from 1 to 1,000.
-fn whole_of(number: Num) -> u32
+/// The whole part of a number from 1 to 1,000.
+pub fn whole_of(number: Num) -> u32
     requires { IsCount number }
     ensures value { result ≡ whole_of number }
     ensures some { 1 ≤ result }
@@ -98,7 +98,7 @@ fn flag_or(given: Option<bool>, absent: bool) -> bool
 }
 
 /// An axis with what it leaves out.
-pub(crate) fn axis_shown(alloc: Global, axis: &Axis) -> Result<AxisOf, OutOfMemory>
+pub fn axis_shown(alloc: Global, axis: &Axis) -> Result<AxisOf, OutOfMemory>
     requires { IsAxis axis.now }
     ensures value { IfOk result (λ shown. shown ≡ axis_shown axis.now) }
     ensures bounds { IfOk result (λ shown. IfSome shown.count (λ n. (1 ≤ n) × (n ≤ 1000))) }

@@ -8,14 +8,15 @@ use Rattle.std.proofs.lemmas.List.Elements.{All-cons, All-nil}
 use Rattle.cell_value.specs.declared.state.Key.{Key}
 use Rattle.cell_value.specs.declared.state.Keyed.{Keyed}
 use Rattle.cell_value.specs.declared.state.Named.{Named}
-use Rattle.cell_value.specs.State.{greatest_id}
+use Rattle.cell_value.specs.State.{greatest_id, most_rows}
 use Rattle.plain_rows.specs.Rows.{AreRows, AreKeys, IsBefore, keys_of}
 use Rattle.vega_spec.specs.declared.data.DataSet.{DataSet}
 use Rattle.vega_spec.specs.declared.transforms.Transform.{Transform}
 use Rattle.vega_lists.specs.Transforms.{is_kept, transforms_of, OfTransforms}
-use Rattle.vega_lists.specs.Products.{Products, KeysFit, FoldsFit, no_folds, fold_length, fold_product, fold_products, begun_product, and_its_product}
-use Rattle.vega_lists.specs.Held.{AreSources}
-use Rattle.vega_list_tests.specs.Plain.{IsPlain, IsPlainSet}
+use Rattle.vega_lists.specs.Products.{Products, KeysFit, FoldsFit, no_folds, fold_length, fold_product, fold_products, begun_product, and_its_product, products_after}
+use Rattle.vega_lists.specs.Inside.{RowsByName, no_rows, AllKeysFit, SetsMayFold}
+use Rattle.vega_lists.specs.Held.{AreSources, AreAllRows}
+use Rattle.vega_list_tests.specs.Plain.{IsPlain, IsPlainSet, ArePlainRows}
 
 abbrev numbered : ℕ → Key
 numbered id = record { id = id; branch = 0 }
@@ -95,3 +96,40 @@ folds_one products (set ∷ others) small each =
 
 pub plain_folds : (sets : List DataSet) → All IsPlainSet sets → FoldsFit no_folds sets
 plain_folds sets each = folds_one no_folds sets (λ name. lit≤ tt) each
+
+products_after_one : (products : Products) (sets : List DataSet) → ((name : List ℕ) → products name ≤ 1) → All IsPlainSet sets → (name : List ℕ) → products_after products sets name ≤ 1
+products_after_one products [] small each = small
+products_after_one products (set ∷ others) small each =
+    let begun = begun_one products set small in
+    products_after_one (and_its_product products set) others
+    (λ name. either_one (bytes_eq set.name name) (fold_product (begun_product products set) (transforms_of set)) (products name)
+    (product_one (begun_product products set) (transforms_of set) begun (each 0 set (omega arith))) (small name))
+    (λ k d lt. each (suc k) d (omega arith))
+
+fits_one : (n : ℕ) (keys : List Key) → n ≤ 1 → KeysFit n keys → KeysFit 1 keys
+fits_one n keys small fits =
+    let more : n * most_rows ≤ 1 * most_rows = mul-le-mul_right most_rows small in
+    let same : most_rows * n ≡ n * most_rows = grind arith in
+    record { few = omega (arith, fits.few, more, same); branches = λ k d lt. let below = fits.branches k d lt in omega (arith, below, small) }
+
+none_are_rows : AreRows []
+none_are_rows = record {
+  rise = λ i j key less below. absurd (omega (arith, below));
+  small_ids = λ k key below. absurd (omega (arith, below));
+  few = lit≤ tt;
+}
+
+pub no_rows_are_plain : ArePlainRows no_rows
+no_rows_are_plain = record {
+  are = λ name. none_are_rows;
+  fit = λ name. record { few = omega arith; branches = λ k d lt. absurd (omega (arith, lt)) };
+}
+
+pub plain_sets_fold : (rows : RowsByName) (sets : List DataSet) → ArePlainRows rows → All IsPlainSet sets → SetsMayFold rows sets
+plain_sets_fold rows sets plain each = (no_folds, plain.fit, plain_folds sets each)
+
+pub plain_after : (rows : RowsByName) (sets : List DataSet) → All IsPlainSet sets → AreAllRows rows → AllKeysFit (products_after no_folds sets) rows → ArePlainRows rows
+plain_after rows sets each are fit = record {
+  are = are;
+  fit = λ name. fits_one (products_after no_folds sets name) (keys_of (rows name)) (products_after_one no_folds sets (λ n. lit≤ tt) each name) (fit name);
+}

@@ -2,10 +2,11 @@
 // of its source, if it has one, and its transforms: an expression alone is a filter, one under a name a formula, and `look N` a lookup of `a` in
 // the list N, whose rows have the same `k`. The others are of the ids: `bins` from 0 to 10, `extent` as the signal `reach`, `years`, and by `a`
 // `group` and `join` with their counts, `stack`, and `window` with the sum so far. Behind the data sets stand a name and the ids of its rows,
-// which were found apart.
+// which were found apart. Where two objects are given, one in the other, a bar of two strokes stands between their data sets.
 ghost use Rattle.std.specs.Prelude.{◌≡◌, All, IfOk, IfSome, length};
 ghost use Rattle.vega_lists.specs.Held.{AreSources};
-ghost use Rattle.vega_list_tests.specs.Plain.{IsPlain, IsPlainSet};
+ghost use Rattle.vega_lists.specs.Inside.{rows_inside};
+ghost use Rattle.vega_list_tests.specs.Plain.{IsPlain, IsPlainSet, ArePlainRows};
 
 use cell_value::{Cell, Key, Keyed, Named, Row, Rows};
 use expr_eval::{EvalError, NoParams};
@@ -14,7 +15,7 @@ use fixed_num::Num;
 use std::alloc::Global;
 use std::test::Fail;
 use text_kit::{OutOfMemory, Seq, Text};
-use vega_lists::lists_of;
+use vega_lists::{ListReader, Lists, ListsInside, NoLists, lists_inside, lists_of};
 use vega_spec::{
     Aggregate, Bin, BinExtent, DataSet, Extent, Filter, Formula, Lookup, Stack, TimeUnit,
     Transform, Window,
@@ -43,6 +44,18 @@ t: a = datum._vgsid_ % 2; join; datum.count == 2 -> t 1 3\n\
 t: a = datum._vgsid_ % 2; stack; datum.y0 == 1 && datum.y1 == 4 -> t 3\n\
 t: a = datum._vgsid_ % 2; window; datum.sum__vgsid_ == 4 -> t 3\n\
 t: years; datum.unit0 == 0 && datum.unit1 == 31536000000 -> t 1 2 3\n";
+
+const INSIDE: &str = "\
+t: datum._vgsid_ > 1 || u of t -> u 2 3\n\
+t: datum._vgsid_ > 1 || u of t -> t 2 3\n\
+t: datum._vgsid_ > 1 || t of t: datum._vgsid_ < 3 -> t 2\n\
+t: datum._vgsid_ > 1 || t -> t 1 2 3\n\
+t | u of t || u -> u\n\
+t || u of w -> u\n\
+t | u of t || t of u: datum._vgsid_ > 2 | v of t -> v 3\n\
+t | u of t: k = datum._vgsid_ - 1; a = 'x' || v of t: k = datum._vgsid_; look u; datum.a == 'x' -> v 1 2\n\
+t | u of t: k = datum._vgsid_; a = 'x' || v of u: look v; datum.a == null -> v 1 2 3\n\
+t || u of t: a = 1000000000000000 + datum._vgsid_ -> t overflow\n";
 
 fn bare(alloc: Global, id: u64) -> Keyed
     ensures { result.key ≡ record { id = id; branch = 0 } }
@@ -330,6 +343,49 @@ fn answered(alloc: Global, line: &str, name: &str) -> Result<Text, Stop> {
     Ok(ids_found(alloc, lists.find(sources.as_slice(), name))?)
 }
 
+// The lists of data sets in others, all without folds.
+fn plain_inside<O: ListReader>(
+    alloc: Global,
+    sources: &[Named],
+    outer: &O,
+    line: &str,
+) -> Result<Lists, Stop>
+    requires sources { AreSources sources.now }
+    requires outer { ArePlainRows (O.named outer.now) }
+    ensures { IfOk result (λ lists. ArePlainRows (rows_inside sources.now (O.named outer.now) lists)) }
+{
+    let sets = sets_of(alloc, line)?;
+    Ok(lists_inside(alloc, sources, outer, sets.as_slice(), &NoParams)?)
+}
+
+fn ids_read<O: ListReader>(alloc: Global, lists: &O, name: &str) -> Result<Text, OutOfMemory> {
+    let mut out = Text::new(alloc);
+    for row in lists.rows(alloc, name)?.as_slice() {
+        out.push_str(format!(in alloc; " {}", row.key.id)?.as_str())?;
+    }
+    Ok(out)
+}
+
+// The ids of the list for which a name stands in the inner of two objects.
+#[tactic(auto, using(crate::proofs::TestSources::no_rows_are_plain))]
+fn answered_inside(alloc: Global, line: &str, name: &str) -> Result<Text, Stop> {
+    let sources = sources(alloc)?;
+    let (round, own) = line.split_once(" || ").unwrap_or((line, ""));
+    let top = plain_inside(alloc, sources.as_slice(), &NoLists, round)?;
+    let outer = ListsInside {
+        sources: sources.as_slice(),
+        outer: &NoLists,
+        lists: &top,
+    };
+    let lists = plain_inside(alloc, sources.as_slice(), &outer, own)?;
+    let inner = ListsInside {
+        sources: sources.as_slice(),
+        outer: &outer,
+        lists: &lists,
+    };
+    Ok(ids_read(alloc, &inner, name)?)
+}
+
 fn word_of(alloc: Global, answer: Result<Text, Stop>) -> Result<Text, OutOfMemory> {
     match answer {
         Ok(ids) => Ok(ids),
@@ -345,6 +401,20 @@ fn names_stand_for_the_rows_of_data_sets(rt: HostRuntime) -> Result<(), Fail> {
         let (sets, wanted) = line.split_once(" -> ").ok_or("a line without an answer")?;
         let (name, _) = wanted.split_once(' ').unwrap_or((wanted, ""));
         let word = word_of(rt.alloc(), answered(rt.alloc(), sets, name))?;
+        let Some(want) = wanted.strip_prefix(name) else {
+            return Err("a line without an answer".into());
+        };
+        assert_eq!(rt; word.as_str(), want, "{line}");
+    }
+    Ok(())
+}
+
+#[test]
+fn names_stand_for_the_nearest_list(rt: HostRuntime) -> Result<(), Fail> {
+    for line in INSIDE.lines() {
+        let (sets, wanted) = line.split_once(" -> ").ok_or("a line without an answer")?;
+        let (name, _) = wanted.split_once(' ').unwrap_or((wanted, ""));
+        let word = word_of(rt.alloc(), answered_inside(rt.alloc(), sets, name))?;
         let Some(want) = wanted.strip_prefix(name) else {
             return Err("a line without an answer".into());
         };

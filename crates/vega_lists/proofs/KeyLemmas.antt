@@ -55,7 +55,7 @@ pub after_some : {A B : Type 0} (o : Option A) (f : A → Option B) (y : B) → 
 after_some None f y e = absurd cc
 after_some (Some a) f y e = (a, refl, e)
 
-same_value : {A : Type 0} (a b : A) → Some a ≡ Some b → a ≡ b
+pub same_value : {A : Type 0} (a b : A) → Some a ≡ Some b → a ≡ b
 same_value a b e = ap (λ o. unwrap_or o a) e
 
 -- what a filter keeps

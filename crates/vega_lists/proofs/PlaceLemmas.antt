@@ -21,10 +21,10 @@ use Rattle.vega_spec.specs.declared.data.DataSet.{DataSet}
 use Rattle.vega_lists.specs.declared.held.RowsIn.{RowsIn}
 use Rattle.vega_lists.specs.declared.held.RowsIn.TheVariants.{Source, Made, Nothing}
 use Rattle.vega_lists.specs.declared.held.Lists.{Lists}
-use Rattle.vega_lists.specs.Scopes.{Scope, with_list, list_named}
+use Rattle.vega_lists.specs.Scopes.{list_named}
 use Rattle.vega_lists.specs.Lists.{begun_rows}
-use Rattle.vega_lists.specs.Held.{rows_there, place_named, rows_named, scope_in, AreLists}
-use Rattle.vega_lists.specs.inner.Places.{Places, IsPut, IsThere, ArePlaced, ArePlacesOf, begun_place, rows_begun}
+use Rattle.vega_lists.specs.Held.{rows_there, place_named, scope_in}
+use Rattle.vega_lists.specs.inner.Places.{Places, IsPut, IsThere, ArePlaced, ArePlacesOf, IsHeldAlso, begun_place, rows_begun}
 use Rattle.vega_lists.proofs.KeyLemmas.{data_keys, keys_seen}
 
 pick : (b : Bool) (place : RowsIn) (old : Option RowsIn) → unwrap_or (cond b (Some place) old) Nothing ≡ cond b place (unwrap_or old Nothing)
@@ -35,14 +35,18 @@ pick false place old = refl
 pub put_is : (bytes name : List ℕ) (old new : Places) (place : RowsIn) → bytes ≡ name
     → tree.UpdatesBy string_cmp (λ k. slice_cmp nat_cmp bytes (string_bytes k)) old new (Some place) → IsPut old name place new
 put_is bytes name old new place same h other =
-    ap (λ o. unwrap_or o Nothing) (btree_map_updates_text bytes old new (Some place) h other)
-    ∙ pick (bytes_eq bytes other) place (tree.get_by_text old other)
-    ∙ ap (λ n. cond (bytes_eq n other) place (place_named old other)) same
+    btree_map_updates_text bytes old new (Some place) h other
+    ∙ ap (λ n. cond (bytes_eq n other) (Some place) (tree.get_by_text old other)) same
 
-seen_either : (sources : List Named) (made : List (List Keyed)) (b : Bool) (p q : RowsIn)
-    → map datum_of (rows_there sources made (cond b p q)) ≡ cond b (map datum_of (rows_there sources made p)) (map datum_of (rows_there sources made q))
-seen_either sources made true p q = refl
-seen_either sources made false p q = refl
+-- where a name stands once a name is put
+put_named : (old new : Places) (name : List ℕ) (place : RowsIn) → IsPut old name place new → (other : List ℕ)
+    → place_named new other ≡ cond (bytes_eq name other) place (place_named old other)
+put_named old new name place put other = ap (λ o. unwrap_or o Nothing) (put other) ∙ pick (bytes_eq name other) place (tree.get_by_text old other)
+
+held_either : (f : RowsIn → List Keyed) (b : Bool) (place : RowsIn) (old : Option RowsIn)
+    → option_map f (cond b (Some place) old) ≡ cond b (Some (f place)) (option_map f old)
+held_either f true place old = refl
+held_either f false place old = refl
 
 there_either : (n : ℕ) (b : Bool) (p q : RowsIn) → IsThere n p → IsThere n q → IsThere n (cond b p q)
 there_either n true p q x y = x
@@ -54,22 +58,13 @@ there_later n m (Made i) le h = omega (arith, h, le)
 there_later n m Nothing le h = tt
 
 module _ (sources : List Named) (old new : Lists) (name : List ℕ) where
-  -- a name put for a place stands for the rows there
-  pub scope_of_put : (place : RowsIn) → new.made ≡ old.made → IsPut old.by_name name place new.by_name
-      → scope_in sources new ≡ with_list name (map datum_of (rows_there sources old.made place)) (scope_in sources old)
-  scope_of_put place same put = λ i other. at other i
-    where
-      at : (other : List ℕ) → scope_in sources new other ≡ with_list name (map datum_of (rows_there sources old.made place)) (scope_in sources old) other
-      at other =
-          ap (λ made. map datum_of (rows_there sources made (place_named new.by_name other))) same
-          ∙ ap (λ p. map datum_of (rows_there sources old.made p)) (put other)
-          ∙ seen_either sources old.made (bytes_eq name other) place (place_named old.by_name other)
-
-  pub placed_put : (place : RowsIn) → new.made ≡ old.made → IsPut old.by_name name place new.by_name → IsThere (length old.made) place → ArePlaced old → ArePlaced new
-  placed_put place same put there placed other =
-      subst (λ made. IsThere (length made) (place_named new.by_name other)) (sym same)
-      (subst (IsThere (length old.made)) (sym (put other))
-      (there_either (length old.made) (bytes_eq name other) place (place_named old.by_name other) there (placed other)))
+  -- the rows in a place are held once the place is put
+  pub held_put : (place : RowsIn) → new.made ≡ old.made → IsPut old.by_name name place new.by_name
+      → IsHeldAlso sources old name (rows_there sources old.made place) new
+  held_put place same put other =
+      ap (λ made. option_map (rows_there sources made) (tree.get_by_text new.by_name other)) same
+      ∙ ap (option_map (rows_there sources old.made)) (put other)
+      ∙ held_either (rows_there sources old.made) (bytes_eq name other) place (tree.get_by_text old.by_name other)
 
   -- rows that were made behind others leave these where they are
   kept_there : (rows : List Keyed) (p : RowsIn) → IsThere (length old.made) p → rows_there sources (old.made ++ rows ∷ []) p ≡ rows_there sources old.made p
@@ -81,41 +76,34 @@ module _ (sources : List Named) (old new : Lists) (name : List ℕ) where
   made_there : (rows : List Keyed) → rows_there sources (old.made ++ rows ∷ []) (Made (length old.made)) ≡ rows
   made_there rows = unwrap_or-slice_get (old.made ++ rows ∷ []) (length old.made) [] ∙ get_or-append_seam old.made rows [] []
 
-  made_either : (rows : List Keyed) (b : Bool) (q : RowsIn) → IsThere (length old.made) q
-      → map datum_of (rows_there sources (old.made ++ rows ∷ []) (cond b (Made (length old.made)) q)) ≡ cond b (map datum_of rows) (map datum_of (rows_there sources old.made q))
-  made_either rows true q h = ap (map datum_of) (made_there rows)
-  made_either rows false q h = ap (map datum_of) (kept_there rows q h)
+  made_either : (rows : List Keyed) (b : Bool) (o : Option RowsIn) → IsThere (length old.made) (unwrap_or o Nothing)
+      → option_map (rows_there sources (old.made ++ rows ∷ [])) (cond b (Some (Made (length old.made))) o) ≡ cond b (Some rows) (option_map (rows_there sources old.made) o)
+  made_either rows true o h = ap Some (made_there rows)
+  made_either rows false None h = refl
+  made_either rows false (Some p) h = ap Some (kept_there rows p h)
 
-  -- a name put for rows that were made stands for them
-  pub scope_of_made : (rows : List Keyed) → new.made ≡ old.made ++ rows ∷ [] → IsPut old.by_name name (Made (length old.made)) new.by_name → ArePlaced old
-      → scope_in sources new ≡ with_list name (map datum_of rows) (scope_in sources old)
-  scope_of_made rows same put placed = λ i other. at other i
-    where
-      at : (other : List ℕ) → scope_in sources new other ≡ with_list name (map datum_of rows) (scope_in sources old) other
-      at other =
-          ap (λ made. map datum_of (rows_there sources made (place_named new.by_name other))) same
-          ∙ ap (λ p. map datum_of (rows_there sources (old.made ++ rows ∷ []) p)) (put other)
-          ∙ made_either rows (bytes_eq name other) (place_named old.by_name other) (placed other)
+  -- rows that were made are held once their place is put
+  pub held_made : (rows : List Keyed) → new.made ≡ old.made ++ rows ∷ [] → IsPut old.by_name name (Made (length old.made)) new.by_name → ArePlaced old
+      → IsHeldAlso sources old name rows new
+  held_made rows same put placed other =
+      ap (λ made. option_map (rows_there sources made) (tree.get_by_text new.by_name other)) same
+      ∙ ap (option_map (rows_there sources (old.made ++ rows ∷ []))) (put other)
+      ∙ made_either rows (bytes_eq name other) (tree.get_by_text old.by_name other) (placed other)
+
+module _ (old new : Lists) (name : List ℕ) where
+  pub placed_put : (place : RowsIn) → new.made ≡ old.made → IsPut old.by_name name place new.by_name → IsThere (length old.made) place → ArePlaced old → ArePlaced new
+  placed_put place same put there placed other =
+      subst (λ made. IsThere (length made) (place_named new.by_name other)) (sym same)
+      (subst (IsThere (length old.made)) (sym (put_named old.by_name new.by_name name place put other))
+      (there_either (length old.made) (bytes_eq name other) place (place_named old.by_name other) there (placed other)))
 
   pub placed_made : (rows : List Keyed) → new.made ≡ old.made ++ rows ∷ [] → IsPut old.by_name name (Made (length old.made)) new.by_name → ArePlaced old → ArePlaced new
   placed_made rows same put placed other =
       let more : length (old.made ++ rows ∷ []) ≡ length old.made + 1 = length-append old.made (rows ∷ []) in
       subst (λ made. IsThere (length made) (place_named new.by_name other)) (sym same)
-      (subst (IsThere (length (old.made ++ rows ∷ []))) (sym (put other))
+      (subst (IsThere (length (old.made ++ rows ∷ []))) (sym (put_named old.by_name new.by_name name (Made (length old.made)) put other))
       (there_either (length (old.made ++ rows ∷ [])) (bytes_eq name other) (Made (length old.made)) (place_named old.by_name other) (omega (arith, more))
       (there_later (length old.made) (length (old.made ++ rows ∷ [])) (place_named old.by_name other) (omega (arith, more)) (placed other))))
-
-  keys_either : (b : Bool) (rows others : List Datum) → AreKeys (data_keys rows) → AreKeys (data_keys others) → AreKeys (data_keys (cond b rows others))
-  keys_either true rows others x y = x
-  keys_either false rows others x y = y
-
-  -- each name stands for a list of rows still
-  pub lists_of_put : (rows : List Datum) → scope_in sources new ≡ with_list name rows (scope_in sources old) → AreKeys (data_keys rows) → AreLists sources old → AreLists sources new
-  lists_of_put rows e are lists other =
-      let before : AreKeys (data_keys (scope_in sources old other)) = subst AreKeys (sym (keys_seen (rows_named sources old other))) (lists other) in
-      let now : AreKeys (data_keys (scope_in sources new other)) =
-      subst (λ (scope : Scope). AreKeys (data_keys (scope other))) (sym e) (keys_either (bytes_eq name other) rows (scope_in sources old other) are before) in
-      subst AreKeys (keys_seen (rows_named sources new other)) now
 
 -- what holds of the keys of rows as they are read holds of their keys
 pub rows_as_read : (rows : List Keyed) → AreRows rows → AreKeys (data_keys (map datum_of rows))
@@ -143,10 +131,10 @@ pub one_source : (sources : List Named) (i : ℕ) (source : Named) (old new : Pl
     → ArePlacesFrom sources (i + 1) old → IsPut old source.name (Source i) new → ArePlacesFrom sources i new
 one_source sources i source old new lt at from put = record {
   read = λ made name.
-      ap (λ p. map datum_of (rows_there sources made p)) (put name)
+      ap (λ p. map datum_of (rows_there sources made p)) (put_named old new source.name (Source i) put name)
       ∙ named_either sources source (drop (i + 1) sources) i made (bytes_eq source.name name) (place_named old name) name (slice_get_read sources (length sources) i source refl lt at) (from.read made name)
       ∙ ap (λ (l : List Named). list_named (map dataset_of l) name) (sym (drop_more sources i source lt ∙ ap (λ (s : Named). s ∷ drop (i + 1) sources) (sym at)));
-  there = λ n name. subst (IsThere n) (sym (put name)) (there_either n (bytes_eq source.name name) (Source i) (place_named old name) tt (from.there n name));
+  there = λ n name. subst (IsThere n) (sym (put_named old new source.name (Source i) put name)) (there_either n (bytes_eq source.name name) (Source i) (place_named old name) tt (from.there n name));
 }
 
 pub no_sources_yet : (sources : List Named) (places : Places) → tree.IsEmpty places → ArePlacesFrom sources (length sources) places

@@ -35,12 +35,19 @@ abbrev pub rows_named : List Named → Lists → List ℕ → List Keyed
 rows_named sources lists name = unwrap_or (rows_found sources lists name) []
 
 -- the rows for which each name stands, as they are read
-abbrev pub scope_in : List Named → Lists → Scope
-scope_in sources lists name = map datum_of (rows_named sources lists name)
+abbrev pub scope_read : (List ℕ → List Keyed) → Scope
+scope_read named name = map datum_of (named name)
 
 -- each name stands for a list of rows
+abbrev pub AreAllRows : (List ℕ → List Keyed) → Type 0
+AreAllRows named = (name : List ℕ) → AreRows (named name)
+
+-- the same of the lists over their sources
+abbrev pub scope_in : List Named → Lists → Scope
+scope_in sources lists name = scope_read (rows_named sources lists) name
+
 abbrev pub AreLists : List Named → Lists → Type 0
-AreLists sources lists = (name : List ℕ) → AreRows (rows_named sources lists name)
+AreLists sources lists = AreAllRows (rows_named sources lists)
 
 -- The rows have keys such as those on a path with some product, after which no transform makes the product too great.
 abbrev pub MayFold : List Keyed → List Transform → Type 0

@@ -6,5 +6,6 @@ pub mod Transforms
 pub mod Products
 pub mod Lists
 pub mod Held
+pub mod Inside
 pub mod Laws
 pub mod inner

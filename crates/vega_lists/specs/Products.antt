@@ -69,6 +69,11 @@ FoldsFit products [] = Unit {0}
 FoldsFit products (set ∷ others) =
     ProductsFit (begun_product products set) (transforms_of set) × FoldsFit (and_its_product products set) others
 
+-- the products with those of data sets under their names
+abbrev pub products_after : Products → List DataSet → Products
+products_after products [] = products
+products_after products (set ∷ others) = products_after (and_its_product products set) others
+
 -- keys such as a list has on a path with this product: there are at most so many times as many as a chart has rows, and the branches
 -- are below the product
 pub record KeysFit (product : ℕ) (keys : List Key) : Type 0 where
@@ -100,3 +105,7 @@ a_set name source = record {
 those_of_the_source_count :
     and_its_product (and_its_product no_folds (a_set (codes "x") (codes "t"))) (a_set (codes "y") (codes "x")) (codes "y") ≡ 4
 those_of_the_source_count = refl
+
+those_of_outer_lists_count :
+    products_after (with_product (codes "t") 3 no_folds) (a_set (codes "x") (codes "t") ∷ a_set (codes "y") (codes "x") ∷ []) (codes "y") ≡ 12
+those_of_outer_lists_count = refl

@@ -1,8 +1,9 @@
 // Lists of rows by their names.
 ghost use Rattle.std.specs.Prelude.{◌≡◌, option_copied};
-ghost use Rattle.vega_lists.specs.Held.{rows_in, place_named, rows_found};
+ghost use Rattle.vega_lists.specs.Held.{rows_in, rows_there, place_named, rows_found};
+ghost use Rattle.vega_lists.specs.Inside.{rows_held};
 
-use cell_value::{Named, Rows};
+use cell_value::{Keyed, Named, Rows};
 use std::collections::BTreeMap;
 use text_kit::Seq;
 
@@ -45,9 +46,19 @@ pub(crate) fn rows_in<'a>(sources: &'a [Named], made: &'a [Rows], place: RowsIn)
     }
 }
 
+// The rows in a place; none where there is no list.
+fn rows_there<'a>(sources: &'a [Named], made: &'a [Rows], place: RowsIn) -> &'a [Keyed]
+    ensures { result.now ≡ rows_there sources.now made.now place }
+{
+    match rows_in(sources, made, place) {
+        Some(rows) => rows.as_slice(),
+        None => &[],
+    }
+}
+
 impl Lists {
-    /// The rows for which a name stands; None exactly where it stands for no list. The sources are those of which the lists were
-    /// made.
+    /// The rows for which a name stands; None only where it stands for no list. One that data sets read without a list of it may be found
+    /// as a list without rows. The sources are those of which the lists were made.
     pub fn find<'a>(&'a self, sources: &'a [Named], name: &str) -> Option<&'a Rows>
         ensures { option_copied result ≡ rows_found sources.now self.now name.now }
     {
@@ -56,5 +67,16 @@ impl Lists {
             self.made.as_slice(),
             place_named(&self.by_name, name),
         )
+    }
+
+    /// The rows that are held under a name: of a list of the object itself, or of an outer one of which it holds a copy. None where it holds
+    /// no list of the name, which stands for what it stands for round the object then. The sources are those of which the lists were made.
+    pub fn held<'a>(&'a self, sources: &'a [Named], name: &str) -> Option<&'a [Keyed]>
+        ensures { option_copied result ≡ rows_held sources.now self.now name.now }
+    {
+        match self.by_name.get(name) {
+            Some(place) => Some(rows_there(sources, self.made.as_slice(), *place)),
+            None => None,
+        }
     }
 }

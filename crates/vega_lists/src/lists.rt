@@ -1,19 +1,21 @@
 // The lists of rows of data sets, by their names.
-ghost use Rattle.std.specs.Prelude.{◌≡◌, ◌++◌, ◌∷◌, [], ℕ, List, length, map, IfOk, OnOk, All};
+ghost use Rattle.std.specs.Prelude.{◌≡◌, ◌++◌, ◌∷◌, [], length, map, IfOk, OnOk, All};
 ghost use Rattle.cell_value.specs.State.{dataset_of};
 ghost use Rattle.cell_value.specs.Datum.{datum_of};
 ghost use Rattle.plain_rows.specs.Rows.{AreRows};
 ghost use Rattle.plain_rows.specs.Answers.{GivesRows};
 ghost use Rattle.vega_lists.specs.Scopes.{no_lists};
 ghost use Rattle.vega_lists.specs.Transforms.{is_kept, transforms_of, all_transformed, AllTransforms, OfTransforms};
-ghost use Rattle.vega_lists.specs.Products.{no_folds, FoldsFit};
+ghost use Rattle.vega_lists.specs.Products.{Products, no_folds, products_after, FoldsFit};
 ghost use Rattle.vega_lists.specs.Lists.{list_of, lists_of};
-ghost use Rattle.vega_lists.specs.Held.{place_named, scope_in, rows_there, AreLists, AreSources, MayFold, GivesLists};
-ghost use Rattle.vega_lists.specs.inner.Places.{IsPut, IsThere, ArePlaced, ArePlacesOf, AddsList, SetsMayFold, begun_place, rows_begun};
+ghost use Rattle.vega_lists.specs.Held.{scope_in, scope_read, rows_there, AreAllRows, AreLists, AreSources, MayFold, GivesLists};
+ghost use Rattle.vega_lists.specs.Inside.{rows_inside, AllKeysFit, SetsMayFold, GivesInside};
+ghost use Rattle.vega_lists.specs.inner.Places.{IsPut, IsThere, ArePlaced, ArePlacesOf, HoldsNothing, HoldsAlso, AddsList, begun_place, rows_begun};
 
 use crate::held::{place_named, rows_in};
+use crate::outer::with_lists_read;
 use crate::steps::all_transformed;
-use crate::{Lists, RowsIn};
+use crate::{ListReader, Lists, NoLists, RowsIn};
 use cell_value::{Named, Rows};
 use expr_eval::{EvalError, ParamReader};
 use std::alloc::Global;
@@ -55,7 +57,7 @@ fn with_place(lists: Lists, name: &Text, place: RowsIn) -> Result<Lists, OutOfMe
 }
 
 // The lists with a name for rows.
-fn with_rows(lists: Lists, name: &Text, rows: Rows) -> Result<Lists, OutOfMemory>
+pub(crate) fn with_rows(lists: Lists, name: &Text, rows: Rows) -> Result<Lists, OutOfMemory>
     ensures made { IfOk result (λ next. next.made ≡ lists.made ++ rows ∷ []) }
     ensures places { IfOk result (λ next. IsPut lists.by_name name.now (RowsIn.Made (length lists.made)) next.by_name) }
 {
@@ -118,7 +120,7 @@ fn with_transformed<P: ParamReader>(
     requires placed { ArePlaced lists }
     requires kept { AllTransforms is_kept transforms.now }
     requires folds { MayFold (rows_there sources.now lists.made place) transforms.now }
-    ensures { AddsList sources.now result name.now (scope_in sources.now lists)
+    ensures { HoldsAlso sources.now lists result name.now
         (all_transformed (P.values params.now) (scope_in sources.now lists) transforms.now
         (map datum_of (rows_there sources.now lists.made place))) }
 {
@@ -141,8 +143,8 @@ pub fn transforms_of(set: &DataSet) -> &[Transform]
     }
 }
 
-// The lists with the name of a data set for its rows.
-fn add_list<P: ParamReader>(
+// The lists with the name of a data set for its rows, where all lists that it reads are held.
+fn with_own<P: ParamReader>(
     alloc: Global,
     sources: &[Named],
     given: &BTreeMap<String, RowsIn>,
@@ -156,7 +158,7 @@ fn add_list<P: ParamReader>(
     requires placed { ArePlaced lists }
     requires kept { OfTransforms is_kept set.now }
     requires folds { MayFold (rows_begun sources.now given.now lists set.now) (transforms_of set.now) }
-    ensures { AddsList sources.now result set.now.name (scope_in sources.now lists)
+    ensures { HoldsAlso sources.now lists result set.now.name
         (list_of (P.values params.now) (map dataset_of sources.now) (scope_in sources.now lists) set.now) }
 {
     let begun = begun_place(given, &lists.by_name, set);
@@ -171,9 +173,33 @@ fn add_list<P: ParamReader>(
     )
 }
 
+// The lists with the name of a data set for its rows.
+fn add_list<O: ListReader, P: ParamReader>(
+    alloc: Global,
+    sources: &[Named],
+    given: &BTreeMap<String, RowsIn>,
+    outer: &O,
+    lists: Lists,
+    set: &DataSet,
+    params: &P,
+) -> Result<Lists, EvalError>
+    requires sources { AreSources sources.now }
+    requires given { ArePlacesOf sources.now given.now }
+    requires lists { AreAllRows (rows_inside sources.now (O.named outer.now) lists) }
+    requires placed { ArePlaced lists }
+    requires kept { OfTransforms is_kept set.now }
+    requires folds { SetsMayFold (rows_inside sources.now (O.named outer.now) lists) (set.now ∷ []) }
+    ensures { AddsList sources.now (O.named outer.now) lists result set.now.name
+        (list_of (P.values params.now) (map dataset_of sources.now)
+        (scope_read (rows_inside sources.now (O.named outer.now) lists)) set.now) }
+{
+    let holding = with_lists_read(alloc, outer, lists, set)?;
+    with_own(alloc, sources, given, holding, set, params)
+}
+
 // No lists.
 fn no_lists(alloc: Global) -> Lists
-    ensures { (name : List ℕ) → place_named result.by_name name ≡ RowsIn.Nothing }
+    ensures { HoldsNothing result }
 {
     Lists {
         by_name: BTreeMap::new(alloc),
@@ -182,33 +208,62 @@ fn no_lists(alloc: Global) -> Lists
 }
 
 // The lists with the names of data sets for their rows, each over those before it.
-fn with_sets<P: ParamReader>(
+fn with_sets<O: ListReader, P: ParamReader>(
     alloc: Global,
     sources: &[Named],
     given: &BTreeMap<String, RowsIn>,
-    outer: Lists,
+    outer: &O,
+    begun: Lists,
     sets: &[DataSet],
     params: &P,
 ) -> Result<Lists, EvalError>
     requires sources { AreSources sources.now }
     requires given { ArePlacesOf sources.now given.now }
-    requires lists { AreLists sources.now outer }
-    requires placed { ArePlaced outer }
+    requires lists { AreAllRows (rows_inside sources.now (O.named outer.now) begun) }
+    requires placed { ArePlaced begun }
     requires kept { All (OfTransforms is_kept) sets.now }
-    requires folds { SetsMayFold sources.now outer sets.now }
-    ensures read { GivesLists sources.now result
-        (lists_of (P.values params.now) (map dataset_of sources.now) (scope_in sources.now outer) sets.now) }
-    ensures lists { IfOk result (AreLists sources.now) }
-    ensures placed { IfOk result ArePlaced }
+    requires folds { SetsMayFold (rows_inside sources.now (O.named outer.now) begun) sets.now }
+    ensures read { GivesInside sources.now (O.named outer.now) result (lists_of (P.values params.now) (map dataset_of sources.now)
+        (scope_read (rows_inside sources.now (O.named outer.now) begun)) sets.now) }
+    ensures lists { IfOk result (λ lists. AreAllRows (rows_inside sources.now (O.named outer.now) lists)) }
 {
-    let mut lists = outer;
+    let mut lists = begun;
     for set in sets {
-        lists = match add_list(alloc, sources, given, lists, set, params) {
+        lists = match add_list(alloc, sources, given, outer, lists, set, params) {
             Ok(next) => next,
             Err(error) => return Err(error),
         };
     }
     Ok(lists)
+}
+
+/// The named lists of the data sets of an object in others, in their order, each over those before it and over the lists of the objects
+/// round it: the name of a data set stands for what its transforms make of the rows of its `source`, also of an outer list of that name,
+/// or without one of the state's source of its name. What names stand for in the object is read by `ListsInside`. `Overflow` comes exactly
+/// where a transform of a data set overflows, also of one that nothing reads. The sources are those of a state: the ids of each rise and are
+/// at most 10^15, no branch is counted, and there are at most 200,000 rows. The keys of each outer list rise, their ids are at most 10^15,
+/// and there are at most 1,600,000 of them; so it is of the lists in the object. A lookup has as many names as values, bins of a given
+/// width are over 0 wide, and on no path do folds multiply rows by more than 8, those of the outer lists on it counted. An outer list that
+/// a data set reads is copied once; of the others no row is read.
+pub fn lists_inside<O: ListReader, P: ParamReader>(
+    alloc: Global,
+    sources: &[Named],
+    outer: &O,
+    sets: &[DataSet],
+    params: &P,
+) -> Result<Lists, EvalError>
+    requires sources { AreSources sources.now }
+    requires outer { AreAllRows (O.named outer.now) }
+    requires kept { All (OfTransforms is_kept) sets.now }
+    requires folds { SetsMayFold (O.named outer.now) sets.now }
+    ensures read { GivesInside sources.now (O.named outer.now) result
+        (lists_of (P.values params.now) (map dataset_of sources.now) (scope_read (O.named outer.now)) sets.now) }
+    ensures lists { IfOk result (λ lists. AreAllRows (rows_inside sources.now (O.named outer.now) lists)) }
+    ensures folds { (products : Products) → AllKeysFit products (O.named outer.now)
+        → IfOk result (λ lists. AllKeysFit (products_after products sets.now) (rows_inside sources.now (O.named outer.now) lists)) }
+{
+    let given = places_of(alloc, sources)?;
+    with_sets(alloc, sources, &given, outer, no_lists(alloc), sets, params)
 }
 
 /// The named lists of the data sets of a specification's top object, in their order, each over those before it: the name of a data set
@@ -230,6 +285,5 @@ pub fn lists_of<P: ParamReader>(
         (lists_of (P.values params.now) (map dataset_of sources.now) no_lists sets.now) }
     ensures lists { IfOk result (AreLists sources.now) }
 {
-    let given = places_of(alloc, sources)?;
-    with_sets(alloc, sources, &given, no_lists(alloc), sets, params)
+    lists_inside(alloc, sources, &NoLists, sets, params)
 }

@@ -8,8 +8,8 @@ use std::alloc::Global;
 use text_kit::{OutOfMemory, Seq, Text};
 use vega_spec::{Order, Orders, Sort, Texts};
 
-// One text or several, as a list.
-fn texts_in(texts: &Texts) -> &[Text]
+/// One text or several, as a list.
+pub fn texts_in(texts: &Texts) -> &[Text]
     ensures { result.now ≡ texts_in texts.now }
 {
     match texts {
@@ -67,14 +67,14 @@ fn sort_of(
     Ok(sort)
 }
 
-// The fields of an order, each with its direction.
-fn sort_settings(alloc: Global, s: &Sort) -> Result<Seq<SortBy>, OutOfMemory>
+/// The fields of an order, each with its direction: ascending where it gives none.
+pub fn sort_settings(alloc: Global, s: &Sort) -> Result<Seq<SortBy>, OutOfMemory>
     ensures { IfOk result (λ sort. sort ≡ sort_settings s.now) }
 {
     sort_of(alloc, texts_in(&s.field), &s.order)
 }
 
-/// The same; none without an order.
+/// The fields of an order, each with its direction; none without an order.
 pub(crate) fn sort_or_empty(alloc: Global, sort: &Option<Sort>) -> Result<Seq<SortBy>, OutOfMemory>
     ensures { IfOk result (λ settings. settings ≡ sort_or_empty sort.now) }
 {

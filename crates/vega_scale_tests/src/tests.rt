@@ -1,5 +1,8 @@
 // Each line's scale and the length of its domain are those that it tells.
-ghost use Rattle.vega_lists.specs.Held.{AreLists};
+ghost use Rattle.std.specs.List.{All};
+ghost use Rattle.vega_lists.specs.Held.{AreAllRows, AreLists, AreSources};
+ghost use Rattle.vega_lists.specs.Products.{FoldsFit, no_folds};
+ghost use Rattle.vega_lists.specs.Transforms.{OfTransforms, is_kept};
 
 use crate::asked::scale_in;
 use crate::lines::{CONTINUOUS, DISCRETE, SCALES};
@@ -12,18 +15,54 @@ use fixed_num::Num;
 use std::alloc::Global;
 use std::test::Fail;
 use text_kit::{OutOfMemory, Text};
-use vega_lists::{Lists, lists_of};
-use vega_scales::{domain_length, is_built, is_domain_built, scale_of};
-use vega_spec::Scale;
+use vega_lists::{ListReader, Lists, ListsIn, lists_of};
+use vega_scales::{
+    domain_length, domain_of, domain_size, is_built, is_domain_built, scale_of, scale_over,
+};
+use vega_spec::{DataSet, Scale};
 
-// The scale of a line over the lists, in a plot of 60 by 200.
-fn scale_answered(
+// A scale over the lists in a plot of this size, and the length of its domain.
+fn made_at_once<L: ListReader>(
     alloc: Global,
     scale: &Scale,
-    sources: &[Named],
-    lists: &Lists,
+    lists: &L,
+    width: Num,
+    height: Num,
 ) -> Result<Text, Stop>
-    requires { AreLists sources.now lists.now }
+    requires { AreAllRows (L.named lists.now) }
+{
+    if !is_built(scale) {
+        return Err(Stop::Shape);
+    }
+    if !is_domain_built(&scale.domain) {
+        return Err(Stop::Shape);
+    }
+    let made = scale_of(alloc, scale, lists, width, height, &NoParams)?;
+    let length = domain_length(alloc, scale, lists, &NoParams)?;
+    Ok(with_length(alloc, scale_text(alloc, &made)?, length)?)
+}
+
+// The same by its domain.
+fn made_by_domain<L: ListReader>(
+    alloc: Global,
+    scale: &Scale,
+    lists: &L,
+    width: Num,
+    height: Num,
+) -> Result<Text, Stop>
+    requires { AreAllRows (L.named lists.now) }
+{
+    if !is_built(scale) {
+        return Err(Stop::Shape);
+    }
+    let domain = domain_of(alloc, scale, lists, &NoParams)?;
+    let made = scale_over(alloc, scale, width, height, &domain)?;
+    Ok(with_length(alloc, scale_text(alloc, &made)?, domain_size(&domain))?)
+}
+
+// The scale of a line over the lists, in a plot of 60 by 200, and the length of its domain.
+fn scale_answered<L: ListReader>(alloc: Global, scale: &Scale, lists: &L) -> Result<Text, Stop>
+    requires { AreAllRows (L.named lists.now) }
 {
     let (Some(width), Some(height)) = (
         Num::of_millionths(60_000_000),
@@ -31,37 +70,58 @@ fn scale_answered(
     ) else {
         return Err(Stop::Shape);
     };
-    if !is_built(scale) {
-        return Err(Stop::Shape);
+    let made = made_at_once(alloc, scale, lists, width, height)?;
+    let other = made_by_domain(alloc, scale, lists, width, height)?;
+    if made.as_str() == other.as_str() {
+        Ok(made)
+    } else {
+        Ok(Text::of(alloc, "not that over its domain")?)
     }
-    let made = scale_of(alloc, scale, sources, lists, width, height, &NoParams)?;
-    Ok(scale_text(alloc, &made)?)
 }
 
-// The length of its domain.
-fn length_answered(
+// The same over lists by their names.
+fn answered_over(
     alloc: Global,
     scale: &Scale,
     sources: &[Named],
     lists: &Lists,
-) -> Result<u64, Stop>
+) -> Result<Text, Stop>
     requires { AreLists sources.now lists.now }
 {
-    if !is_domain_built(&scale.domain) {
-        return Err(Stop::Shape);
-    }
-    Ok(domain_length(alloc, scale, sources, lists, &NoParams)?)
+    let reader = ListsIn { sources, lists };
+    scale_answered(alloc, scale, &reader)
+}
+
+// The same where the lists are yet to be made.
+fn answered_with(
+    alloc: Global,
+    scale: &Scale,
+    sources: &[Named],
+    sets: &[DataSet],
+) -> Result<Text, Stop>
+    requires sources { AreSources sources.now }
+    requires kept { All (OfTransforms is_kept) sets.now }
+    requires folds { FoldsFit no_folds sets.now }
+{
+    let lists = lists_of(alloc, sources, sets, &NoParams)?;
+    answered_over(alloc, scale, sources, &lists)
+}
+
+fn answered_from(alloc: Global, scale: &Scale, sources: &[Named]) -> Result<Text, Stop>
+    requires { AreSources sources.now }
+{
+    let sets = sets(alloc)?;
+    answered_with(alloc, scale, sources, sets.as_slice())
+}
+
+fn scale_over_sources(alloc: Global, scale: &Scale) -> Result<Text, Stop> {
+    let sources = sources(alloc)?;
+    answered_from(alloc, scale, sources.as_slice())
 }
 
 fn answered(alloc: Global, line: &str) -> Result<Text, Stop> {
     let scale = scale_in(alloc, line)?;
-    let sources = sources(alloc)?;
-    let sets = sets(alloc)?;
-    let named = sources.as_slice();
-    let lists = lists_of(alloc, named, sets.as_slice(), &NoParams)?;
-    let out = scale_answered(alloc, &scale, named, &lists)?;
-    let length = length_answered(alloc, &scale, named, &lists)?;
-    Ok(with_length(alloc, out, length)?)
+    scale_over_sources(alloc, &scale)
 }
 
 fn with_length(alloc: Global, text: Text, length: u64) -> Result<Text, OutOfMemory> {

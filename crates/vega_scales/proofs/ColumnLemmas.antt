@@ -1,26 +1,35 @@
 -- How the cells of rows are gathered.
-use Rattle.std.proofs.Common.{◌≡◌, ℕ, ◌+◌, ◌<◌, ◌≤◌, ◌++◌, List, [], ◌∷◌, map, length, drop, get_or, sym, ap, ◌∙◌, subst, arith}
+use Rattle.std.proofs.Common.{◌≡◌, ℕ, ◌+◌, ◌<◌, ◌≤◌, ◌++◌, List, [], ◌∷◌, map, length, drop, get_or, sym, ap, ◌∙◌, arith}
+use Rattle.std.specs.Borrow.{Bor}
 use Rattle.std.proofs.lemmas.List.{append_assoc, append-nil, drop_all, drop_more, get_or-map, length-map}
 use Rattle.cell_value.specs.declared.cell.Cell.{Cell}
-use Rattle.cell_value.specs.declared.state.Key.{Key}
 use Rattle.cell_value.specs.declared.state.Keyed.{Keyed}
 use Rattle.cell_value.specs.State.{greatest_id}
 use Rattle.cell_value.specs.Datum.{datum_of, cell_at}
 use Rattle.plain_rows.specs.Rows.{AreRows}
+use Rattle.plain_rows.proofs.Keys as keys
 use Rattle.vega_scales.specs.declared.keyed.Entry.{Entry}
 use Rattle.vega_scales.specs.Domains.{column_of, entries_among}
 use Rattle.vega_scales.specs.inner.Held.{entry_at}
 
-abbrev key_of : Keyed → Key
-key_of keyed = keyed.key
+module _ (rows : List (Bor Keyed)) (i : ℕ) where
+  -- the rows behind references
+  abbrev behind : List Keyed
+  behind = map (λ row. row.now) rows
 
--- the id of each row is one that a row may have
-pub small_id : (rows : List Keyed) (i : ℕ) (row : Keyed) → AreRows rows → i < length rows → row ≡ get_or rows i row
-    → row.key.id ≤ greatest_id
-small_id rows i row are l at =
-    let within : i < length (map key_of rows) = omega (arith, length-map rows key_of) in
-    subst (λ (keyed : Keyed). keyed.key.id ≤ greatest_id) (sym at)
-    (subst (λ (key : Key). key.id ≤ greatest_id) (get_or-map key_of rows i row (key_of row) l) (are.small_ids i (key_of row) within))
+  pub within : i < length rows → i < length behind
+  within l = omega (arith, length-map rows (λ (row : Bor Keyed). row.now))
+
+  pub past_all : length rows ≤ i → length behind ≤ i
+  past_all l = omega (arith, length-map rows (λ (row : Bor Keyed). row.now))
+
+  pub same_row : (row : Bor Keyed) → i < length rows → row ≡ get_or rows i row → row.now ≡ get_or behind i row.now
+  same_row row l at =
+      ap (λ (row : Bor Keyed). row.now) at ∙ sym (get_or-map (λ (row : Bor Keyed). row.now) rows i row row.now l)
+
+  -- the id of each row is one that a row may have
+  pub small_id : (row : Bor Keyed) → AreRows behind → i < length rows → row ≡ get_or rows i row → row.now.key.id ≤ greatest_id
+  small_id row are l at = keys.small_id behind i row.now are (within l) (same_row row l at)
 
 -- one cell more
 pub column_more : (name : List ℕ) (rows : List Keyed) (i : ℕ) (row : Keyed) (cell : Cell) (out now whole : List Cell)

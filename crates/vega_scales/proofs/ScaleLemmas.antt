@@ -1,9 +1,11 @@
 -- Why the numbers of a scale stay within their bounds.
-use Rattle.std.proofs.Common.{◌≡◌, ◌↔◌, ◌&&◌, not, Bool, true, false, ℤ, pos, Option, Some, None, List, [], ◌∷◌, length, IfSome, IsTrue}
-use Rattle.std.proofs.Common.{unwrap_or, refl, sym, subst, arith}
+use Rattle.std.proofs.Common.{◌≡◌, ◌↔◌, ◌&&◌, ◌||◌, ◌==◌, if◌then◌else◌, not, Bool, true, false, ℤ, pos, Option, Some, None, List, [], ◌∷◌, length, IfSome, IsTrue}
+use Rattle.std.proofs.Common.{unwrap_or, refl, sym, ap, subst, arith}
+use Rattle.std.specs.Option.{option_map}
 use Rattle.cell_value.specs.declared.cell.Cell.{Cell}
 use Rattle.std.proofs.lemmas.Bool.Decides.{Decides-eqb}
 use Rattle.std.proofs.lemmas.Int.{ints}
+use Rattle.std.proofs.lemmas.Option.{same_Some}
 use Rattle.vega_spec.specs.declared.scales.Range.{Range}
 use Rattle.vega_spec.specs.declared.scales.Range.TheVariants.{Cells, Width, Height, Category, Ramp, Symbol}
 use Rattle.vega_spec.specs.declared.scales.Scale.{Scale}
@@ -11,7 +13,10 @@ use Rattle.scale_kit.specs.Scale.{IsPadding, IsPixel, IsRange}
 use Rattle.vega_scales.specs.Ranges.{two_numbers, ends_in, turned, padding_of}
 use Rattle.vega_scales.specs.Entries.{entries_of, category_colors, symbol_shapes}
 use Rattle.vega_scales.specs.Scales.{is_discrete, is_ordinal, is_set, ends_of, given_ends, has_entries, fits_range, is_built, ordinal}
-use Rattle.vega_scales.specs.Scales.{KeepsBounds}
+use Rattle.vega_scales.specs.Scales.{KeepsBounds, band, point, between, domain_size, cells_of_scale, numbers_of_scale}
+use Rattle.vega_scales.specs.Laws.{LengthIsSize}
+use Rattle.vega_scales.specs.declared.scaled.Scaled.{Scaled}
+use Rattle.vega_scales.specs.declared.scaled.Scaled.TheVariants as scaled
 
 pub padding_kept : (own both : Option ℤ) → IfSome own IsPadding → IfSome both IsPadding → IsPadding (padding_of own both)
 padding_kept (Some p) both h i = h
@@ -75,3 +80,24 @@ entries_or_none [] true h = refl
 entries_or_none [] false h = sym (h.1 refl)
 entries_or_none (first ∷ others) true h = let none : first ∷ others ≡ [] = h.0 refl in cc
 entries_or_none (first ∷ others) false h = refl
+
+-- a scale that isn't discrete isn't ordinal
+other_kind : (a b c : Bool) → (a || (b || c)) ≡ false → c ≡ false
+other_kind false false c e = e
+other_kind false true c e = cc
+other_kind true b c e = cc
+
+pub not_ordinal : (s : Scale) → is_discrete s ≡ false → is_ordinal s ≡ false
+not_ordinal s e = other_kind (s.type_ == band) (s.type_ == point) (s.type_ == ordinal) e
+
+-- a scale that has a domain is as long as that
+long_as : (discrete : Bool) (cells : Option (List Cell)) (numbers : Option (ℤ × ℤ)) (domain : Scaled)
+    → (if discrete then option_map scaled.Cells cells else option_map between numbers) ≡ Some domain
+    → (if discrete then option_map length cells else Some 2) ≡ Some (domain_size domain)
+long_as true None numbers domain e = cc
+long_as true (Some cells) numbers domain e = ap (λ d. Some (domain_size d)) (same_Some (scaled.Cells cells) domain e)
+long_as false cells None domain e = cc
+long_as false cells (Some numbers) domain e = ap (λ d. Some (domain_size d)) (same_Some (between numbers) domain e)
+
+pub as_long : LengthIsSize
+as_long values scope s domain e = long_as (is_discrete s) (cells_of_scale values scope s) (numbers_of_scale values scope s) domain e

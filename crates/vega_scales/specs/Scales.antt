@@ -1,6 +1,6 @@
 -- The scales of a Vega specification, from its lists of rows.
-use Rattle.std.specs.Prelude.{◌≡◌, refl, ℕ, ◌*◌, ◌==◌, ◌&&◌, ◌||◌, not, nat_lt, Bool, true, false, ℤ, pos, Option, Some, None, List, []}
-use Rattle.std.specs.Prelude.{◌∷◌, length, unwrap_or, is_some, IfSome, codes, if◌then◌else◌}
+use Rattle.std.specs.Prelude.{◌≡◌, refl, ℕ, ◌*◌, ◌==◌, ◌&&◌, ◌||◌, not, nat_lt, Bool, true, false, ℤ, pos, ◌≤ℤ◌, Option, Some, None, List, []}
+use Rattle.std.specs.Prelude.{◌∷◌, length, unwrap_or, is_some, IfSome, IsTrue, codes, if◌then◌else◌}
 use Rattle.std.specs.Option.{option_map}
 use Rattle.fixed_num.specs.Number.{million, rounded, floored, ceiled, floor_quotient}
 use Rattle.case_table.specs.Names.{index_of, operations, scale_kinds}
@@ -18,7 +18,9 @@ use Rattle.vega_lists.specs.Scopes.{Scope, no_lists}
 use Rattle.tick_kit.specs.Steps.{step_of, spaced}
 use Rattle.scale_kit.specs.declared.scale.Scale.{Scale}
 use Rattle.scale_kit.specs.declared.scale.Scale.TheVariants.{Linear, Time, Band, Point, Ordinal, Ramp}
-use Rattle.scale_kit.specs.Scale.{IsPadding, IsRange}
+use Rattle.scale_kit.specs.Scale.{IsPadding, IsRange, AreInstants}
+use Rattle.vega_scales.specs.declared.scaled.Scaled.{Scaled}
+use Rattle.vega_scales.specs.declared.scaled.Scaled.TheVariants.{Cells, Between}
 use Rattle.vega_scales.specs.Domains.{discrete_domain, continuous_domain}
 use Rattle.vega_scales.specs.Entries.{entries_of, color_from, color_to, first_color, last_color}
 use Rattle.vega_scales.specs.Ranges.{two_numbers, ends_in, turned, padding_of}
@@ -93,17 +95,38 @@ over_numbers s ends numbers =
     then Ramp (is_time s) numbers.0 numbers.1 (color_from (is_set s.reverse)) (color_to (is_set s.reverse))
     else (if is_time s then Time numbers.0 numbers.1 ends.0 ends.1 else Linear numbers.0 numbers.1 ends.0 ends.1)
 
+-- the domain between two numbers
+abbrev pub between : ℤ × ℤ → Scaled
+between numbers = Between numbers.0 numbers.1
+
+-- what a scale scales, from lists and values; None where it overflows
+abbrev pub domain_of : Values → Scope → VegaScale → Option Scaled
+domain_of values scope s =
+    if is_discrete s then option_map Cells (cells_of_scale values scope s) else option_map between (numbers_of_scale values scope s)
+
+-- the scale over that domain in a plot of this width and height
+abbrev pub scale_over : VegaScale → ℤ → ℤ → Scaled → Scale
+scale_over s width height (Cells cells) = if is_ordinal s then ordinal_over s cells else banded s (ends_of s width height) cells
+scale_over s width height (Between d0 d1) = over_numbers s (ends_of s width height) (d0, d1)
+
+-- how many cells a domain has, 2 for one between numbers
+abbrev pub domain_size : Scaled → ℕ
+domain_size (Cells cells) = length cells
+domain_size (Between d0 d1) = 2
+
 -- the scale in a plot of this width and height; None where its domain overflows
 abbrev pub scale_of : Values → Scope → ℤ → ℤ → VegaScale → Option Scale
-scale_of values scope width height s =
-    let ends = ends_of s width height in
-    if is_ordinal s then option_map (ordinal_over s) (cells_of_scale values scope s)
-    else (if is_discrete s then option_map (banded s ends) (cells_of_scale values scope s)
-    else option_map (over_numbers s ends) (numbers_of_scale values scope s))
+scale_of values scope width height s = option_map (scale_over s width height) (domain_of values scope s)
 
 -- how long the domain of a scale is: as many cells as a discrete one has, and 2 otherwise; None where a discrete domain overflows
 abbrev pub domain_length : Values → Scope → VegaScale → Option ℕ
 domain_length values scope s = if is_discrete s then option_map length (cells_of_scale values scope s) else Some 2
+
+-- Such a domain as `domain_of` gives for a scale: cells for a discrete one, and for another numbers in order, which are instants in range
+-- where it is one of time.
+abbrev pub FitsScale : VegaScale → Scaled → Type 0
+FitsScale s (Cells cells) = is_discrete s ≡ true
+FitsScale s (Between d0 d1) = (is_discrete s ≡ false) × (d0 ≤ℤ d1) × (IsTrue (is_time s) → AreInstants (d0, d1))
 
 -- the operation by which cells stand is an aggregate; the codes from 12 on are those of windows alone
 abbrev pub is_order_built : Option DomainOrder → Bool
@@ -212,6 +235,14 @@ a_point_scale values = refl
 the_lengths_of_domains : (values : Values) → (domain_length values no_lists (a_scale band range.Width None) ≡ Some 2)
     × (domain_length values no_lists (a_scale linear range.Width None) ≡ Some 2)
 the_lengths_of_domains values = (refl, refl)
+
+a_domain_of_cells : (values : Values) → option_map domain_size (domain_of values no_lists (a_scale point range.Width None)) ≡ Some 2
+a_domain_of_cells values = refl
+
+a_domain_between_numbers : (values : Values)
+    → domain_of values no_lists (a_scale linear range.Width None) ≡ Some (Between (whole 0) (whole 45))
+unfolding step_of spaced floored ceiled floor_quotient
+a_domain_between_numbers values = refl
 
 a_time_scale : (values : Values) → in_a_plot values (a_scale time range.Width (Some true))
     ≡ Some (Time (whole 0) (whole 45) (whole 60) (whole 0))

@@ -3,22 +3,22 @@ ghost use Rattle.std.specs.Prelude.{◌≡◌, ◌≤◌, ◌++◌, map, IfOk, O
 ghost use Rattle.cell_value.specs.State.{greatest_id};
 ghost use Rattle.cell_value.specs.Datum.{datum_of};
 ghost use Rattle.plain_rows.specs.Rows.{AreRows};
-ghost use Rattle.vega_lists.specs.Held.{rows_named, scope_in, AreLists};
+ghost use Rattle.vega_lists.specs.Held.{scope_read, AreAllRows};
 ghost use Rattle.vega_scales.specs.Domains.{column_of, cells_referred, entries_among, entries_referred};
 ghost use Rattle.vega_scales.specs.inner.Held.{entry_at};
 
 use crate::keyed::Entry;
-use cell_value::{Cell, Keyed, Named};
+use cell_value::{Cell, Keyed};
 use plain_rows::cell_of;
 use std::alloc::Global;
 use text_kit::{OutOfMemory, Seq};
-use vega_lists::Lists;
+use vega_lists::ListReader;
 use vega_spec::Reference;
 
 // Adds the cells of rows under a name.
-fn push_column(out: &mut Seq<Cell>, rows: &[Keyed], name: &str) -> Result<(), OutOfMemory>
-    requires { AreRows rows.now }
-    ensures { OnOk result (out.new ≡ out.old ++ column_of name.now (map datum_of rows.now)) }
+fn push_column(out: &mut Seq<Cell>, rows: &[&Keyed], name: &str) -> Result<(), OutOfMemory>
+    requires { AreRows (map (λ row. row.now) rows.now) }
+    ensures { OnOk result (out.new ≡ out.old ++ column_of name.now (map datum_of (map (λ row. row.now) rows.now))) }
 {
     for row in rows {
         out.push(cell_of(row, name)?)?;
@@ -26,45 +26,35 @@ fn push_column(out: &mut Seq<Cell>, rows: &[Keyed], name: &str) -> Result<(), Ou
     Ok(())
 }
 
-// The rows for which a name stands; none where it stands for no list.
-fn rows_named<'a>(sources: &'a [Named], lists: &'a Lists, name: &str) -> &'a [Keyed]
-    ensures { result.now ≡ rows_named sources.now lists.now name.now }
-{
-    match lists.find(sources, name) {
-        Some(rows) => rows.as_slice(),
-        None => &[],
-    }
-}
-
 // Adds the cells of a field of a named list.
-fn push_referred(
+fn push_referred<L: ListReader>(
+    alloc: Global,
     out: &mut Seq<Cell>,
-    sources: &[Named],
-    lists: &Lists,
+    lists: &L,
     list: &str,
     field: &str,
 ) -> Result<(), OutOfMemory>
-    requires { AreLists sources.now lists.now }
-    ensures { OnOk result (out.new ≡ out.old ++ column_of field.now (scope_in sources.now lists.now list.now)) }
+    requires { AreAllRows (L.named lists.now) }
+    ensures { OnOk result (out.new ≡ out.old ++ column_of field.now (scope_read (L.named lists.now) list.now)) }
 {
-    push_column(out, rows_named(sources, lists, list), field)
+    let rows = lists.rows(alloc, list)?;
+    push_column(out, rows.as_slice(), field)
 }
 
 /// The cells of references, reference after reference.
-pub(crate) fn cells_referred(
+pub(crate) fn cells_referred<L: ListReader>(
     alloc: Global,
-    sources: &[Named],
-    lists: &Lists,
+    lists: &L,
     references: &[Reference],
 ) -> Result<Seq<Cell>, OutOfMemory>
-    requires { AreLists sources.now lists.now }
-    ensures { IfOk result (λ cells. cells ≡ cells_referred (scope_in sources.now lists.now) references.now) }
+    requires { AreAllRows (L.named lists.now) }
+    ensures { IfOk result (λ cells. cells ≡ cells_referred (scope_read (L.named lists.now)) references.now) }
 {
     let mut out = Seq::new(alloc);
     for reference in references {
         push_referred(
+            alloc,
             &mut out,
-            sources,
             lists,
             reference.data_.as_str(),
             reference.field.as_str(),
@@ -87,12 +77,12 @@ fn entry_of(row: &Keyed, key: &str, value: &str) -> Result<Entry, OutOfMemory>
 // Adds the entries of rows.
 fn push_entries(
     out: &mut Seq<Entry>,
-    rows: &[Keyed],
+    rows: &[&Keyed],
     key: &str,
     value: &str,
 ) -> Result<(), OutOfMemory>
-    requires { AreRows rows.now }
-    ensures { OnOk result (out.new ≡ out.old ++ entries_among key.now value.now (map datum_of rows.now)) }
+    requires { AreRows (map (λ row. row.now) rows.now) }
+    ensures { OnOk result (out.new ≡ out.old ++ entries_among key.now value.now (map datum_of (map (λ row. row.now) rows.now))) }
 {
     for row in rows {
         out.push(entry_of(row, key, value)?)?;
@@ -101,36 +91,36 @@ fn push_entries(
 }
 
 // Adds the entries of a named list.
-fn push_referred_entries(
+fn push_referred_entries<L: ListReader>(
+    alloc: Global,
     out: &mut Seq<Entry>,
-    sources: &[Named],
-    lists: &Lists,
+    lists: &L,
     list: &str,
     key: &str,
     value: &str,
 ) -> Result<(), OutOfMemory>
-    requires { AreLists sources.now lists.now }
-    ensures { OnOk result (out.new ≡ out.old ++ entries_among key.now value.now (scope_in sources.now lists.now list.now)) }
+    requires { AreAllRows (L.named lists.now) }
+    ensures { OnOk result (out.new ≡ out.old ++ entries_among key.now value.now (scope_read (L.named lists.now) list.now)) }
 {
-    push_entries(out, rows_named(sources, lists, list), key, value)
+    let rows = lists.rows(alloc, list)?;
+    push_entries(out, rows.as_slice(), key, value)
 }
 
 /// For each row of references, reference after reference, its cell as a key, and its cell in another field as the value.
-pub(crate) fn entries_referred(
+pub(crate) fn entries_referred<L: ListReader>(
     alloc: Global,
-    sources: &[Named],
-    lists: &Lists,
+    lists: &L,
     field: &str,
     references: &[Reference],
 ) -> Result<Seq<Entry>, OutOfMemory>
-    requires { AreLists sources.now lists.now }
-    ensures { IfOk result (λ entries. entries ≡ entries_referred (scope_in sources.now lists.now) field.now references.now) }
+    requires { AreAllRows (L.named lists.now) }
+    ensures { IfOk result (λ entries. entries ≡ entries_referred (scope_read (L.named lists.now)) field.now references.now) }
 {
     let mut out = Seq::new(alloc);
     for reference in references {
         push_referred_entries(
+            alloc,
             &mut out,
-            sources,
             lists,
             reference.data_.as_str(),
             reference.field.as_str(),

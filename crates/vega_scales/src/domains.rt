@@ -4,7 +4,7 @@ ghost use Rattle.std.specs.Option.{option_map};
 ghost use Rattle.expr_eval.specs.Answers.{Evaluates};
 ghost use Rattle.expr_eval.specs.Plain.{null_row};
 ghost use Rattle.expr_eval.specs.Value.{value_of};
-ghost use Rattle.vega_lists.specs.Held.{scope_in, AreLists};
+ghost use Rattle.vega_lists.specs.Held.{scope_read, AreAllRows};
 ghost use Rattle.vega_scales.specs.Cells.{in_first_order};
 ghost use Rattle.vega_scales.specs.Domains.{cells_in, reference_of, cells_referred, entries_referred, in_order, discrete_domain};
 ghost use Rattle.vega_scales.specs.Domains.{cells_of_domain, counting_in, raw_domain, extent_of_domain, widened_domain};
@@ -17,13 +17,13 @@ use crate::evaluation::eval_alone;
 use crate::scales::{is_set, is_time};
 use crate::widening::widened_as_asked;
 use crate::{cells, columns, orders};
-use cell_value::{Cell, Named};
+use cell_value::Cell;
 use expr_eval::{EvalError, ParamReader};
 use expr_syntax::Expr;
 use fixed_num::Num;
 use std::alloc::Global;
 use text_kit::{OutOfMemory, Seq, copy_list};
-use vega_lists::Lists;
+use vega_lists::ListReader;
 use vega_spec::{Domain, DomainOrder, FieldDomain, Order, Reference, Scale};
 
 // A list of one cell.
@@ -78,71 +78,67 @@ fn one_reference(alloc: Global, of: &FieldDomain) -> Result<Seq<Reference>, OutO
 }
 
 // The distinct cells of references by their first rows.
-fn by_first_rows(
+fn by_first_rows<L: ListReader>(
     alloc: Global,
-    sources: &[Named],
-    lists: &Lists,
+    lists: &L,
     references: &[Reference],
 ) -> Result<Seq<Cell>, OutOfMemory>
-    requires { AreLists sources.now lists.now }
-    ensures { IfOk result (λ out. out ≡ in_first_order (cells_referred (scope_in sources.now lists.now) references.now)) }
+    requires { AreAllRows (L.named lists.now) }
+    ensures { IfOk result (λ out. out ≡ in_first_order (cells_referred (scope_read (L.named lists.now)) references.now)) }
 {
-    let cells = columns::cells_referred(alloc, sources, lists, references)?;
+    let cells = columns::cells_referred(alloc, lists, references)?;
     cells::in_first_order(alloc, cells.as_slice())
 }
 
 // The distinct cells of references by themselves.
-fn by_cells(
+fn by_cells<L: ListReader>(
     alloc: Global,
-    sources: &[Named],
-    lists: &Lists,
+    lists: &L,
     references: &[Reference],
     direction: Option<Order>,
 ) -> Result<Seq<Cell>, OutOfMemory>
-    requires { AreLists sources.now lists.now }
-    ensures { IfOk result (λ out. out ≡ in_direction direction (cells_referred (scope_in sources.now lists.now) references.now)) }
+    requires { AreAllRows (L.named lists.now) }
+    ensures { IfOk result (λ out. out ≡ in_direction direction (cells_referred (scope_read (L.named lists.now)) references.now)) }
 {
-    let cells = columns::cells_referred(alloc, sources, lists, references)?;
+    let cells = columns::cells_referred(alloc, lists, references)?;
     orders::in_direction(alloc, direction, cells)
 }
 
 // The distinct cells of references by an operation over a field.
-fn by_field(
+fn by_field<L: ListReader>(
     alloc: Global,
-    sources: &[Named],
-    lists: &Lists,
+    lists: &L,
     references: &[Reference],
     direction: Option<Order>,
     op: u16,
     field: &str,
 ) -> Result<Seq<Cell>, EvalError>
-    requires { AreLists sources.now lists.now }
-    ensures { Evaluates result (by_operation direction op (entries_referred (scope_in sources.now lists.now) field.now references.now)) }
+    requires { AreAllRows (L.named lists.now) }
+    ensures { Evaluates result (by_operation direction op (entries_referred (scope_read (L.named lists.now)) field.now references.now)) }
 {
-    let entries = columns::entries_referred(alloc, sources, lists, field, references)?;
+    let entries = columns::entries_referred(alloc, lists, field, references)?;
     orders::by_operation(alloc, direction, op, entries.as_slice())
 }
 
 // The distinct cells of references in their order.
-fn in_order(
+fn in_order<L: ListReader>(
     alloc: Global,
-    sources: &[Named],
-    lists: &Lists,
+    lists: &L,
     references: &[Reference],
     sort: &Option<DomainOrder>,
 ) -> Result<Seq<Cell>, EvalError>
-    requires { AreLists sources.now lists.now }
-    ensures { Evaluates result (in_order (scope_in sources.now lists.now) references.now sort.now) }
+    requires { AreAllRows (L.named lists.now) }
+    ensures { Evaluates result (in_order (scope_read (L.named lists.now)) references.now sort.now) }
 {
     match sort {
-        None => Ok(by_first_rows(alloc, sources, lists, references)?),
-        Some(DomainOrder::True) => Ok(by_cells(alloc, sources, lists, references, None)?),
+        None => Ok(by_first_rows(alloc, lists, references)?),
+        Some(DomainOrder::True) => Ok(by_cells(alloc, lists, references, None)?),
         Some(DomainOrder::Cells(direction)) => {
-            Ok(by_cells(alloc, sources, lists, references, *direction)?)
+            Ok(by_cells(alloc, lists, references, *direction)?)
         }
         Some(DomainOrder::Operation(direction, op, field)) => {
             let field = field.as_str();
-            by_field(alloc, sources, lists, references, *direction, *op, field)
+            by_field(alloc, lists, references, *direction, *op, field)
         }
     }
 }
@@ -150,48 +146,46 @@ fn in_order(
 /// The cells of a discrete domain: a list and the cells that the value of an expression stands for as they are, those of references
 /// distinct and in their order: by their first rows, ascending or descending, or by an operation over a field of the rows that have the
 /// cell. `Overflow` comes exactly where the expression overflows, or a sum by which the cells stand.
-pub fn discrete_domain<P: ParamReader>(
+pub fn discrete_domain<L: ListReader, P: ParamReader>(
     alloc: Global,
     domain: &Domain,
-    sources: &[Named],
-    lists: &Lists,
+    lists: &L,
     params: &P,
 ) -> Result<Seq<Cell>, EvalError>
-    requires { AreLists sources.now lists.now }
-    ensures { Evaluates result (discrete_domain (P.values params.now) (scope_in sources.now lists.now) domain.now) }
+    requires { AreAllRows (L.named lists.now) }
+    ensures { Evaluates result (discrete_domain (P.values params.now) (scope_read (L.named lists.now)) domain.now) }
 {
     match domain {
         Domain::Cells(cells) => Ok(copy_list(alloc, cells.as_slice())?),
         Domain::Signal(e) => cells_of_value(alloc, e, params),
         Domain::Field(of) => {
             let references = one_reference(alloc, of)?;
-            in_order(alloc, sources, lists, references.as_slice(), &of.sort)
+            in_order(alloc, lists, references.as_slice(), &of.sort)
         }
-        Domain::Fields(of) => in_order(alloc, sources, lists, of.fields.as_slice(), &of.sort),
+        Domain::Fields(of) => in_order(alloc, lists, of.fields.as_slice(), &of.sort),
     }
 }
 
 // The cells of which the domain of a continuous scale is made.
-fn cells_of_domain<P: ParamReader>(
+fn cells_of_domain<L: ListReader, P: ParamReader>(
     alloc: Global,
     domain: &Domain,
-    sources: &[Named],
-    lists: &Lists,
+    lists: &L,
     params: &P,
 ) -> Result<Seq<Cell>, EvalError>
-    requires { AreLists sources.now lists.now }
-    ensures { Evaluates result (cells_of_domain (P.values params.now) (scope_in sources.now lists.now) domain.now) }
+    requires { AreAllRows (L.named lists.now) }
+    ensures { Evaluates result (cells_of_domain (P.values params.now) (scope_read (L.named lists.now)) domain.now) }
 {
     match domain {
         Domain::Cells(cells) => Ok(copy_list(alloc, cells.as_slice())?),
         Domain::Signal(e) => cells_of_value(alloc, e, params),
         Domain::Field(of) => {
             let references = one_reference(alloc, of)?;
-            Ok(columns::cells_referred(alloc, sources, lists, references.as_slice())?)
+            Ok(columns::cells_referred(alloc, lists, references.as_slice())?)
         }
         Domain::Fields(of) => {
             let references = of.fields.as_slice();
-            Ok(columns::cells_referred(alloc, sources, lists, references)?)
+            Ok(columns::cells_referred(alloc, lists, references)?)
         }
     }
 }
@@ -236,19 +230,18 @@ fn extent_in(scale: &Scale, cells: &[Cell]) -> (Num, Num)
 }
 
 // The least and the greatest number among the cells of the domain of a scale.
-fn extent_of_domain<P: ParamReader>(
+fn extent_of_domain<L: ListReader, P: ParamReader>(
     alloc: Global,
     scale: &Scale,
-    sources: &[Named],
-    lists: &Lists,
+    lists: &L,
     params: &P,
 ) -> Result<(Num, Num), EvalError>
-    requires { AreLists sources.now lists.now }
-    ensures value { Evaluates result (extent_of_domain (P.values params.now) (scope_in sources.now lists.now) (is_time scale.now)
+    requires { AreAllRows (L.named lists.now) }
+    ensures value { Evaluates result (extent_of_domain (P.values params.now) (scope_read (L.named lists.now)) (is_time scale.now)
         scale.now.domain) }
     ensures ordered { IfOk result (λ ends. ends.0 ≤ℤ ends.1) }
 {
-    let cells = cells_of_domain(alloc, &scale.domain, sources, lists, params)?;
+    let cells = cells_of_domain(alloc, &scale.domain, lists, params)?;
     Ok(extent_in(scale, cells.as_slice()))
 }
 
@@ -262,19 +255,18 @@ fn widened(scale: &Scale, ends: (Num, Num)) -> Option<(Num, Num)>
 }
 
 // The domain that the cells of a domain give.
-fn widened_domain<P: ParamReader>(
+fn widened_domain<L: ListReader, P: ParamReader>(
     alloc: Global,
     scale: &Scale,
-    sources: &[Named],
-    lists: &Lists,
+    lists: &L,
     params: &P,
 ) -> Result<(Num, Num), EvalError>
-    requires { AreLists sources.now lists.now }
-    ensures value { Evaluates result (widened_domain (P.values params.now) (scope_in sources.now lists.now) (is_time scale.now)
+    requires { AreAllRows (L.named lists.now) }
+    ensures value { Evaluates result (widened_domain (P.values params.now) (scope_read (L.named lists.now)) (is_time scale.now)
         (is_set scale.now.zero) (is_set scale.now.nice) scale.now.domain) }
     ensures ordered { IfOk result (λ ends. ends.0 ≤ℤ ends.1) }
 {
-    let ends = extent_of_domain(alloc, scale, sources, lists, params)?;
+    let ends = extent_of_domain(alloc, scale, lists, params)?;
     match widened(scale, ends) {
         Some(domain) => Ok(domain),
         None => Err(EvalError::Overflow),
@@ -285,20 +277,19 @@ fn widened_domain<P: ParamReader>(
 /// the greatest number of the domain, 0 and 1 where it has none, which take in 0 and are widened to round numbers as the scale asks. On a
 /// time scale only instants in range count, and what is widened is cut to that range. `Overflow` comes exactly where an expression that is
 /// needed overflows or the domain is widened out of range.
-pub(crate) fn continuous_domain<P: ParamReader>(
+pub(crate) fn continuous_domain<L: ListReader, P: ParamReader>(
     alloc: Global,
     scale: &Scale,
-    sources: &[Named],
-    lists: &Lists,
+    lists: &L,
     params: &P,
 ) -> Result<(Num, Num), EvalError>
-    requires { AreLists sources.now lists.now }
-    ensures value { Evaluates result (numbers_of_scale (P.values params.now) (scope_in sources.now lists.now) scale.now) }
+    requires { AreAllRows (L.named lists.now) }
+    ensures value { Evaluates result (numbers_of_scale (P.values params.now) (scope_read (L.named lists.now)) scale.now) }
     ensures ordered { IfOk result (λ ends. ends.0 ≤ℤ ends.1) }
 {
     match raw_domain(alloc, scale, params) {
         Ok(Some(given)) => Ok(given),
-        Ok(None) => widened_domain(alloc, scale, sources, lists, params),
+        Ok(None) => widened_domain(alloc, scale, lists, params),
         Err(e) => Err(e),
     }
 }

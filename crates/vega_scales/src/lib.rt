@@ -9,11 +9,18 @@ mod domains;
 mod entries;
 mod evaluation;
 mod keyed;
+mod laws;
 mod numbers;
 mod orders;
 mod ranges;
+mod scaled;
 mod scales;
 mod widening;
 
 pub use domains::discrete_domain;
-pub use scales::{domain_length, is_built, is_discrete, is_domain_built, is_ordinal, scale_of};
+pub use laws::laws_of_scales;
+pub use scaled::{Scaled, domain_size};
+pub use scales::{
+    domain_length, domain_of, is_built, is_discrete, is_domain_built, is_ordinal, scale_of,
+    scale_over,
+};

@@ -2,24 +2,26 @@
 ghost use Rattle.std.specs.Prelude.{◌≡◌, ◌≤ℤ◌, false, pos, length, IfOk, IsTrue};
 ghost use Rattle.std.specs.Option.{option_map};
 ghost use Rattle.expr_eval.specs.Answers.{Evaluates};
-ghost use Rattle.vega_lists.specs.Held.{scope_in, AreLists};
+ghost use Rattle.vega_lists.specs.Held.{scope_read, AreAllRows};
 ghost use Rattle.scale_kit.specs.Scale.{IsPixel, IsRange, IsScale, AreInstants};
+ghost use Rattle.vega_scales.specs.declared.scaled.Scaled.TheVariants as scaled;
 ghost use Rattle.vega_scales.specs.Scales.{is_discrete, is_ordinal, is_time, is_set, ends_of, banded, ordinal_over, over_numbers};
-ghost use Rattle.vega_scales.specs.Scales.{cells_of_scale};
-ghost use Rattle.vega_scales.specs.Scales.{numbers_of_scale, scale_of, domain_length, is_order_built, is_domain_built, has_ends};
+ghost use Rattle.vega_scales.specs.Scales.{numbers_of_scale, between, domain_of, scale_over, scale_of, domain_length, FitsScale};
+ghost use Rattle.vega_scales.specs.Scales.{is_order_built, is_domain_built, has_ends};
 ghost use Rattle.vega_scales.specs.Scales.{has_entries, is_ramp, fits_range, is_built, KeepsBounds};
 
 use crate::domains::{continuous_domain, discrete_domain};
 use crate::entries::{color_from, color_to, entries_of};
 use crate::numbers::zero;
 use crate::ranges::{ends_in, padding_of, turned};
-use cell_value::{Cell, Named};
+use crate::scaled::Scaled;
+use cell_value::Cell;
 use expr_eval::{EvalError, ParamReader};
 use fixed_num::Num;
 use scale_kit::Scale;
 use std::alloc::Global;
 use text_kit::{OutOfMemory, Seq};
-use vega_lists::Lists;
+use vega_lists::ListReader;
 use vega_spec::{Domain, DomainOrder, Range};
 
 // The codes of the kinds of scales.
@@ -190,41 +192,6 @@ fn ordinal_over(
     })
 }
 
-// An ordinal scale.
-fn ordinal_scale<P: ParamReader>(
-    alloc: Global,
-    scale: &vega_spec::Scale,
-    sources: &[Named],
-    lists: &Lists,
-    params: &P,
-) -> Result<Scale, EvalError>
-    requires { AreLists sources.now lists.now }
-    ensures value { Evaluates result (option_map (ordinal_over scale.now)
-        (cells_of_scale (P.values params.now) (scope_in sources.now lists.now) scale.now)) }
-    ensures kept { IsTrue (has_entries scale.now.range) → IfOk result IsScale }
-{
-    let cells = discrete_domain(alloc, &scale.domain, sources, lists, params)?;
-    Ok(ordinal_over(alloc, scale, cells)?)
-}
-
-// A band or a point scale.
-fn banded_scale<P: ParamReader>(
-    alloc: Global,
-    scale: &vega_spec::Scale,
-    sources: &[Named],
-    lists: &Lists,
-    ends: (Num, Num),
-    params: &P,
-) -> Result<Scale, EvalError>
-    requires { AreLists sources.now lists.now }
-    ensures value { Evaluates result (option_map (banded scale.now ends)
-        (cells_of_scale (P.values params.now) (scope_in sources.now lists.now) scale.now)) }
-    ensures kept { KeepsBounds scale.now → IsRange ends → IfOk result IsScale }
-{
-    let cells = discrete_domain(alloc, &scale.domain, sources, lists, params)?;
-    Ok(banded(scale, ends, cells))
-}
-
 // The numbers or the instants of a domain, laid over a range of places or over the colours of a ramp.
 fn over_numbers(scale: &vega_spec::Scale, ends: (Num, Num), d0: Num, d1: Num) -> Scale
     requires ordered { d0 ≤ℤ d1 }
@@ -248,68 +215,145 @@ fn over_numbers(scale: &vega_spec::Scale, ends: (Num, Num), d0: Num, d1: Num) ->
     }
 }
 
-// A continuous scale.
-fn continuous_scale<P: ParamReader>(
+// The scale over the cells of a discrete one.
+#[tactic(auto, using(crate::proofs::ScaleLemmas::entries_fit))]
+fn over_cells(
     alloc: Global,
     scale: &vega_spec::Scale,
-    sources: &[Named],
-    lists: &Lists,
-    ends: (Num, Num),
-    params: &P,
-) -> Result<Scale, EvalError>
-    requires { AreLists sources.now lists.now }
-    ensures value { Evaluates result (option_map (over_numbers scale.now ends)
-        (numbers_of_scale (P.values params.now) (scope_in sources.now lists.now) scale.now)) }
-    ensures kept { IsRange ends → IfOk result IsScale }
+    width: Num,
+    height: Num,
+    cells: Seq<Cell>,
+) -> Result<Scale, OutOfMemory>
+    requires { IsTrue (is_built scale.now) }
+    ensures value { IfOk result (λ made. made ≡ scale_over scale.now width height (scaled.Cells cells)) }
+    ensures kept { KeepsBounds scale.now → IsPixel width → IsPixel height → IfOk result IsScale }
 {
-    let (d0, d1) = continuous_domain(alloc, scale, sources, lists, params)?;
-    Ok(over_numbers(scale, ends, d0, d1))
+    if is_ordinal(scale) {
+        Ok(ordinal_over(alloc, scale, cells)?)
+    } else {
+        Ok(banded(scale, ends_of(scale, width, height), cells))
+    }
 }
 
-/// The scale of a specification in a plot of this width and height, from the lists of rows. `Overflow` comes exactly where an expression
-/// that its domain needs overflows, or a sum by which the cells of its domain stand, or its domain is widened out of range.
-#[tactic(auto, using(crate::proofs::ScaleLemmas::entries_fit))]
-pub fn scale_of<P: ParamReader>(
+// The scale from a number to another.
+#[tactic(auto, using(crate::proofs::ScaleLemmas::not_ordinal))]
+fn over_between(scale: &vega_spec::Scale, width: Num, height: Num, d0: Num, d1: Num) -> Scale
+    requires { FitsScale scale.now (scaled.Between d0 d1) }
+    ensures value { result ≡ scale_over scale.now width height (scaled.Between d0 d1) }
+    ensures kept { KeepsBounds scale.now → IsPixel width → IsPixel height → IsScale result }
+{
+    over_numbers(scale, ends_of(scale, width, height), d0, d1)
+}
+
+// The scale over a domain that becomes a part of it.
+fn scale_with(
     alloc: Global,
     scale: &vega_spec::Scale,
-    sources: &[Named],
-    lists: &Lists,
+    width: Num,
+    height: Num,
+    domain: Scaled,
+) -> Result<Scale, OutOfMemory>
+    requires built { IsTrue (is_built scale.now) }
+    requires fits { FitsScale scale.now domain }
+    ensures value { IfOk result (λ made. made ≡ scale_over scale.now width height domain) }
+    ensures kept { KeepsBounds scale.now → IsPixel width → IsPixel height → IfOk result IsScale }
+{
+    match domain {
+        Scaled::Cells(cells) => Ok(over_cells(alloc, scale, width, height, cells)?),
+        Scaled::Between(d0, d1) => Ok(over_between(scale, width, height, d0, d1)),
+    }
+}
+
+/// The scale of a specification over a domain that `domain_of` gives for it, in a plot of this width and height in pixels.
+pub fn scale_over(
+    alloc: Global,
+    scale: &vega_spec::Scale,
+    width: Num,
+    height: Num,
+    domain: &Scaled,
+) -> Result<Scale, OutOfMemory>
+    requires built { IsTrue (is_built scale.now) }
+    requires fits { FitsScale scale.now domain.now }
+    ensures value { IfOk result (λ made. made ≡ scale_over scale.now width height domain.now) }
+    // What callers of a scale ask of it holds where its numbers are those that specifications may have.
+    ensures kept { KeepsBounds scale.now → IsPixel width → IsPixel height → IfOk result IsScale }
+{
+    let own = domain.copy(alloc)?;
+    Ok(scale_with(alloc, scale, width, height, own)?)
+}
+
+// The numbers between which a continuous scale runs.
+fn numbers_between<L: ListReader, P: ParamReader>(
+    alloc: Global,
+    scale: &vega_spec::Scale,
+    lists: &L,
+    params: &P,
+) -> Result<Scaled, EvalError>
+    requires lists { AreAllRows (L.named lists.now) }
+    requires continuous { is_discrete scale.now ≡ false }
+    ensures value { Evaluates result (option_map between
+        (numbers_of_scale (P.values params.now) (scope_read (L.named lists.now)) scale.now)) }
+    ensures fits { IfOk result (FitsScale scale.now) }
+{
+    let (d0, d1) = continuous_domain(alloc, scale, lists, params)?;
+    Ok(Scaled::Between(d0, d1))
+}
+
+/// What a scale of a specification scales, from the lists of rows. `Overflow` comes exactly where an expression that its domain needs
+/// overflows, or a sum by which the cells of its domain stand, or its domain is widened out of range.
+pub fn domain_of<L: ListReader, P: ParamReader>(
+    alloc: Global,
+    scale: &vega_spec::Scale,
+    lists: &L,
+    params: &P,
+) -> Result<Scaled, EvalError>
+    requires lists { AreAllRows (L.named lists.now) }
+    requires built { IsTrue (is_built scale.now) }
+    ensures value { Evaluates result (domain_of (P.values params.now) (scope_read (L.named lists.now)) scale.now) }
+    ensures fits { IfOk result (FitsScale scale.now) }
+{
+    if is_discrete(scale) {
+        let cells = discrete_domain(alloc, &scale.domain, lists, params)?;
+        Ok(Scaled::Cells(cells))
+    } else {
+        numbers_between(alloc, scale, lists, params)
+    }
+}
+
+/// The scale of a specification in a plot of this width and height, from the lists of rows. `Overflow` comes exactly where its domain
+/// overflows.
+pub fn scale_of<L: ListReader, P: ParamReader>(
+    alloc: Global,
+    scale: &vega_spec::Scale,
+    lists: &L,
     width: Num,
     height: Num,
     params: &P,
 ) -> Result<Scale, EvalError>
-    requires lists { AreLists sources.now lists.now }
+    requires lists { AreAllRows (L.named lists.now) }
     requires built { IsTrue (is_built scale.now) }
-    ensures value { Evaluates result (scale_of (P.values params.now) (scope_in sources.now lists.now) width height scale.now) }
+    ensures value { Evaluates result (scale_of (P.values params.now) (scope_read (L.named lists.now)) width height scale.now) }
     // What callers of a scale ask of it holds where its numbers are those that specifications may have.
     ensures kept { KeepsBounds scale.now → IsPixel width → IsPixel height → IfOk result IsScale }
 {
-    if is_ordinal(scale) {
-        return ordinal_scale(alloc, scale, sources, lists, params);
-    }
-    let ends = ends_of(scale, width, height);
-    if is_discrete(scale) {
-        banded_scale(alloc, scale, sources, lists, ends, params)
-    } else {
-        continuous_scale(alloc, scale, sources, lists, ends, params)
-    }
+    let domain = domain_of(alloc, scale, lists, params)?;
+    Ok(scale_with(alloc, scale, width, height, domain)?)
 }
 
 /// How long the domain of a scale is: as many cells as a discrete one has, and 2 otherwise. `Overflow` comes exactly where the
 /// expression of a discrete scale's domain overflows, or a sum by which its cells stand.
-pub fn domain_length<P: ParamReader>(
+pub fn domain_length<L: ListReader, P: ParamReader>(
     alloc: Global,
     scale: &vega_spec::Scale,
-    sources: &[Named],
-    lists: &Lists,
+    lists: &L,
     params: &P,
 ) -> Result<u64, EvalError>
-    requires lists { AreLists sources.now lists.now }
+    requires lists { AreAllRows (L.named lists.now) }
     requires built { IsTrue (is_domain_built scale.now.domain) }
-    ensures { Evaluates result (domain_length (P.values params.now) (scope_in sources.now lists.now) scale.now) }
+    ensures { Evaluates result (domain_length (P.values params.now) (scope_read (L.named lists.now)) scale.now) }
 {
     if is_discrete(scale) {
-        let cells = discrete_domain(alloc, &scale.domain, sources, lists, params)?;
+        let cells = discrete_domain(alloc, &scale.domain, lists, params)?;
         Ok(cells.len() as u64)
     } else {
         Ok(2)

@@ -9,13 +9,13 @@ use Rattle.cell_value.specs.declared.state.Key.{Key}
 use Rattle.cell_value.specs.declared.state.Keyed.{Keyed}
 use Rattle.cell_value.specs.declared.state.Named.{Named}
 use Rattle.cell_value.specs.State.{greatest_id}
-use Rattle.plain_rows.specs.Rows.{AreRows, AreKeys, IsBefore, keys_of}
+use Rattle.plain_rows.specs.Rows.{AreKeys, IsBefore}
 use Rattle.vega_spec.specs.declared.data.DataSet.{DataSet}
 use Rattle.vega_spec.specs.declared.transforms.Transform.{Transform}
 use Rattle.vega_lists.specs.Transforms.{is_kept, transforms_of, OfTransforms}
 use Rattle.vega_lists.specs.Products.{Products, KeysFit, FoldsFit, no_folds, fold_length, fold_product, fold_products, begun_product, and_its_product}
 use Rattle.vega_lists.specs.Held.{AreSources}
-use Rattle.vega_signal_tests.specs.Plain.{IsPlain, IsPlainSet}
+use Rattle.vega_signal_tests.specs.Plain.{IsPlain, IsPlainSet, IsListed}
 
 abbrev numbered : ℕ → Key
 numbered id = record { id = id; branch = 0 }
@@ -50,12 +50,16 @@ three_fit = record {
       (All-cons IsFirst (numbered 2) (numbered 3 ∷ []) (lit< tt) (All-cons IsFirst (numbered 3) [] (lit< tt) (All-nil IsFirst)));
 }
 
+pub three_are_listed : (a b c : Keyed) → a.key ≡ numbered 1 → b.key ≡ numbered 2 → c.key ≡ numbered 3 → IsListed (a ∷ b ∷ c ∷ [])
+three_are_listed a b c p q r =
+    let same : a.key ∷ b.key ∷ c.key ∷ [] ≡ three = λ i. p i ∷ q i ∷ r i ∷ [] in
+    (subst AreKeys (sym same) three_keys, subst (KeysFit 1) (sym same) three_fit)
+
 pub three_are_sources : (name : List ℕ) (a b c : Keyed) → a.key ≡ numbered 1 → b.key ≡ numbered 2 → c.key ≡ numbered 3
     → AreSources (record { name = name; rows = a ∷ b ∷ c ∷ [] } ∷ [])
 three_are_sources name a b c p q r =
-    let same : a.key ∷ b.key ∷ c.key ∷ [] ≡ three = λ i. p i ∷ q i ∷ r i ∷ [] in
-    let IsSource : Named → Type 0 = λ source. AreRows source.rows × KeysFit 1 (keys_of source.rows) in
-    All-cons IsSource (record { name = name; rows = a ∷ b ∷ c ∷ [] }) [] (subst AreKeys (sym same) three_keys, subst (KeysFit 1) (sym same) three_fit) (All-nil IsSource)
+    All-cons (λ (source : Named). IsListed source.rows) (record { name = name; rows = a ∷ b ∷ c ∷ [] }) [] (three_are_listed a b c p q r)
+    (All-nil (λ (source : Named). IsListed source.rows))
 
 pub plain_kept : (sets : List DataSet) → All IsPlainSet sets → All (OfTransforms is_kept) sets
 plain_kept sets each k d lt i t below = (each k d lt i t below).kept

@@ -2,4 +2,6 @@
 #![tactic(auto)]
 
 #[cfg(test)]
+mod inner;
+#[cfg(test)]
 mod signals;

@@ -52,7 +52,7 @@ x=[1,2] z=[2.1,2.1] y=[2,3] w=[2,2]\n\
 | t: a = 1000000000000000 + datum._vgsid_; extent a x -> x=null\n\
 b = a === null ? 1000000000000000 : a; a = 5 | t: c = b + datum._vgsid_; extent c x -> b=5 a=5 x=[6,8]\n";
 
-fn bare(alloc: Global, id: u64) -> Keyed
+pub(crate) fn bare(alloc: Global, id: u64) -> Keyed
     ensures { result.key ≡ record { id = id; branch = 0 } }
 {
     Keyed {
@@ -78,7 +78,7 @@ fn sources(alloc: Global) -> Result<Seq<Named>, OutOfMemory>
 
 // Why a line has no answer.
 #[derive(Drop)]
-enum Stop {
+pub(crate) enum Stop {
     Shape,
     Overflow,
     Memory,
@@ -223,7 +223,7 @@ fn set_of(alloc: Global, words: &str) -> Result<DataSet, Stop>
     })
 }
 
-fn sets_of(alloc: Global, line: &str) -> Result<Seq<DataSet>, Stop>
+pub(crate) fn sets_of(alloc: Global, line: &str) -> Result<Seq<DataSet>, Stop>
     ensures { IfOk result (All IsPlainSet) }
 {
     let mut sets = Seq::new(alloc);
@@ -265,7 +265,7 @@ fn push_signal(
     Ok(())
 }
 
-fn signals_of(
+pub(crate) fn signals_of(
     alloc: Global,
     words: &str,
     params: &mut Seq<(Text, Cell)>,
@@ -296,7 +296,7 @@ fn top_of(sets: Seq<DataSet>, signals: Seq<Signal>) -> Group
 }
 
 // The values, each behind a blank.
-fn shown(alloc: Global, values: &[(Text, Cell)]) -> Result<Text, OutOfMemory> {
+pub(crate) fn shown(alloc: Global, values: &[(Text, Cell)]) -> Result<Text, OutOfMemory> {
     let mut out = Text::new(alloc);
     for value in values {
         out.push_str(" ")?;
@@ -318,7 +318,7 @@ fn answered(alloc: Global, line: &str) -> Result<Text, Stop> {
     Ok(shown(alloc, values.as_slice())?)
 }
 
-fn word_of(alloc: Global, answer: Result<Text, Stop>) -> Result<Text, OutOfMemory> {
+pub(crate) fn word_of(alloc: Global, answer: Result<Text, Stop>) -> Result<Text, OutOfMemory> {
     match answer {
         Ok(values) => Ok(values),
         Err(Stop::Shape) => Text::of(alloc, " unread"),

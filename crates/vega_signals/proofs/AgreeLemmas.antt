@@ -1,11 +1,11 @@
 -- What is read under names that agree.
-use Rattle.std.proofs.Common.{◌≡◌, ℕ, ◌*◌, pos, not, List, [], ◌∷◌, ◌++◌, map, flat_map, Option, Some, refl, sym, ap, ap₂, ◌∙◌, subst}
+use Rattle.std.proofs.Common.{◌≡◌, ℕ, not, List, [], ◌∷◌, ◌++◌, map, flat_map, Option, Some, refl, sym, ap, ap₂, ◌∙◌, subst}
 use Rattle.fixed_num.specs.Ranges.{◌>>=◌}
 use Rattle.cell_value.specs.declared.cell.Cell.{Cell}
-use Rattle.cell_value.specs.declared.cell.Cell.TheVariants.{Null, Flag, Number, Text}
+use Rattle.cell_value.specs.declared.cell.Cell.TheVariants.{Flag}
 use Rattle.cell_value.specs.Cell.{truth}
 use Rattle.cell_value.specs.Datum.{CellAt}
-use Rattle.expr_syntax.specs.declared.expr.Expr.{Expr, Expr-F, roll-Expr, map-Expr, fold-Expr, fold-roll-Expr, ind-Expr}
+use Rattle.expr_syntax.specs.declared.expr.Expr.{Expr, Expr-F, roll-Expr, map-Expr, fold-roll-Expr, ind-Expr}
 use Rattle.expr_syntax.specs.declared.expr.Expr.TheOpen as form
 use Rattle.expr_syntax.specs.Names.{names_in, names_here}
 use Rattle.expr_eval.specs.Numbers.{cell_number, number_or_null}

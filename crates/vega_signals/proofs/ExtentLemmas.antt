@@ -1,6 +1,6 @@
 -- The extents of data sets, one transform and one set after the other.
-use Rattle.std.proofs.Common.{◌≡◌, ℕ, ℤ, zero, suc, ◌+◌, ◌*◌, ◌<◌, ◌≤◌, Bool, true, false, cond, IsTrue, List, [], ◌∷◌, ◌++◌, ◌||◌, take, drop, map, length, get_or, All, Option, Some, None, unwrap_or, option_map, is_some, append_assoc, refl, sym, ap, ◌∙◌, subst, arith}
-use Rattle.std.specs.List.{filter_map, cons_option, list_any}
+use Rattle.std.proofs.Common.{◌≡◌, ℕ, ℤ, zero, suc, ◌+◌, ◌*◌, ◌<◌, ◌≤◌, Bool, true, false, cond, List, [], ◌∷◌, ◌++◌, ◌||◌, drop, map, length, get_or, Option, Some, None, unwrap_or, is_some, append_assoc, refl, sym, ap, ◌∙◌, subst, arith}
+use Rattle.std.specs.List.{cons_option, list_any}
 use Rattle.std.specs.Option.{option_map_or}
 use Rattle.std.specs.Str.{bytes_eq}
 use Rattle.std.proofs.lemmas.List.{drop_more, drop_all, append-nil}
@@ -16,15 +16,16 @@ use Rattle.plain_bins.specs.Extents.{numbers_of, extent_of}
 use Rattle.vega_spec.specs.declared.data.DataSet.{DataSet}
 use Rattle.vega_spec.specs.declared.transforms.Extent.{Extent}
 use Rattle.vega_spec.specs.declared.transforms.Transform.{Transform}
-use Rattle.vega_lists.specs.Scopes.{Scope, no_lists, with_list}
-use Rattle.vega_lists.specs.Transforms.{transformed, transforms_of, AllTransforms, OfTransforms}
-use Rattle.vega_lists.specs.Products.{Products, KeysFit, FoldsFit, ProductsFit, fold_length, fold_product, begun_product, and_its_product, no_folds}
+use Rattle.vega_lists.specs.Scopes.{Scope}
+use Rattle.vega_lists.specs.Transforms.{transformed, transforms_of}
+use Rattle.vega_lists.specs.Products.{Products, KeysFit, fold_length, fold_product, begun_product, and_its_product}
 use Rattle.vega_lists.specs.Lists.{begun_rows}
-use Rattle.vega_lists.specs.Held.{AreSources, MayFold}
-use Rattle.vega_signals.specs.Signals.{extent_asked, data_extent, extent_over, extent_here, rows_left, all_left, extents_in, with_rows_left, set_extents}
-use Rattle.vega_signals.specs.inner.Rows.{RowsByName, rows_of, scope_by, AreAllRows, SetsMayFold, asks}
+use Rattle.vega_lists.specs.Held.{scope_read, AreAllRows, AreSources, MayFold}
+use Rattle.vega_signals.specs.Extents.{extent_asked, data_extent, extent_over, extent_here, rows_left, all_left, extents_in, with_rows_left, set_extents}
+use Rattle.vega_signals.specs.Outer.{Listed, ListedMayFold}
+use Rattle.vega_signals.specs.inner.Rows.{RowsByName, rows_of, scope_by, SetsMayFold, asks}
 use Rattle.vega_signals.proofs.KeyLemmas.{data_keys, keys_seen, transformed_fits}
-use Rattle.vega_signals.proofs.RowLemmas.{begun_fit, none_fit, no_scope_yet, no_rows_yet}
+use Rattle.vega_signals.proofs.RowLemmas.{begun_fit, none_fit, scope_yet, rows_yet}
 
 -- the numbers of rows as they are read
 pub numbers_seen : (name : List ℕ) (rows : List Keyed) → numbers_of cell_at name rows ≡ numbers_of (λ (datum : Datum). datum.cell) name (map datum_of rows)
@@ -111,76 +112,78 @@ module _ (values : Values) (scope : Scope) (rows : List Datum) (extents : List (
   found_at_the_end = sym (append-nil found) ∙ over.finds
 
 -- the rows with which a data set begins may fold
-pub begun_may_fold : (sources : List Named) (sound : AreSources sources) (lists : RowsByName) (set : DataSet) (rows : List Keyed) → SetsMayFold lists (set ∷ [])
-    → map datum_of rows ≡ begun_rows (map dataset_of sources) (scope_by lists) set → MayFold rows (transforms_of set)
-begun_may_fold sources sound lists set rows (products, fits, folds) e =
+pub begun_may_fold : (sources : List Named) (sound : AreSources sources) (outer : Listed) (lists : RowsByName) (set : DataSet) (rows : List Keyed)
+    → SetsMayFold outer lists (set ∷ []) → map datum_of rows ≡ begun_rows (map dataset_of sources) (scope_by outer lists) set → MayFold rows (transforms_of set)
+begun_may_fold sources sound outer lists set rows (products, fits, folds) e =
     let n = begun_product products set in
-    (n, subst (KeysFit n) (keys_seen rows) (subst (λ (l : List Datum). KeysFit n (data_keys l)) (sym e) (begun_fit sources sound lists set products fits)), folds.0)
+    (n, subst (KeysFit n) (keys_seen rows) (subst (λ (l : List Datum). KeysFit n (data_keys l)) (sym e) (begun_fit sources sound outer lists set products fits)), folds.0)
 
 fits_either : (b : Bool) (p q : ℕ) (rows others : List Datum) → KeysFit p (data_keys rows) → KeysFit q (data_keys others) → KeysFit (cond b p q) (data_keys (cond b rows others))
 fits_either true p q rows others x y = x
 fits_either false p q rows others x y = y
 
 -- the rows that names stand for so far and the extents that were found, and what they give with the data sets that are to come
-pub record SetsLeft (values : Values) (sources : List Named) (whole : List (List ℕ × Cell)) (coming : List DataSet) (lists : RowsByName)
+pub record SetsLeft (values : Values) (sources : List Named) (outer : Listed) (whole : List (List ℕ × Cell)) (coming : List DataSet) (lists : RowsByName)
     (found : List (List ℕ × Cell)) : Type 0 where
-  pub finds : found ++ set_extents values (map dataset_of sources) (scope_by lists) coming ≡ whole
-  pub are : AreAllRows lists
-  pub folds : SetsMayFold lists coming
+  pub finds : found ++ set_extents values (map dataset_of sources) (scope_by outer lists) coming ≡ whole
+  pub are : AreAllRows (rows_of outer lists)
+  pub folds : SetsMayFold outer lists coming
 
-module _ (values : Values) (sources : List Named) (sound : AreSources sources) (whole : List (List ℕ × Cell)) (all : List DataSet) (i : ℕ) (set : DataSet)
+module _ (values : Values) (sources : List Named) (sound : AreSources sources) (outer : Listed) (whole : List (List ℕ × Cell)) (all : List DataSet) (i : ℕ) (set : DataSet)
     (lists : RowsByName) (found : List (List ℕ × Cell)) (lt : i < length all) (at : set ≡ get_or all i set)
-    (way : SetsLeft values sources whole (drop i all) lists found) where
-  set_here : SetsLeft values sources whole (set ∷ drop (i + 1) all) lists found
-  set_here = subst (λ coming. SetsLeft values sources whole coming lists found) (drop_more all i set lt ∙ ap (λ s. s ∷ drop (i + 1) all) (sym at)) way
+    (way : SetsLeft values sources outer whole (drop i all) lists found) where
+  set_here : SetsLeft values sources outer whole (set ∷ drop (i + 1) all) lists found
+  set_here = subst (λ coming. SetsLeft values sources outer whole coming lists found) (drop_more all i set lt ∙ ap (λ s. s ∷ drop (i + 1) all) (sym at)) way
 
   -- the next data set may fold
-  pub set_may_fold : SetsMayFold lists (set ∷ [])
+  pub set_may_fold : SetsMayFold outer lists (set ∷ [])
   set_may_fold = let (products, fits, folds) = set_here.folds in (products, fits, (folds.0, tt))
 
-  fits_after : (next : RowsByName) (products : Products) → ((name : List ℕ) → KeysFit (products name) (keys_of (rows_of lists name)))
-      → scope_by next ≡ with_rows_left values (map dataset_of sources) (scope_by lists) set
-      → (name : List ℕ) → KeysFit (and_its_product products set name) (keys_of (rows_of next name))
+  fits_after : (next : RowsByName) (products : Products) → ((name : List ℕ) → KeysFit (products name) (keys_of (rows_of outer lists name)))
+      → scope_by outer next ≡ with_rows_left values (map dataset_of sources) (scope_by outer lists) set
+      → (name : List ℕ) → KeysFit (and_its_product products set name) (keys_of (rows_of outer next name))
   fits_after next products fits scope other =
       let product = fold_product (begun_product products set) (transforms_of set) in
-      let begun = begun_rows (map dataset_of sources) (scope_by lists) set in
-      let made : KeysFit product (data_keys (all_left values (scope_by lists) (transforms_of set) begun)) =
-      all_left_fits values (scope_by lists) (transforms_of set) begun (begun_product products set) (begun_fit sources sound lists set products fits) in
-      let old : KeysFit (products other) (data_keys (scope_by lists other)) = subst (KeysFit (products other)) (sym (keys_seen (rows_of lists other))) (fits other) in
-      let now : KeysFit (and_its_product products set other) (data_keys (scope_by next other)) =
+      let begun = begun_rows (map dataset_of sources) (scope_by outer lists) set in
+      let made : KeysFit product (data_keys (all_left values (scope_by outer lists) (transforms_of set) begun)) =
+      all_left_fits values (scope_by outer lists) (transforms_of set) begun (begun_product products set) (begun_fit sources sound outer lists set products fits) in
+      let old : KeysFit (products other) (data_keys (scope_by outer lists other)) = subst (KeysFit (products other)) (sym (keys_seen (rows_of outer lists other))) (fits other) in
+      let now : KeysFit (and_its_product products set other) (data_keys (scope_by outer next other)) =
       subst (λ (s : Scope). KeysFit (and_its_product products set other) (data_keys (s other))) (sym scope)
-      (fits_either (bytes_eq set.name other) product (products other) (all_left values (scope_by lists) (transforms_of set) begun) (scope_by lists other) made old) in
-      subst (KeysFit (and_its_product products set other)) (keys_seen (rows_of next other)) now
+      (fits_either (bytes_eq set.name other) product (products other) (all_left values (scope_by outer lists) (transforms_of set) begun) (scope_by outer lists other) made old) in
+      subst (KeysFit (and_its_product products set other)) (keys_seen (rows_of outer next other)) now
 
   -- a data set more
-  pub set_more : (next : RowsByName) (more : List (List ℕ × Cell)) → scope_by next ≡ with_rows_left values (map dataset_of sources) (scope_by lists) set
-      → AreAllRows next
-      → more ≡ found ++ extents_in values (scope_by lists) (transforms_of set) (begun_rows (map dataset_of sources) (scope_by lists) set)
-      → SetsLeft values sources whole (drop (i + 1) all) next more
+  pub set_more : (next : RowsByName) (more : List (List ℕ × Cell)) → scope_by outer next ≡ with_rows_left values (map dataset_of sources) (scope_by outer lists) set
+      → AreAllRows (rows_of outer next)
+      → more ≡ found ++ extents_in values (scope_by outer lists) (transforms_of set) (begun_rows (map dataset_of sources) (scope_by outer lists) set)
+      → SetsLeft values sources outer whole (drop (i + 1) all) next more
   set_more next more scope are is =
       let (products, fits, folds) = set_here.folds in
-      let here = extents_in values (scope_by lists) (transforms_of set) (begun_rows (map dataset_of sources) (scope_by lists) set) in
+      let here = extents_in values (scope_by outer lists) (transforms_of set) (begun_rows (map dataset_of sources) (scope_by outer lists) set) in
       let later : Scope → List (List ℕ × Cell) = λ s. set_extents values (map dataset_of sources) s (drop (i + 1) all) in
       record {
-        finds = ap (λ l. l ++ later (scope_by next)) is ∙ append_assoc found here (later (scope_by next)) ∙ ap (λ s. found ++ (here ++ later s)) scope ∙ set_here.finds;
+        finds = ap (λ l. l ++ later (scope_by outer next)) is ∙ append_assoc found here (later (scope_by outer next)) ∙ ap (λ s. found ++ (here ++ later s)) scope ∙ set_here.finds;
         are = are;
         folds = (and_its_product products set, fits_after next products fits scope, folds.1);
       }
 
 -- where no data set was read yet
-pub sets_begin : (values : Values) (sources : List Named) (sets : List DataSet) (lists : RowsByName) (found : List (List ℕ × Cell)) → ((name : List ℕ) → rows_of lists name ≡ [])
-    → found ≡ [] → FoldsFit no_folds sets → SetsLeft values sources (set_extents values (map dataset_of sources) no_lists sets) sets lists found
-sets_begin values sources sets lists found empty e folds = record {
-  finds = ap (λ l. l ++ set_extents values (map dataset_of sources) (scope_by lists) sets) e ∙ ap (λ s. set_extents values (map dataset_of sources) s sets) (no_scope_yet lists empty);
-  are = no_rows_yet lists empty;
-  folds = (no_folds, (λ name. subst (λ (rows : List Keyed). KeysFit 1 (keys_of rows)) (sym (empty name)) (none_fit 1)), folds);
+pub sets_begin : (values : Values) (sources : List Named) (outer : Listed) (sets : List DataSet) (lists : RowsByName) (found : List (List ℕ × Cell))
+    → ((outer : Listed) (name : List ℕ) → rows_of outer lists name ≡ outer name) → found ≡ [] → AreAllRows outer → ListedMayFold outer sets
+    → SetsLeft values sources outer (set_extents values (map dataset_of sources) (scope_read outer) sets) sets lists found
+sets_begin values sources outer sets lists found nothing e are (products, fits, folds) = record {
+  finds = ap (λ l. l ++ set_extents values (map dataset_of sources) (scope_by outer lists) sets) e
+      ∙ ap (λ s. set_extents values (map dataset_of sources) s sets) (scope_yet outer lists (nothing outer));
+  are = rows_yet outer lists (nothing outer) are;
+  folds = (products, (λ name. subst (λ (rows : List Keyed). KeysFit (products name) (keys_of rows)) (sym (nothing outer name)) (fits name)), folds);
 }
 
 -- where each was read
-pub sets_over : (values : Values) (sources : List Named) (whole : List (List ℕ × Cell)) (all : List DataSet) (i : ℕ) (lists : RowsByName) (found : List (List ℕ × Cell))
-    → length all ≤ i → SetsLeft values sources whole (drop i all) lists found → found ≡ whole
-sets_over values sources whole all i lists found past way =
-    let over : SetsLeft values sources whole [] lists found = subst (λ coming. SetsLeft values sources whole coming lists found) (drop_all i all past) way in
+pub sets_over : (values : Values) (sources : List Named) (outer : Listed) (whole : List (List ℕ × Cell)) (all : List DataSet) (i : ℕ) (lists : RowsByName)
+    (found : List (List ℕ × Cell)) → length all ≤ i → SetsLeft values sources outer whole (drop i all) lists found → found ≡ whole
+sets_over values sources outer whole all i lists found past way =
+    let over : SetsLeft values sources outer whole [] lists found = subst (λ coming. SetsLeft values sources outer whole coming lists found) (drop_all i all past) way in
     sym (append-nil found) ∙ over.finds
 
 module _ (values : Values) where

@@ -1,5 +1,5 @@
 -- The keys of what transforms make: how many there are, and below what their branches are.
-use Rattle.std.proofs.Common.{◌≡◌, ℕ, suc, ◌*◌, ◌<◌, ◌≤◌, ◌^◌, Bool, false, List, [], ◌∷◌, ◌++◌, map, filter, length, All, Option, Some, None, unwrap_or, option_map, refl, sym, ap, ap₂, ◌∙◌, subst, arith}
+use Rattle.std.proofs.Common.{◌≡◌, ℕ, suc, ◌*◌, ◌<◌, ◌≤◌, Bool, false, List, [], ◌∷◌, ◌++◌, map, filter, length, All, Option, Some, None, unwrap_or, option_map, refl, sym, ap, ap₂, ◌∙◌, subst, arith}
 use Rattle.std.specs.FinMap.{empty}
 use Rattle.std.specs.List.{enumerate_from, list_any}
 use Rattle.std.proofs.lemmas.Bool.{cond_both}
@@ -20,7 +20,7 @@ use Rattle.plain_rows.specs.declared.transforms.BinOf.{BinOf}
 use Rattle.plain_rows.specs.declared.transforms.FoldOf.{FoldOf}
 use Rattle.plain_rows.specs.declared.transforms.LookupOf.{LookupOf}
 use Rattle.plain_rows.specs.declared.transforms.TimeOf.{TimeOf}
-use Rattle.plain_rows.specs.Rows.{keys_of, most_listed}
+use Rattle.plain_rows.specs.Rows.{keys_of}
 use Rattle.plain_rows.specs.Filters.{kept}
 use Rattle.plain_rows.specs.Calculations.{each_with}
 use Rattle.plain_rows.specs.TimeUnits.{data_in_time_units}
@@ -40,7 +40,7 @@ use Rattle.vega_lists.specs.Scopes.{Scope}
 use Rattle.vega_lists.specs.Operations.{group_settings, window_settings}
 use Rattle.vega_lists.specs.Settings.{bin_settings, fold_settings, lookup_settings, stack_settings, unit_settings}
 use Rattle.vega_lists.specs.Transforms.{transformed, all_transformed}
-use Rattle.vega_lists.specs.Products.{KeysFit, fold_length, fold_product, most_folded}
+use Rattle.vega_lists.specs.Products.{KeysFit, fold_length, fold_product}
 
 -- the keys of rows as they are read
 abbrev pub data_keys : List Datum → List Key

@@ -4,3 +4,5 @@ mod ExtentLemmas
 mod RoundLemmas
 mod AgreeLemmas
 mod OrderLaw
+mod LostLemmas
+mod InnerLaw

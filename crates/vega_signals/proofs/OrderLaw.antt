@@ -1,5 +1,5 @@
 -- Where signals stand in an order, they settle.
-use Rattle.std.proofs.Common.{◌≡◌, ℕ, zero, suc, ◌<◌, ◌≤◌, ◌+◌, Bool, true, false, cond, not, List, [], ◌∷◌, ◌++◌, append_assoc, map, flat_map, length, All, Option, Some, None, unwrap_or, is_some, find, refl, sym, ap, ap₂, ◌∙◌, subst, arith}
+use Rattle.std.proofs.Common.{◌≡◌, ℕ, zero, suc, ◌≤◌, Bool, true, false, cond, List, [], ◌∷◌, ◌++◌, append_assoc, flat_map, length, All, Option, Some, None, unwrap_or, find, refl, sym, ap, ap₂, ◌∙◌, arith}
 use Rattle.std.specs.Option.{option_map, option_map_or}
 use Rattle.std.specs.Str.{bytes_eq}
 use Rattle.std.proofs.lemmas.List.{append-nil}
@@ -11,8 +11,8 @@ use Rattle.cell_value.specs.Cell.{truth}
 use Rattle.cell_value.specs.Datum.{Datum, datum_with}
 use Rattle.expr_syntax.specs.declared.expr.Expr.{Expr}
 use Rattle.expr_syntax.specs.Names.{names_in}
-use Rattle.expr_eval.specs.Plain.{null_row}
-use Rattle.expr_eval.specs.Value.{value_of, truth_of}
+use Rattle.expr_eval.specs.Plain.{null_row, no_values}
+use Rattle.expr_eval.specs.Value.{value_of}
 use Rattle.expr_eval.specs.Values.{Values}
 use Rattle.plain_rows.specs.Filters.{kept}
 use Rattle.plain_rows.specs.Calculations.{each_with}
@@ -22,7 +22,6 @@ use Rattle.vega_spec.specs.declared.data.DataSet.{DataSet}
 use Rattle.vega_spec.specs.declared.signals.Signal.{Signal}
 use Rattle.vega_spec.specs.declared.spec.Group.{Group, Group-F}
 use Rattle.vega_spec.specs.declared.spec.VgMark.{VgMark}
-use Rattle.vega_spec.specs.declared.transforms.Bin.{Bin}
 use Rattle.vega_spec.specs.declared.transforms.BinExtent.{BinExtent}
 use Rattle.vega_spec.specs.declared.transforms.BinExtent.TheVariants as bounds
 use Rattle.vega_spec.specs.declared.transforms.Extent.{Extent}
@@ -33,9 +32,11 @@ use Rattle.vega_lists.specs.Scopes.{Scope, no_lists, with_list, list_named}
 use Rattle.vega_lists.specs.Settings.{bin_settings, extent_in, lookup_settings, pair_in}
 use Rattle.vega_lists.specs.Transforms.{transformed, transforms_of}
 use Rattle.vega_lists.specs.Lists.{begun_rows}
-use Rattle.vega_signals.specs.Parameters.{value_named, values_with}
-use Rattle.vega_signals.specs.Signals.{data_of, update_of, is_computed, computed_value, computed_here, extent_asked, extent_over, extent_here, rows_left, all_left, extents_in, with_rows_left, set_extents, next_values, values_after, unset_names, settled_values}
-use Rattle.vega_signals.specs.Needs.{Need, Reads, no_reads, with_reads, extent_reads, transform_reads, all_reads, begun_reads, extent_needs, set_needs, computed_needs, needs_of, IsPlaced, AreInOrder}
+use Rattle.vega_signals.specs.Parameters.{value_named}
+use Rattle.vega_signals.specs.Extents.{update_of, is_computed, computed_here, extent_asked, extent_over, extent_here, rows_left, all_left, extents_in, set_extents}
+use Rattle.vega_signals.specs.Signals.{data_of, next_values, values_after, unset_names}
+use Rattle.vega_signals.specs.Settling.{Valued, has_value, values_inside}
+use Rattle.vega_signals.specs.Needs.{Need, Reads, no_reads, with_reads, extent_reads, transform_reads, all_reads, begun_reads, extent_needs, set_needs, computed_needs, needs_of, AreInOrder}
 use Rattle.vega_signals.specs.Laws.{SettleInOrder}
 use Rattle.vega_signals.proofs.AgreeLemmas.{AgreeOn, reading, front, back, same_value}
 
@@ -214,6 +215,14 @@ agree : (v w : List ℕ → Cell) (place : List ℕ → ℕ) (n : ℕ) → ((nam
 agree v w place n same [] each = tt
 agree v w place n same (name ∷ names) each = (same name (each 0 name (omega arith)), agree v w place n same names (λ k e lt. each (suc k) e (omega arith)))
 
+null_either_way : (b : Bool) → cond b Null Null ≡ Null
+null_either_way true = refl
+null_either_way false = refl
+
+-- what is read where nothing stands round an object
+same_values : (now : Valued) → values_inside now no_values ≡ reading (value_named now)
+same_values now = λ i. record (reading (value_named now)) { member = λ name field. null_either_way (has_value now name) i }
+
 module _ (g : Group-F Group VgMark) (place : List ℕ → ℕ) (sources : List Dataset) (params : List (List ℕ × Cell)) (order : AreInOrder g place) where
   abbrev read_at : ℕ → List ℕ → Cell
   read_at n = value_named (values_after g sources params n)
@@ -225,7 +234,9 @@ module _ (g : Group-F Group VgMark) (place : List ℕ → ℕ) (sources : List D
   unset_by v = computed_by v ++ set_extents (reading v) sources no_lists (data_of g)
 
   next_is : (now : List (List ℕ × Cell)) → next_values g sources params now ≡ params ++ unset_by (value_named now)
-  next_is now = append_assoc params (computed_by (value_named now)) (set_extents (reading (value_named now)) sources no_lists (data_of g))
+  next_is now =
+      ap (λ (values : Values). params ++ flat_map (computed_here values) (signals_of g) ++ set_extents values sources no_lists (data_of g)) (same_values now)
+      ∙ append_assoc params (computed_by (value_named now)) (set_extents (reading (value_named now)) sources no_lists (data_of g))
 
   follow : (v w : List ℕ → Cell) → Follow v w (unset_by v) (unset_by w) (needs_of g)
   follow v w =

@@ -1,5 +1,5 @@
 -- Rounds of the values of signals.
-use Rattle.std.proofs.Common.{◌≡◌, ℕ, zero, suc, ◌+◌, ◌-◌, ◌<◌, ◌≤◌, Bool, true, false, cond, List, [], ◌∷◌, ◌++◌, take, map, filter, flat_map, length, get_or, Option, Some, None, length-append, append_assoc, add-one, max, Result, Ok, Err, IfOk, refl, sym, ap, ap₂, ◌∙◌, subst, arith}
+use Rattle.std.proofs.Common.{◌≡◌, ℕ, zero, suc, ◌+◌, ◌-◌, ◌<◌, ◌≤◌, Bool, true, false, cond, List, [], ◌∷◌, ◌++◌, take, map, filter, flat_map, length, get_or, Option, Some, None, length-append, append_assoc, add-one, max, Result, Ok, Err, IfOk, refl, sym, ap, ap₂, ◌∙◌, arith}
 use Rattle.std.specs.List.{filter_map, cons_option}
 use Rattle.std.specs.Option.{option_map_or}
 use Rattle.std.proofs.Math.Seq.{take-suc}
@@ -11,16 +11,27 @@ use Rattle.cell_value.specs.Datum.{Datum}
 use Rattle.expr_eval.specs.Values.{Values}
 use Rattle.vega_spec.specs.declared.data.DataSet.{DataSet}
 use Rattle.vega_spec.specs.declared.signals.Signal.{Signal}
-use Rattle.vega_spec.specs.declared.spec.Group.{Group, Group-F}
-use Rattle.vega_spec.specs.declared.spec.VgMark.{VgMark}
 use Rattle.vega_spec.specs.declared.transforms.Extent.{Extent}
 use Rattle.vega_spec.specs.declared.transforms.Transform.{Transform}
-use Rattle.vega_spec.specs.Names.{signals_of}
-use Rattle.vega_lists.specs.Scopes.{Scope, no_lists}
+use Rattle.vega_lists.specs.Scopes.{Scope}
 use Rattle.vega_lists.specs.Transforms.{transforms_of}
 use Rattle.vega_lists.specs.Lists.{begun_rows}
-use Rattle.vega_signals.specs.Parameters.{values_with}
-use Rattle.vega_signals.specs.Signals.{data_of, is_computed, computed_here, extent_asked, extent_over, rows_left, extents_in, with_rows_left, set_extents, next_values, values_after, extent_names, unset_names, settled_values}
+use Rattle.vega_signals.specs.Extents.{is_computed, computed_here, extent_asked, extent_over, rows_left, extents_in, with_rows_left, set_extents, extent_names}
+use Rattle.vega_signals.specs.Settling.{Valued, values_inside, own_names, next_own, own_after, settled_own}
+
+-- what is made of the last in each round
+module _ {X : Type 0} (next : X → X) (after : ℕ → X) (each : (n : ℕ) → after (suc n) ≡ next (after n)) where
+  -- where a round changes nothing, no later one does
+  stays : (n k : ℕ) → next (after n) ≡ after n → after (n + k) ≡ after n
+  stays n zero e = let same : n + 0 ≡ n = omega arith in ap after same
+  stays n (suc k) e =
+      let more : n + suc k ≡ suc (n + k) = omega arith in
+      ap after more ∙ each (n + k) ∙ ap next (stays n k e) ∙ e
+
+  pub settled_at : (n rounds : ℕ) (now made : X) → n ≤ rounds → now ≡ after n → made ≡ next now → made ≡ now → made ≡ after rounds
+  settled_at n rounds now made le is e same =
+      let back : n + (rounds - n) ≡ rounds = omega arith in
+      same ∙ is ∙ sym (stays n (rounds - n) (ap next (sym is) ∙ sym e ∙ same ∙ is)) ∙ ap after back
 
 -- the names of values
 abbrev pub names : List (List ℕ × Cell) → List (List ℕ)
@@ -54,69 +65,45 @@ module _ (values : Values) where
       map-append (λ (value : List ℕ × Cell). value.0) (extents_in values scope (transforms_of set) (begun_rows sources scope set)) _
       ∙ ap₂ (λ (a b : List (List ℕ)). a ++ b) (names_in_set scope (transforms_of set) (begun_rows sources scope set)) (set_names sources (with_rows_left values sources scope set) sets)
 
-module _ (g : Group-F Group VgMark) (sources : List Dataset) (params : List (List ℕ × Cell)) where
+module _ (sources : List Dataset) (lists : Scope) (outer : Values) (params : Valued) (signals : List Signal) (sets : List DataSet) where
   -- a round gives as many values as there are signals
-  pub counted : (now : List (List ℕ × Cell)) → length (next_values g sources params now) ≡ length params + length (unset_names g)
+  pub counted : (now : List (List ℕ × Cell)) → length (next_own sources lists outer params signals sets now) ≡ length params + length (own_names signals sets)
   counted now =
-      let values = values_with now [] in
-      let computed = flat_map (computed_here values) (signals_of g) in
-      let extents = set_extents values sources no_lists (data_of g) in
-      let first = map (λ (s : Signal). s.name) (filter is_computed (signals_of g)) in
-      let second = flat_map extent_names (data_of g) in
-      let a : length computed ≡ length first = sym (length-map computed (λ (value : List ℕ × Cell). value.0)) ∙ ap length (computed_names values (signals_of g)) in
-      let b : length extents ≡ length second = sym (length-map extents (λ (value : List ℕ × Cell). value.0)) ∙ ap length (set_names values sources no_lists (data_of g)) in
+      let values = values_inside now outer in
+      let computed = flat_map (computed_here values) signals in
+      let extents = set_extents values sources lists sets in
+      let first = map (λ (s : Signal). s.name) (filter is_computed signals) in
+      let second = flat_map extent_names sets in
+      let a : length computed ≡ length first = sym (length-map computed (λ (value : List ℕ × Cell). value.0)) ∙ ap length (computed_names values signals) in
+      let b : length extents ≡ length second = sym (length-map extents (λ (value : List ℕ × Cell). value.0)) ∙ ap length (set_names values sources lists sets) in
       omega (arith, length-append (params ++ computed) extents, length-append params computed, length-append first second, a, b)
 
-  -- where a round changes nothing, no later one does
-  stays : (n k : ℕ) → next_values g sources params (values_after g sources params n) ≡ values_after g sources params n
-      → values_after g sources params (n + k) ≡ values_after g sources params n
-  stays n zero e = let same : n + 0 ≡ n = omega arith in ap (values_after g sources params) same
-  stays n (suc k) e =
-      let more : n + suc k ≡ suc (n + k) = omega arith in
-      ap (values_after g sources params) more ∙ ap (next_values g sources params) (stays n k e) ∙ e
-
-  pub settled_at : (n rounds : ℕ) (now next : List (List ℕ × Cell)) → n ≤ rounds → now ≡ values_after g sources params n
-      → next ≡ next_values g sources params now → next ≡ now → next ≡ values_after g sources params rounds
-  settled_at n rounds now next le is e same =
-      let back : n + (rounds - n) ≡ rounds = omega arith in
-      same ∙ is ∙ sym (stays n (rounds - n) (ap (next_values g sources params) (sym is) ∙ sym e ∙ same ∙ is)) ∙ ap (values_after g sources params) back
-
-  -- one round more
-  pub one_round : (n : ℕ) (now read next : List (List ℕ × Cell)) → now ≡ values_after g sources params n → read ≡ now
-      → next ≡ next_values g sources params read → next ≡ values_after g sources params (n + 1)
-  one_round n now read next is same e =
-      let more : n + 1 ≡ suc n = omega arith in
-      e ∙ ap (next_values g sources params) (same ∙ is) ∙ sym (ap (values_after g sources params) more)
-
-  pub at_last : (n rounds : ℕ) (now : List (List ℕ × Cell)) → n ≡ rounds → now ≡ values_after g sources params n → now ≡ values_after g sources params rounds
-  at_last n rounds now e is = is ∙ ap (values_after g sources params) e
-
   -- where there are no values but the settable ones, a round gives these
-  nothing_unset : length (unset_names g) ≡ 0 → values_after g sources params 1 ≡ params
+  nothing_unset : length (own_names signals sets) ≡ 0 → own_after sources lists outer params signals sets 1 ≡ params
   nothing_unset none =
-      let values = values_with params [] in
-      only params (flat_map (computed_here values) (signals_of g)) (set_extents values sources no_lists (data_of g)) (omega (arith, counted params))
+      let values = values_inside params outer in
+      only params (flat_map (computed_here values) signals) (set_extents values sources lists sets) (omega (arith, counted params))
     where
       only : (a b c : List (List ℕ × Cell)) → length (a ++ b ++ c) ≤ length a → a ++ b ++ c ≡ a
       only a [] [] le = append-nil (a ++ []) ∙ append-nil a
       only a [] (x ∷ c) le = absurd (omega (arith, le, length-append (a ++ []) (x ∷ c), length-append a []))
       only a (x ∷ b) c le = absurd (omega (arith, le, length-append (a ++ (x ∷ b)) c, length-append a (x ∷ b)))
 
-  by_count : (n rounds : ℕ) → length (unset_names g) ≡ n → rounds ≡ max 1 n → values_after g sources params rounds ≡ settled_values g sources params
-  by_count zero rounds e is = ap (values_after g sources params) is ∙ nothing_unset e ∙ sym (ap (values_after g sources params) e)
+  by_count : (n rounds : ℕ) → length (own_names signals sets) ≡ n → rounds ≡ max 1 n → own_after sources lists outer params signals sets rounds ≡ settled_own sources lists outer params signals sets
+  by_count zero rounds e is = ap (own_after sources lists outer params signals sets) is ∙ nothing_unset e ∙ sym (ap (own_after sources lists outer params signals sets) e)
   by_count (suc n) rounds e is =
-      let same : rounds ≡ length (unset_names g) = omega arith in
-      ap (values_after g sources params) same
+      let same : rounds ≡ length (own_names signals sets) = omega arith in
+      ap (own_after sources lists outer params signals sets) same
 
   -- as many rounds as there are values more than the settable ones, and one at least, settle them
-  pub settled_ok : (first : List (List ℕ × Cell)) (rounds : ℕ) (result : Result (List (List ℕ × Cell)) OutOfMemory) → first ≡ next_values g sources params params
-      → rounds ≡ max 1 (length first - length params) → IfOk result (λ now. now ≡ values_after g sources params rounds)
-      → IfOk result (λ now. now ≡ settled_values g sources params)
+  pub settled_ok : (first : List (List ℕ × Cell)) (rounds : ℕ) (result : Result (List (List ℕ × Cell)) OutOfMemory) → first ≡ next_own sources lists outer params signals sets params
+      → rounds ≡ max 1 (length first - length params) → IfOk result (λ now. now ≡ own_after sources lists outer params signals sets rounds)
+      → IfOk result (λ now. now ≡ settled_own sources lists outer params signals sets)
   settled_ok first rounds (Err refused) e is h = tt
   settled_ok first rounds (Ok now) e is h =
-      let total : length first ≡ length params + length (unset_names g) = ap length e ∙ counted params in
-      let more : rounds ≡ max 1 (length (unset_names g)) = omega arith in
-      h ∙ by_count (length (unset_names g)) rounds refl more
+      let total : length first ≡ length params + length (own_names signals sets) = ap length e ∙ counted params in
+      let more : rounds ≡ max 1 (length (own_names signals sets)) = omega arith in
+      h ∙ by_count (length (own_names signals sets)) rounds refl more
 
 flat_more : {X Y : Type 0} (f : X → List Y) (xs : List X) (x : X) → flat_map f (xs ++ x ∷ []) ≡ flat_map f xs ++ f x
 flat_more f [] x = append-nil (f x)

@@ -1,5 +1,5 @@
 -- Rows by the names of data sets.
-use Rattle.std.proofs.Common.{◌≡◌, ℕ, zero, suc, ◌+◌, ◌*◌, ◌<◌, ◌≤◌, Bool, true, false, cond, IsTrue, List, [], ◌∷◌, map, length, get_or, All, Option, Some, None, unwrap_or, option_map, Result, Ok, Err, IfOk, refl, sym, ap, ◌∙◌, subst, arith, rules, lit≤}
+use Rattle.std.proofs.Common.{◌≡◌, ℕ, suc, Bool, true, false, cond, IsTrue, List, [], ◌∷◌, map, length, Option, Some, None, unwrap_or, Result, Ok, Err, IfOk, refl, sym, ap, ◌∙◌, subst, arith, rules, lit≤}
 use Rattle.std.specs.Option.{option_map_or}
 use Rattle.std.specs.BTreeMap as tree
 use Rattle.std.specs.Ordering.{nat_cmp}
@@ -22,27 +22,27 @@ use Rattle.vega_spec.specs.declared.data.DataSet.{DataSet}
 use Rattle.vega_spec.specs.declared.groupings.Lookup.{Lookup}
 use Rattle.vega_spec.specs.declared.transforms.Transform.{Transform}
 use Rattle.vega_spec.specs.declared.transforms.Transform.TheVariants as vega
-use Rattle.vega_lists.specs.Scopes.{Scope, no_lists, with_list, list_named}
+use Rattle.vega_lists.specs.Scopes.{Scope, with_list, list_named}
 use Rattle.vega_lists.specs.Settings.{lookup_settings}
-use Rattle.vega_lists.specs.Transforms.{is_kept, transformed, transforms_of}
-use Rattle.vega_lists.specs.Products.{Products, KeysFit, fold_length, fold_product, begun_product, and_its_product}
+use Rattle.vega_lists.specs.Transforms.{is_kept, transformed}
+use Rattle.vega_lists.specs.Products.{Products, KeysFit, begun_product}
 use Rattle.vega_lists.specs.Lists.{begun_rows}
-use Rattle.vega_lists.specs.Held.{AreSources, MayFold}
-use Rattle.vega_signals.specs.Signals.{rows_left, all_left, with_rows_left}
-use Rattle.vega_signals.specs.inner.Rows.{RowsByName, rows_of, scope_by, IsPut, AreAllRows, lookup_in}
-use Rattle.vega_signals.proofs.KeyLemmas.{data_keys, keys_seen, transformed_fits}
+use Rattle.vega_lists.specs.Held.{scope_read, AreAllRows, AreSources}
+use Rattle.vega_signals.specs.Outer.{Listed}
+use Rattle.vega_signals.specs.inner.Rows.{RowsByName, rows_of, scope_by, IsPut, lookup_in}
+use Rattle.vega_signals.proofs.KeyLemmas.{data_keys, keys_seen}
 
-pick : (b : Bool) (rows : List Keyed) (old : Option (List Keyed)) → unwrap_or (cond b (Some rows) old) [] ≡ cond b rows (unwrap_or old [])
-pick true rows old = refl
-pick false rows old = refl
+pick : (b : Bool) (rows other : List Keyed) (old : Option (List Keyed)) → unwrap_or (cond b (Some rows) old) other ≡ cond b rows (unwrap_or old other)
+pick true rows other old = refl
+pick false rows other old = refl
 
 -- what an insertion puts
 pub put_is : (bytes name : List ℕ) (old new : RowsByName) (rows : List Keyed) → bytes ≡ name
     → tree.UpdatesBy string_cmp (λ k. slice_cmp nat_cmp bytes (string_bytes k)) old new (Some rows) → IsPut old name rows new
-put_is bytes name old new rows same h other =
-    ap (λ o. unwrap_or o []) (btree_map_updates_text bytes old new (Some rows) h other)
-    ∙ pick (bytes_eq bytes other) rows (tree.get_by_text old other)
-    ∙ ap (λ n. cond (bytes_eq n other) rows (rows_of old other)) same
+put_is bytes name old new rows same h outer other =
+    ap (λ o. unwrap_or o (outer other)) (btree_map_updates_text bytes old new (Some rows) h other)
+    ∙ pick (bytes_eq bytes other) rows (outer other) (tree.get_by_text old other)
+    ∙ ap (λ n. cond (bytes_eq n other) rows (rows_of outer old other)) same
 
 seen_either : (b : Bool) (rows others : List Keyed) → map datum_of (cond b rows others) ≡ cond b (map datum_of rows) (map datum_of others)
 seen_either true rows others = refl
@@ -53,15 +53,17 @@ rows_either true rows others x y = x
 rows_either false rows others x y = y
 
 -- a name put for rows stands for them
-pub scope_of_put : (old new : RowsByName) (name : List ℕ) (rows : List Keyed) → IsPut old name rows new
-    → scope_by new ≡ with_list name (map datum_of rows) (scope_by old)
-scope_of_put old new name rows put = λ i other. at other i
+pub scope_of_put : (outer : Listed) (old new : RowsByName) (name : List ℕ) (rows : List Keyed) → IsPut old name rows new
+    → scope_by outer new ≡ with_list name (map datum_of rows) (scope_by outer old)
+scope_of_put outer old new name rows put = λ i other. at other i
   where
-    at : (other : List ℕ) → scope_by new other ≡ with_list name (map datum_of rows) (scope_by old) other
-    at other = ap (map datum_of) (put other) ∙ seen_either (bytes_eq name other) rows (rows_of old other)
+    at : (other : List ℕ) → scope_by outer new other ≡ with_list name (map datum_of rows) (scope_by outer old) other
+    at other = ap (map datum_of) (put outer other) ∙ seen_either (bytes_eq name other) rows (rows_of outer old other)
 
-pub rows_of_put : (old new : RowsByName) (name : List ℕ) (rows : List Keyed) → IsPut old name rows new → AreRows rows → AreAllRows old → AreAllRows new
-rows_of_put old new name rows put are lists other = subst AreRows (sym (put other)) (rows_either (bytes_eq name other) rows (rows_of old other) are (lists other))
+pub rows_of_put : (outer : Listed) (old new : RowsByName) (name : List ℕ) (rows : List Keyed) → IsPut old name rows new → AreRows rows
+    → AreAllRows (rows_of outer old) → AreAllRows (rows_of outer new)
+rows_of_put outer old new name rows put are lists other =
+    subst AreRows (sym (put outer other)) (rows_either (bytes_eq name other) rows (rows_of outer old other) are (lists other))
 
 none_are : AreKeys []
 none_are = record {
@@ -80,12 +82,12 @@ none_are_rows rows e = subst AreRows (sym e) no_rows
 pub none_fit : (n : ℕ) → KeysFit n []
 none_fit n = record { few = omega arith; branches = λ k d lt. absurd (omega (arith, lt)) }
 
--- where no name stands for rows
-pub no_scope_yet : (lists : RowsByName) → ((name : List ℕ) → rows_of lists name ≡ []) → scope_by lists ≡ no_lists
-no_scope_yet lists e = λ i name. map datum_of (e name i)
+-- where nothing is put, names stand for what they stand for round the object
+pub scope_yet : (outer : Listed) (lists : RowsByName) → ((name : List ℕ) → rows_of outer lists name ≡ outer name) → scope_by outer lists ≡ scope_read outer
+scope_yet outer lists e = λ i name. map datum_of (e name i)
 
-pub no_rows_yet : (lists : RowsByName) → ((name : List ℕ) → rows_of lists name ≡ []) → AreAllRows lists
-no_rows_yet lists e name = subst AreRows (sym (e name)) no_rows
+pub rows_yet : (outer : Listed) (lists : RowsByName) → ((name : List ℕ) → rows_of outer lists name ≡ outer name) → AreAllRows outer → AreAllRows (rows_of outer lists)
+rows_yet outer lists e are name = subst AreRows (sym (e name)) (are name)
 
 -- what holds of the keys of rows as they are read holds of their keys
 pub rows_as_read : (rows : List Keyed) → AreRows rows → AreKeys (data_keys (map datum_of rows))
@@ -108,28 +110,28 @@ named_source (source ∷ others) are name =
     (record { keys = rows_as_read source.rows rows; fits = subst (KeysFit 1) (sym (keys_seen source.rows)) fits })
     (named_source others (λ k d lt. are (suc k) d (omega arith)) name)
 
-module _ (sources : List Named) (sound : AreSources sources) (lists : RowsByName) (set : DataSet) where
-  begun_keys : AreAllRows lists → AreKeys (data_keys (begun_rows (map dataset_of sources) (scope_by lists) set))
+module _ (sources : List Named) (sound : AreSources sources) (outer : Listed) (lists : RowsByName) (set : DataSet) where
+  begun_keys : AreAllRows (rows_of outer lists) → AreKeys (data_keys (begun_rows (map dataset_of sources) (scope_by outer lists) set))
   begun_keys are = by_source set.source
     where
-      by_source : (o : Option (List ℕ)) → AreKeys (data_keys (option_map_or (scope_by lists) o (list_named (map dataset_of sources) set.name)))
+      by_source : (o : Option (List ℕ)) → AreKeys (data_keys (option_map_or (scope_by outer lists) o (list_named (map dataset_of sources) set.name)))
       by_source None = (named_source sources sound set.name).keys
-      by_source (Some name) = rows_as_read (rows_of lists name) (are name)
+      by_source (Some name) = rows_as_read (rows_of outer lists name) (are name)
 
   -- the rows with which a data set begins are rows
-  pub begun_are_rows : AreAllRows lists → (result : Result (List Keyed) OutOfMemory)
-      → IfOk result (λ rows. map datum_of rows ≡ begun_rows (map dataset_of sources) (scope_by lists) set) → IfOk result AreRows
+  pub begun_are_rows : AreAllRows (rows_of outer lists) → (result : Result (List Keyed) OutOfMemory)
+      → IfOk result (λ rows. map datum_of rows ≡ begun_rows (map dataset_of sources) (scope_by outer lists) set) → IfOk result AreRows
   begun_are_rows are (Ok rows) e = subst AreKeys (keys_seen rows) (subst (λ (l : List Datum). AreKeys (data_keys l)) (sym e) (begun_keys are))
   begun_are_rows are (Err refused) e = tt
 
   -- and their keys are such as its first product allows
-  pub begun_fit : (products : Products) → ((name : List ℕ) → KeysFit (products name) (keys_of (rows_of lists name)))
-      → KeysFit (begun_product products set) (data_keys (begun_rows (map dataset_of sources) (scope_by lists) set))
+  pub begun_fit : (products : Products) → ((name : List ℕ) → KeysFit (products name) (keys_of (rows_of outer lists name)))
+      → KeysFit (begun_product products set) (data_keys (begun_rows (map dataset_of sources) (scope_by outer lists) set))
   begun_fit products fits = by_source set.source
     where
-      by_source : (o : Option (List ℕ)) → KeysFit (option_map_or products o 1) (data_keys (option_map_or (scope_by lists) o (list_named (map dataset_of sources) set.name)))
+      by_source : (o : Option (List ℕ)) → KeysFit (option_map_or products o 1) (data_keys (option_map_or (scope_by outer lists) o (list_named (map dataset_of sources) set.name)))
       by_source None = (named_source sources sound set.name).fits
-      by_source (Some name) = subst (KeysFit (products name)) (sym (keys_seen (rows_of lists name))) (fits name)
+      by_source (Some name) = subst (KeysFit (products name)) (sym (keys_seen (rows_of outer lists name))) (fits name)
 
 -- a transform that is a lookup
 pub is_lookup : (t : Transform) (l : Lookup) → Some l ≡ lookup_in t → t ≡ vega.Lookup l
@@ -176,17 +178,19 @@ pub lookup_reads : (values : Values) (scope : Scope) (t : Transform) (l : Lookup
     → out ≡ data_looked_up (lookup_settings l) (scope l.from) rows → transformed values scope t rows ≡ Some out
 lookup_reads values scope t l rows out e is = ap (λ x. transformed values scope x rows) (is_lookup t l e) ∙ ap Some (sym is)
 
-module _ (lists : RowsByName) (name : List ℕ) (found : Option (List Keyed)) (e : found ≡ tree.get_by_text lists name) where
-  -- what was found under a name are rows
-  pub found_are_rows : AreAllRows lists → AreRows (unwrap_or found [])
-  found_are_rows are = subst (λ o. AreRows (unwrap_or o [])) (sym e) (are name)
+module _ (outer : Listed) (lists : RowsByName) (name from : List ℕ) (same : name ≡ from) where
+  -- the rows that are put under a name
+  pub put_there : (rows : List Keyed) → Some rows ≡ tree.get_by_text lists name → rows ≡ rows_of outer lists from
+  put_there rows e = ap (λ o. unwrap_or o (outer name)) e ∙ ap (rows_of outer lists) same
 
-  -- a lookup in what was found under a name
-  pub looked_up_there : (from : List ℕ) (how settings : LookupOf) (rows : List Datum) (result : Result (List Keyed) OutOfMemory) → name ≡ from → how ≡ settings
-      → IfOk result (λ out. map datum_of out ≡ data_looked_up how (map datum_of (unwrap_or found [])) rows)
-      → IfOk result (λ out. map datum_of out ≡ data_looked_up settings (scope_by lists from) rows)
-  looked_up_there from how settings rows (Ok out) same is h =
-      h ∙ ap (λ o. data_looked_up how (map datum_of (unwrap_or o [])) rows) e
-      ∙ ap (λ n. data_looked_up how (scope_by lists n) rows) same
-      ∙ ap (λ s. data_looked_up s (scope_by lists from) rows) is
-  looked_up_there from how settings rows (Err refused) same is h = tt
+  -- those for which it stands round the object, where none are put
+  pub found_outside : None ≡ tree.get_by_text lists name → outer name ≡ rows_of outer lists from
+  found_outside e = ap (λ o. unwrap_or o (outer name)) e ∙ ap (rows_of outer lists) same
+
+-- a lookup in the rows for which a name stands
+pub looked_up_there : (outer : Listed) (lists : RowsByName) (from : List ℕ) (settings : LookupOf) (other : List Keyed) (rows : List Datum)
+    (result : Result (List Keyed) OutOfMemory) → other ≡ rows_of outer lists from
+    → IfOk result (λ out. map datum_of out ≡ data_looked_up settings (map datum_of other) rows)
+    → IfOk result (λ out. map datum_of out ≡ data_looked_up settings (scope_by outer lists from) rows)
+looked_up_there outer lists from settings other rows result e h =
+    subst (λ (o : List Keyed). IfOk result (λ out. map datum_of out ≡ data_looked_up settings (map datum_of o) rows)) e h

@@ -1,7 +1,6 @@
 -- Signals at work.
 use Rattle.std.specs.Prelude.{◌≡◌, ℕ, ◌*◌, ℤ, pos, Option, Some, None, List, [], ◌∷◌, codes, refl}
 use Rattle.fixed_num.specs.Number.{floored, ceiled, floor_quotient}
-use Rattle.cell_value.specs.declared.cell.Cell.{Cell}
 use Rattle.cell_value.specs.declared.cell.Cell.TheVariants.{Null, Number, Pair}
 use Rattle.cell_value.specs.State.{Dataset}
 use Rattle.cell_value.specs.Datum.{Datum, datum_with}

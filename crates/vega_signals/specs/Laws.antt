@@ -1,9 +1,11 @@
 -- What holds of the values of signals.
-use Rattle.std.specs.Prelude.{◌≡◌, ℕ, List}
+use Rattle.std.specs.Prelude.{◌≡◌, ℕ, List, ◌++◌}
 use Rattle.cell_value.specs.declared.cell.Cell.{Cell}
 use Rattle.cell_value.specs.State.{Dataset}
+use Rattle.expr_eval.specs.Values.{Values}
 use Rattle.vega_spec.specs.declared.spec.Group.{Group, Group-F}
 use Rattle.vega_spec.specs.declared.spec.VgMark.{VgMark}
+use Rattle.vega_signals.specs.Settling.{Valued, values_inside}
 use Rattle.vega_signals.specs.Signals.{next_values, settled_values}
 use Rattle.vega_signals.specs.Needs.{AreInOrder}
 
@@ -11,3 +13,7 @@ use Rattle.vega_signals.specs.Needs.{AreInOrder}
 abbrev pub SettleInOrder : Type 0
 SettleInOrder = (g : Group-F Group VgMark) (place : List ℕ → ℕ) (sources : List Dataset) (params : List (List ℕ × Cell)) → AreInOrder g place
     → next_values g sources params (settled_values g sources params) ≡ settled_values g sources params
+
+-- in an object inside another, names are read as in one that has the signals of both, the inner ones before the outer ones
+abbrev pub InnerFirst : Type 0
+InnerFirst = (inner own : Valued) (outer : Values) → values_inside (inner ++ own) outer ≡ values_inside inner (values_inside own outer)

@@ -1,6 +1,10 @@
 pub mod Parameters
+pub mod Outer
+pub mod Extents
+pub mod Settling
 pub mod Signals
 pub mod Needs
+pub mod Lost
 pub mod Laws
 pub mod Examples
 pub mod inner

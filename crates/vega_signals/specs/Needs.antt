@@ -13,7 +13,8 @@ use Rattle.vega_spec.specs.declared.transforms.Transform.{Transform}
 use Rattle.vega_spec.specs.declared.transforms.Transform.TheVariants as vega
 use Rattle.vega_spec.specs.Names.{signals_of}
 use Rattle.vega_lists.specs.Transforms.{transforms_of}
-use Rattle.vega_signals.specs.Signals.{data_of, update_of, is_computed, extent_asked, unset_names}
+use Rattle.vega_signals.specs.Extents.{update_of, is_computed, extent_asked}
+use Rattle.vega_signals.specs.Signals.{data_of, unset_names}
 
 -- a signal with those that it needs by itself
 abbrev pub Need : Type 0

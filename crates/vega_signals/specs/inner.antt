@@ -1,2 +1,3 @@
 -- Words that only private contracts and proofs cite.
 pub mod Rows
+pub mod LostNames

@@ -1,16 +1,15 @@
 // The signals of extents.
-ghost use Rattle.std.specs.Prelude.{◌≡◌, ◌++◌, ◌∷◌, [], IsTrue, IfOk, OnOk, All, map, option_copied};
+ghost use Rattle.std.specs.Prelude.{◌≡◌, ◌++◌, ◌∷◌, [], IfOk, OnOk, All, map, option_copied};
 ghost use Rattle.cell_value.specs.State.{dataset_of};
 ghost use Rattle.cell_value.specs.Datum.{datum_of};
 ghost use Rattle.plain_rows.specs.Rows.{AreRows};
 ghost use Rattle.vega_lists.specs.Transforms.{is_kept, transforms_of, AllTransforms, OfTransforms};
-ghost use Rattle.vega_lists.specs.Products.{FoldsFit, no_folds};
-ghost use Rattle.vega_lists.specs.Held.{AreLists, AreSources, MayFold};
-ghost use Rattle.vega_lists.specs.Scopes.{no_lists};
+ghost use Rattle.vega_lists.specs.Held.{scope_read, AreAllRows, AreLists, AreSources, MayFold};
 ghost use Rattle.vega_lists.specs.Lists.{begun_rows};
-ghost use Rattle.vega_signals.specs.Signals.{extent_asked, extent_cell, data_extent, extent_over, extent_here, all_left, extents_in, with_rows_left, set_extents};
+ghost use Rattle.vega_signals.specs.Outer.{ListedMayFold};
+ghost use Rattle.vega_signals.specs.Extents.{extent_asked, extent_cell, data_extent, extent_over, extent_here, all_left, extents_in, with_rows_left, set_extents};
 ghost use Rattle.std.specs.List.{list_any};
-ghost use Rattle.vega_signals.specs.inner.Rows.{AreAllRows, SetsMayFold, scope_by, asks};
+ghost use Rattle.vega_signals.specs.inner.Rows.{SetsMayFold, rows_of, scope_by, asks};
 
 use crate::lists::{begun_rows, nothing, put_rows};
 use crate::steps::rows_left;
@@ -21,7 +20,7 @@ use plain_bins::extent_of;
 use std::alloc::Global;
 use std::collections::BTreeMap;
 use text_kit::{OutOfMemory, Seq, Text};
-use vega_lists::Lists;
+use vega_lists::{ListReader, Lists};
 use vega_spec::{DataSet, Extent, Transform};
 
 // The extent for which a transform asks.
@@ -86,8 +85,9 @@ fn push_extent(
 }
 
 // The rows that transforms leave of rows. It adds the signals of the extents for which they ask.
-fn run<P: ParamReader>(
+fn run<O: ListReader, P: ParamReader>(
     alloc: Global,
+    outer: &O,
     lists: &BTreeMap<String, Rows>,
     empty: &Lists,
     transforms: &[Transform],
@@ -96,29 +96,30 @@ fn run<P: ParamReader>(
     out: &mut Seq<(Text, Cell)>,
 ) -> Result<Rows, OutOfMemory>
     requires rows { AreRows rows }
-    requires lists { AreAllRows lists.now }
+    requires lists { AreAllRows (rows_of (O.named outer.now) lists.now) }
     requires empty { AreLists [] empty.now }
     requires kept { AllTransforms is_kept transforms.now }
     requires folds { MayFold rows transforms.now }
     ensures read { IfOk result (λ left. map datum_of left
-        ≡ all_left (P.values params.now) (scope_by lists.now) transforms.now (map datum_of rows)) }
+        ≡ all_left (P.values params.now) (scope_by (O.named outer.now) lists.now) transforms.now (map datum_of rows)) }
     ensures rows { IfOk result AreRows }
     ensures extents { OnOk result (out.new
-        ≡ out.old ++ extents_in (P.values params.now) (scope_by lists.now) transforms.now (map datum_of rows)) }
+        ≡ out.old ++ extents_in (P.values params.now) (scope_by (O.named outer.now) lists.now) transforms.now (map datum_of rows)) }
 {
     let mut left = rows;
     for transform in transforms {
         push_extent(transform, &left, out)?;
-        let next = rows_left(alloc, lists, empty, transform, &left, params)?;
+        let next = rows_left(alloc, outer, lists, empty, transform, &left, params)?;
         left = next;
     }
     Ok(left)
 }
 
 // Puts the name of a data set for its rows. It adds the signals of its extents.
-fn add_set<P: ParamReader>(
+fn add_set<O: ListReader, P: ParamReader>(
     alloc: Global,
     sources: &[Named],
+    outer: &O,
     lists: &mut BTreeMap<String, Rows>,
     empty: &Lists,
     set: &DataSet,
@@ -126,19 +127,20 @@ fn add_set<P: ParamReader>(
     out: &mut Seq<(Text, Cell)>,
 ) -> Result<(), OutOfMemory>
     requires sources { AreSources sources.now }
-    requires lists { AreAllRows lists.old }
+    requires lists { AreAllRows (rows_of (O.named outer.now) lists.old) }
     requires empty { AreLists [] empty.now }
     requires kept { OfTransforms is_kept set.now }
-    requires folds { SetsMayFold lists.old (set.now ∷ []) }
-    ensures scope { OnOk result (scope_by lists.new
-        ≡ with_rows_left (P.values params.now) (map dataset_of sources.now) (scope_by lists.old) set.now) }
-    ensures rows { OnOk result (AreAllRows lists.new) }
-    ensures extents { OnOk result (out.new ≡ out.old ++ extents_in (P.values params.now) (scope_by lists.old)
-        (transforms_of set.now) (begun_rows (map dataset_of sources.now) (scope_by lists.old) set.now)) }
+    requires folds { SetsMayFold (O.named outer.now) lists.old (set.now ∷ []) }
+    ensures scope { OnOk result (scope_by (O.named outer.now) lists.new
+        ≡ with_rows_left (P.values params.now) (map dataset_of sources.now) (scope_by (O.named outer.now) lists.old) set.now) }
+    ensures rows { OnOk result (AreAllRows (rows_of (O.named outer.now) lists.new)) }
+    ensures extents { OnOk result (out.new ≡ out.old ++ extents_in (P.values params.now) (scope_by (O.named outer.now) lists.old)
+        (transforms_of set.now) (begun_rows (map dataset_of sources.now) (scope_by (O.named outer.now) lists.old) set.now)) }
 {
-    let rows = begun_rows(alloc, sources, lists, set)?;
+    let rows = begun_rows(alloc, sources, outer, lists, set)?;
     let left = run(
         alloc,
+        outer,
         lists,
         empty,
         vega_lists::transforms_of(set),
@@ -167,44 +169,52 @@ fn any_asks(sets: &[DataSet]) -> bool
 }
 
 // The signals of the extents of data sets, each read where those before it have their names.
-fn all_extents<P: ParamReader>(
+fn all_extents<O: ListReader, P: ParamReader>(
     alloc: Global,
     sources: &[Named],
+    outer: &O,
     empty: &Lists,
     sets: &[DataSet],
     params: &P,
 ) -> Result<Seq<(Text, Cell)>, OutOfMemory>
     requires sources { AreSources sources.now }
+    requires lists { AreAllRows (O.named outer.now) }
     requires empty { AreLists [] empty.now }
     requires kept { All (OfTransforms is_kept) sets.now }
-    requires folds { FoldsFit no_folds sets.now }
-    ensures { IfOk result (λ out. out ≡ set_extents (P.values params.now) (map dataset_of sources.now) no_lists sets.now) }
+    requires folds { ListedMayFold (O.named outer.now) sets.now }
+    ensures { IfOk result (λ out. out
+        ≡ set_extents (P.values params.now) (map dataset_of sources.now) (scope_read (O.named outer.now)) sets.now) }
 {
     let mut lists = nothing(alloc);
     let mut out = Seq::new(alloc);
     for set in sets {
-        add_set(alloc, sources, &mut lists, empty, set, params, &mut out)?;
+        add_set(
+            alloc, sources, outer, &mut lists, empty, set, params, &mut out,
+        )?;
     }
     Ok(out)
 }
 
 // The same; no list is evaluated where none asks for an extent.
 #[tactic(auto, using(crate::proofs::ExtentLemmas::no_extents))]
-pub(crate) fn set_extents<P: ParamReader>(
+pub(crate) fn set_extents<O: ListReader, P: ParamReader>(
     alloc: Global,
     sources: &[Named],
+    outer: &O,
     empty: &Lists,
     sets: &[DataSet],
     params: &P,
 ) -> Result<Seq<(Text, Cell)>, OutOfMemory>
     requires sources { AreSources sources.now }
+    requires lists { AreAllRows (O.named outer.now) }
     requires empty { AreLists [] empty.now }
     requires kept { All (OfTransforms is_kept) sets.now }
-    requires folds { FoldsFit no_folds sets.now }
-    ensures { IfOk result (λ out. out ≡ set_extents (P.values params.now) (map dataset_of sources.now) no_lists sets.now) }
+    requires folds { ListedMayFold (O.named outer.now) sets.now }
+    ensures { IfOk result (λ out. out
+        ≡ set_extents (P.values params.now) (map dataset_of sources.now) (scope_read (O.named outer.now)) sets.now) }
 {
     if any_asks(sets) {
-        all_extents(alloc, sources, empty, sets, params)
+        all_extents(alloc, sources, outer, empty, sets, params)
     } else {
         Ok(Seq::new(alloc))
     }

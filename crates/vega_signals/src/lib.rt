@@ -1,18 +1,22 @@
-//! The values of the signals of a Vega specification's top object over a state, and what the expressions of a plot read of them.
+//! The values of the signals of a Vega specification's objects over a state, and what the expressions of a plot read of them.
 #![tactic(auto)]
 
 mod evaluation;
 mod extents;
+mod inside;
 mod laws;
 mod lists;
 mod lookups;
+mod lost;
 mod params;
 mod rounds;
 mod signals;
 mod steps;
 
 pub use evaluation::eval_alone;
-pub use laws::laws_of_signals;
+pub use inside::Inside;
+pub use laws::{law_of_inner_values, laws_of_signals};
+pub use lost::{is_among, lost_inside, set_reads_lost};
 pub use params::PlotParams;
-pub use rounds::{data_of, signals_of};
+pub use rounds::{data_of, own_values, signals_of};
 pub use signals::signal_values;

@@ -1,26 +1,26 @@
 // The values of signals, computed all at once and again until they settle.
 ghost use Rattle.std.specs.Prelude.{◌≡◌, ◌≤◌, ◌-◌, max, length, ◌++◌, [], IsTrue, IfOk, OnOk, All, map, is_some, unwrap_or, option_copied, flat_map};
-ghost use Rattle.fixed_num.specs.Ranges.{all_found};
 ghost use Rattle.cell_value.specs.declared.cell.Cell.TheVariants.{Null};
 ghost use Rattle.cell_value.specs.State.{dataset_of};
 ghost use Rattle.expr_eval.specs.Answers.{Evaluates};
 ghost use Rattle.vega_spec.specs.declared.spec.Group.{out-Group};
 ghost use Rattle.vega_spec.specs.Names.{signals_of};
 ghost use Rattle.vega_lists.specs.Transforms.{is_kept, OfTransforms};
-ghost use Rattle.vega_lists.specs.Products.{FoldsFit, no_folds};
-ghost use Rattle.vega_lists.specs.Held.{AreLists, AreSources};
-ghost use Rattle.vega_signals.specs.Parameters.{values_with};
-ghost use Rattle.vega_signals.specs.Signals.{data_of, update_of, computed_value, computed_here, next_values, values_after, settled_values};
+ghost use Rattle.vega_lists.specs.Held.{scope_read, AreAllRows, AreLists, AreSources};
+ghost use Rattle.vega_signals.specs.Outer.{ListedMayFold};
+ghost use Rattle.vega_signals.specs.Extents.{update_of, computed_value, computed_here};
+ghost use Rattle.vega_signals.specs.Settling.{next_own, own_after, settled_own};
+ghost use Rattle.vega_signals.specs.Signals.{data_of};
 
 use crate::evaluation::eval_alone;
 use crate::extents::set_extents;
-use crate::params::PlotParams;
+use crate::inside::Inside;
 use cell_value::{Cell, Named};
-use expr_eval::{EvalError, ParamReader};
+use expr_eval::{EvalError, NoParams, ParamReader};
 use expr_syntax::Expr;
 use std::alloc::Global;
 use text_kit::{OutOfMemory, Seq, Text, copy_list};
-use vega_lists::Lists;
+use vega_lists::{ListReader, Lists, lists_of};
 use vega_spec::{DataSet, Group, Signal};
 
 /// The data sets of an object.
@@ -44,7 +44,7 @@ pub fn signals_of(group: &Group) -> &[Signal]
 }
 
 // The update of a signal that is computed.
-fn update_of(signal: &Signal) -> Option<&Expr>
+pub(crate) fn update_of(signal: &Signal) -> Option<&Expr>
     ensures { option_copied result ≡ update_of signal.now }
 {
     if signal.on.is_some() {
@@ -113,27 +113,29 @@ fn push_all_computed<P: ParamReader>(
 }
 
 // The values that signals have where they are read as `now`.
-fn next_values(
+fn next_own<O: ListReader, P: ParamReader>(
     alloc: Global,
-    top: &Group,
     sources: &[Named],
+    lists: &O,
     empty: &Lists,
-    params: &[(Text, Cell)],
+    outer: &P,
+    given: &[(Text, Cell)],
+    signals: &[Signal],
+    sets: &[DataSet],
     now: &[(Text, Cell)],
 ) -> Result<Seq<(Text, Cell)>, OutOfMemory>
     requires sources { AreSources sources.now }
+    requires lists { AreAllRows (O.named lists.now) }
     requires empty { AreLists [] empty.now }
-    requires kept { All (OfTransforms is_kept) (data_of (out-Group top.now)) }
-    requires folds { FoldsFit no_folds (data_of (out-Group top.now)) }
-    ensures { IfOk result (λ next. next ≡ next_values (out-Group top.now) (map dataset_of sources.now) params.now now.now) }
+    requires kept { All (OfTransforms is_kept) sets.now }
+    requires folds { ListedMayFold (O.named lists.now) sets.now }
+    ensures { IfOk result (λ next. next ≡ next_own (map dataset_of sources.now) (scope_read (O.named lists.now)) (P.values outer.now)
+        given.now signals.now sets.now now.now) }
 {
-    let read = PlotParams {
-        params: now,
-        lengths: &[],
-    };
-    let mut next = copy_list(alloc, params)?;
-    push_all_computed(alloc, signals_of(top), &read, &mut next)?;
-    next.append(set_extents(alloc, sources, empty, data_of(top), &read)?)?;
+    let read = Inside { own: now, outer };
+    let mut next = copy_list(alloc, given)?;
+    push_all_computed(alloc, signals, &read, &mut next)?;
+    next.append(set_extents(alloc, sources, lists, empty, sets, &read)?)?;
     Ok(next)
 }
 
@@ -167,26 +169,42 @@ fn same_slices(a: &[(Text, Cell)], b: &[(Text, Cell)]) -> bool
 }
 
 // The values after so many rounds, or after fewer where one changes nothing.
-fn settle(
+fn settle<O: ListReader, P: ParamReader>(
     alloc: Global,
-    top: &Group,
     sources: &[Named],
+    lists: &O,
     empty: &Lists,
-    params: &[(Text, Cell)],
+    outer: &P,
+    given: &[(Text, Cell)],
+    signals: &[Signal],
+    sets: &[DataSet],
     first: Seq<(Text, Cell)>,
     rounds: usize,
 ) -> Result<Seq<(Text, Cell)>, OutOfMemory>
     requires sources { AreSources sources.now }
+    requires lists { AreAllRows (O.named lists.now) }
     requires empty { AreLists [] empty.now }
-    requires kept { All (OfTransforms is_kept) (data_of (out-Group top.now)) }
-    requires folds { FoldsFit no_folds (data_of (out-Group top.now)) }
-    requires first { first ≡ values_after (out-Group top.now) (map dataset_of sources.now) params.now 1 }
+    requires kept { All (OfTransforms is_kept) sets.now }
+    requires folds { ListedMayFold (O.named lists.now) sets.now }
+    requires first { first ≡ own_after (map dataset_of sources.now) (scope_read (O.named lists.now)) (P.values outer.now)
+        given.now signals.now sets.now 1 }
     requires some { 1 ≤ rounds }
-    ensures { IfOk result (λ now. now ≡ values_after (out-Group top.now) (map dataset_of sources.now) params.now rounds) }
+    ensures { IfOk result (λ now. now ≡ own_after (map dataset_of sources.now) (scope_read (O.named lists.now)) (P.values outer.now)
+        given.now signals.now sets.now rounds) }
 {
     let mut now = first;
     for round in 1..rounds {
-        let next = next_values(alloc, top, sources, empty, params, now.as_slice())?;
+        let next = next_own(
+            alloc,
+            sources,
+            lists,
+            empty,
+            outer,
+            given,
+            signals,
+            sets,
+            now.as_slice(),
+        )?;
         if are_same(&next, &now) {
             return Ok(next);
         }
@@ -195,30 +213,53 @@ fn settle(
     Ok(now)
 }
 
-// How many rounds there are where the first gives these values: as many as there are values more than the settable ones, and one at least.
-fn rounds_after(first: &Seq<(Text, Cell)>, params: &[(Text, Cell)]) -> usize
-    ensures count { result ≡ max 1 (length first.now - length params.now) }
+// How many rounds there are where the first gives these values: as many as there are values more than those given, and one at least.
+fn rounds_after(first: &Seq<(Text, Cell)>, given: &[(Text, Cell)]) -> usize
+    ensures count { result ≡ max 1 (length first.now - length given.now) }
     ensures some { 1 ≤ result }
 {
-    first.len().saturating_sub(params.len()).max(1)
+    first.len().saturating_sub(given.len()).max(1)
 }
 
-/// The values at which the signals of an object settle, by as many rounds as there are signals that aren't settable, or fewer where one
-/// changes nothing.
-pub(crate) fn settled_values(
+// Lists of which there is none.
+fn no_lists(alloc: Global) -> Result<Lists, OutOfMemory>
+    ensures { IfOk result (AreLists []) }
+{
+    match lists_of(alloc, &[], &[], &NoParams) {
+        Ok(lists) => Ok(lists),
+        Err(_) => Err(OutOfMemory),
+    }
+}
+
+/// The values at which the signals of an object settle, each by its name: first those in `given` as they are, then the computed ones by
+/// their updates, then those of extents: the least and the greatest number of their field over the rows before them, null where there is
+/// no number. Signals may need each other in any order, and none needs itself. A name that no own signal has is read round the object, in
+/// `outer`, and a list that no data set before makes in `lists`. A computed signal or a transform that overflows counts as null or as
+/// leaving no rows. There are as many rounds as signals that aren't given, or fewer where one changes nothing. The sources are those of a
+/// state, a lookup has as many names as values, bins of a given width are over 0 wide, and on no path, from the sources over the outer
+/// lists, do folds multiply rows by more than 8.
+pub fn own_values<O: ListReader, P: ParamReader>(
     alloc: Global,
-    top: &Group,
     sources: &[Named],
-    empty: &Lists,
-    params: &[(Text, Cell)],
+    lists: &O,
+    outer: &P,
+    given: &[(Text, Cell)],
+    signals: &[Signal],
+    sets: &[DataSet],
 ) -> Result<Seq<(Text, Cell)>, OutOfMemory>
     requires sources { AreSources sources.now }
-    requires empty { AreLists [] empty.now }
-    requires kept { All (OfTransforms is_kept) (data_of (out-Group top.now)) }
-    requires folds { FoldsFit no_folds (data_of (out-Group top.now)) }
-    ensures { IfOk result (λ settled. settled ≡ settled_values (out-Group top.now) (map dataset_of sources.now) params.now) }
+    requires lists { AreAllRows (O.named lists.now) }
+    requires kept { All (OfTransforms is_kept) sets.now }
+    requires folds { ListedMayFold (O.named lists.now) sets.now }
+    ensures { IfOk result (λ settled. settled ≡ settled_own (map dataset_of sources.now) (scope_read (O.named lists.now)) (P.values outer.now)
+        given.now signals.now sets.now) }
 {
-    let first = next_values(alloc, top, sources, empty, params, params)?;
-    let rounds = rounds_after(&first, params);
-    settle(alloc, top, sources, empty, params, first, rounds)
+    let empty = no_lists(alloc)?;
+    let first = next_own(
+        alloc, sources, lists, &empty, outer, given, signals, sets, given,
+    )?;
+    let rounds = rounds_after(&first, given);
+    settle(
+        alloc, sources, lists, &empty, outer, given, signals, sets, first, rounds,
+    )
 }

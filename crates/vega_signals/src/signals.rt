@@ -6,16 +6,17 @@ ghost use Rattle.expr_eval.specs.Answers.{Evaluates};
 ghost use Rattle.vega_spec.specs.declared.spec.Group.{out-Group};
 ghost use Rattle.vega_lists.specs.Transforms.{is_kept, OfTransforms};
 ghost use Rattle.vega_lists.specs.Products.{FoldsFit, no_folds};
-ghost use Rattle.vega_lists.specs.Held.{AreLists, AreSources};
-ghost use Rattle.vega_signals.specs.Signals.{data_of, computed_value, signal_values};
+ghost use Rattle.vega_lists.specs.Held.{AreSources};
+ghost use Rattle.vega_signals.specs.Extents.{computed_value};
+ghost use Rattle.vega_signals.specs.Signals.{data_of, settled_values, signal_values};
 
 use crate::params::PlotParams;
-use crate::rounds::{computed_value, settled_values, signals_of};
-use cell_value::{Cell, Named};
+use crate::rounds::{computed_value, own_values, signals_of};
+use cell_value::{Cell, Keyed, Named};
 use expr_eval::{EvalError, NoParams, ParamReader};
 use std::alloc::Global;
 use text_kit::{OutOfMemory, Seq, Text};
-use vega_lists::{Lists, lists_of};
+use vega_lists::ListReader;
 use vega_spec::{Group, Signal};
 
 // The values of the computed signals, and null for each other.
@@ -36,14 +37,40 @@ fn computed_values<P: ParamReader>(
     Ok(out)
 }
 
-// Lists of which there is none.
-fn no_lists(alloc: Global) -> Result<Lists, OutOfMemory>
-    ensures { IfOk result (AreLists []) }
-{
-    match lists_of(alloc, &[], &[], &NoParams) {
-        Ok(lists) => Ok(lists),
-        Err(_) => Err(OutOfMemory),
+// No lists.
+#[derive(Clone, Copy)]
+struct NoLists;
+
+impl ListReader for NoLists {
+    ghost named = { λ _ name. [] };
+
+    fn rows<'a>(&'a self, alloc: Global, _: &str) -> Result<Seq<&'a Keyed>, OutOfMemory> {
+        Ok(Seq::new(alloc))
     }
+}
+
+// The values at which the signals of the top object settle.
+fn settled_values(
+    alloc: Global,
+    top: &Group,
+    sources: &[Named],
+    params: &[(Text, Cell)],
+) -> Result<Seq<(Text, Cell)>, OutOfMemory>
+    requires sources { AreSources sources.now }
+    requires kept { All (OfTransforms is_kept) (data_of (out-Group top.now)) }
+    requires folds { FoldsFit no_folds (data_of (out-Group top.now)) }
+    ensures { IfOk result (λ settled. settled ≡ settled_values (out-Group top.now) (map dataset_of sources.now) params.now) }
+{
+    let sets = crate::rounds::data_of(top);
+    own_values(
+        alloc,
+        sources,
+        &NoLists,
+        &NoParams,
+        params,
+        signals_of(top),
+        sets,
+    )
 }
 
 /// The values of the signals of a specification's top object, each by its name: first the settable ones as they are given in `params`,
@@ -63,8 +90,7 @@ pub fn signal_values(
     requires folds { FoldsFit no_folds (data_of (out-Group top.now)) }
     ensures { Evaluates result (signal_values (out-Group top.now) (map dataset_of sources.now) params.now) }
 {
-    let empty = no_lists(alloc)?;
-    let settled = settled_values(alloc, top, sources, &empty, params)?;
+    let settled = settled_values(alloc, top, sources, params)?;
     let read = PlotParams {
         params: settled.as_slice(),
         lengths: &[],

@@ -47,3 +47,25 @@ pub struct Laid {
     /// The height of the whole.
     pub height: Num,
 }
+
+/// Where a plot or the title of a grid stands. Lengths are in pixels, from the left upper corner of the whole.
+#[derive(Clone, Copy, Debug, PartialEq, Eq)]
+pub struct PlaceOf {
+    /// How far its left edge is from that of the whole.
+    pub x: Num,
+    /// How far its upper edge is from that of the whole.
+    pub y: Num,
+    /// The width of the plot, or that of the whole grid below the title.
+    pub width: Num,
+}
+
+/// How the boxes of a tree and the titles of its grids stand. Lengths are in pixels.
+#[derive(Debug, Drop)]
+pub struct LaidWithTitles {
+    /// Where each plot and each title of a grid stands, in the order of the tree: a title before what stands in its grid.
+    pub places: Seq<PlaceOf>,
+    /// The width of the whole.
+    pub width: Num,
+    /// The height of the whole.
+    pub height: Num,
+}

@@ -2,12 +2,12 @@
 ghost use Rattle.std.specs.Prelude.{◌≡◌, ◌<◌, ◌++◌, max, map, IfOk, OnOk};
 ghost use Rattle.view_layout.specs.Grid.{corners_of, row_corners};
 ghost use Rattle.view_layout.specs.Layout.{cell_of, grid_by, grid_corners, grid_of, leaf_of, without_extent};
-ghost use Rattle.view_layout.specs.inner.Plans.{plots_of, seen, AreSeen};
+ghost use Rattle.view_layout.specs.inner.Plans.{places_of, seen, AreSeen};
 
 use crate::boxes::{BoxOf, BoxTree};
-use crate::lengths::{length_of, plus, title_height};
+use crate::lengths::{length_of, number_of, plus, title_height};
 use crate::plan::Plan;
-use crate::spans::{Span, columns_of, extent, positions, rows_of};
+use crate::spans::{Span, columns_of, extent, positions, rows_of, whole};
 use std::alloc::Global;
 use text_kit::{OutOfMemory, Seq};
 
@@ -46,7 +46,7 @@ fn leaf(b: &BoxOf) -> Arranged
             before: length_of(b.top),
             behind: plus(length_of(b.height), length_of(b.bottom)),
         },
-        plan: Plan::Plot,
+        plan: Plan::Plot(number_of(length_of(b.width))),
     }
 }
 
@@ -97,7 +97,7 @@ fn without_extent(size: u128) -> Span
 }
 
 // A grid as a cell, from its columns and rows and what stands inside its cells.
-#[tactic(auto, using(crate::proofs::PlanLemmas::plots_of_grid))]
+#[tactic(auto, using(crate::proofs::PlanLemmas::places_of_grid))]
 fn grid_by(
     alloc: Global,
     gap: u128,
@@ -106,14 +106,20 @@ fn grid_by(
     rows: &[Span],
     plans: Seq<Plan>,
 ) -> Result<Arranged, OutOfMemory>
-    ensures { IfOk result (λ arranged. seen arranged ≡ grid_by gap title columns.now rows.now (map plots_of plans)) }
+    ensures { IfOk result (λ arranged. seen arranged ≡ grid_by gap title columns.now rows.now (map places_of plans)) }
 {
     let above = title_height(title);
     let corners = grid_corners(alloc, gap, above, columns, rows)?;
+    let across = without_extent(extent(gap, columns));
     Ok(Arranged {
-        across: without_extent(extent(gap, columns)),
+        across,
         down: without_extent(plus(above, extent(gap, rows))),
-        plan: Plan::Grid(corners, plans),
+        plan: Plan::Grid {
+            title,
+            width: number_of(whole(across)),
+            corners,
+            cells: plans,
+        },
     })
 }
 
@@ -126,7 +132,7 @@ fn grid(
     cells: Cells,
 ) -> Result<Arranged, OutOfMemory>
     requires { 0 < n }
-    ensures { IfOk result (λ arranged. seen arranged ≡ grid_of n gap title cells.across cells.down (map plots_of cells.plans)) }
+    ensures { IfOk result (λ arranged. seen arranged ≡ grid_of n gap title cells.across cells.down (map places_of cells.plans)) }
 {
     let Cells {
         across,

@@ -9,5 +9,5 @@ mod lengths;
 mod plan;
 mod spans;
 
-pub use boxes::{BoxOf, BoxTree, Laid};
-pub use layout::lay_out;
+pub use boxes::{BoxOf, BoxTree, Laid, LaidWithTitles, PlaceOf};
+pub use layout::{law_of_titles, lay_out, lay_out_with_titles};

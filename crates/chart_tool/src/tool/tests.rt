@@ -4,6 +4,7 @@ use chart_io::{ListFolder, ListSink, ListSource, Source};
 use std::alloc::Global;
 use std::test::Fail;
 
+mod charts;
 mod faults;
 mod limits;
 mod pictures;

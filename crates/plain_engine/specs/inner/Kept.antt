@@ -10,14 +10,14 @@ use Rattle.scene_tree.specs.declared.scene.Scene.{Scene}
 use Rattle.scene_tree.specs.Outcome.{Drawn, outcome_map}
 use Rattle.svg_text.specs.SceneText.{svg_of}
 use Rattle.vega_spec.specs.declared.spec.VgSpec.{VgSpec}
-use Rattle.vega_plots.specs.Tested.{is_plot}
+use Rattle.vega_charts.specs.Tested.{is_chart}
 use Rattle.vega_meaning.specs.Charts.{vega_scene_of}
 use Rattle.vega_meaning.specs.States.{IsStateOf}
 use Rattle.play_script.specs.Meaning.{Meaning, IsStanding}
 
--- the specification is a plot, the state is one of it, and the scene is its scene
+-- the specification has a meaning so far, the state is one of it, and the scene is its scene
 pub record IsKept (spec : VgSpec) (state : ChartState) (scene : Scene) : Type 0 where
-  pub plot : is_plot spec ≡ true
+  pub chart : is_chart spec ≡ true
   pub of : IsStateOf spec (state_of state)
   pub drawn : vega_scene_of spec (state_of state) ≡ Drawn scene
 

@@ -9,7 +9,7 @@ use Rattle.cell_value.specs.declared.state.Named.{Named}
 use Rattle.cell_value.specs.Datum.{Datum, datum_of}
 use Rattle.cell_value.specs.State.{Dataset, dataset_of, State, most_rows, greatest_id}
 use Rattle.scene_tree.specs.declared.scene.Scene.{Scene}
-use Rattle.scene_tree.specs.Outcome.{in_reach}
+use Rattle.scene_tree.specs.Outcome.{Drawn}
 use Rattle.param_flow.specs.declared.command.ChangeOf.{ChangeOf}
 use Rattle.param_flow.specs.declared.reply.Reply.{Reply}
 use Rattle.param_flow.specs.declared.reply.Reply.TheVariants.{Done, Refused}
@@ -18,7 +18,7 @@ use Rattle.param_flow.specs.Change.{rows_after, count_staying}
 use Rattle.param_flow.specs.Machine.{new_rows, reply_to_chart}
 use Rattle.vega_spec.specs.declared.spec.VgSpec.{VgSpec}
 use Rattle.vega_signals.specs.Parameters.{values_with}
-use Rattle.vega_plots.specs.Plots.{plot_over}
+use Rattle.vega_meaning.specs.Charts.{scene_over}
 
 -- the rows of the source at an index; none where there is no source
 abbrev pub rows_at : List Named → ℕ → List Keyed
@@ -78,7 +78,7 @@ module _ (next_id : ℕ) (signals : List (List ℕ × Cell)) (sources : List Dat
 -- what is replied where these sources are left
 abbrev pub reply_to_sources : VgSpec → List (List ℕ × Cell) → Option (List Dataset) → Reply
 reply_to_sources g params None = Refused cause.Overflow
-reply_to_sources g params (Some sources) = reply_to_chart (in_reach (plot_over g sources params))
+reply_to_sources g params (Some sources) = reply_to_chart (scene_over g sources params)
 
 -- what is replied to a change of the source at an index that names what is there and whose rows can be read
 abbrev pub reply_at : VgSpec → ℕ → List (List ℕ × Cell) → List (List ℕ × Cell) → List Dataset → ℕ → ChangeOf → Reply
@@ -110,5 +110,5 @@ IsLeft (Refused cause) changed old new = new ≡ old
 
 -- after Done a scene is that of these sources, else it is as it was
 abbrev pub IsShown : Reply → VgSpec → List (List ℕ × Cell) → List Named → Scene → Scene → Type 0
-IsShown Done g params sources old new = plot_over g (map dataset_of sources) params ≡ Some new
+IsShown Done g params sources old new = scene_over g (map dataset_of sources) params ≡ Drawn new
 IsShown (Refused cause) g params sources old new = new ≡ old

@@ -1,11 +1,11 @@
 use Rattle.std.proofs.Common.{sym, subst, ap, ◌∙◌}
-use Rattle.vega_plots.specs.Tested.{is_plot}
+use Rattle.vega_charts.specs.Tested.{is_chart}
 use Rattle.cell_value.specs.declared.state.ChartState.{ChartState}
 use Rattle.cell_value.specs.State.{state_of}
 use Rattle.vega_spec.specs.declared.spec.VgSpec.{VgSpec}
 use Rattle.vega_meaning.specs.States.{IsStateOf}
 use Rattle.first_form.specs.Opening.{bars_of, opening_of}
-use Rattle.first_form.proofs.BarPlots.{bars_are_plots}
+use Rattle.first_form.proofs.BarCharts.{bars_are_charts}
 use Rattle.first_form.proofs.OpeningStates.{is_state_of}
 use Rattle.opened_charts.proofs.LateStates.{without_ids, stays_state}
 use Rattle.opened_charts.proofs.charts.opened_late.Goals as goal
@@ -19,4 +19,4 @@ open-requires-clause-state c =
     subst of_state (sym c.in_ok-state.ensures) (subst of_spec (sym c.in_ok-spec.ensures) is)
 
 pub open-requires-clause-built : goal.open-requires-clause-built
-open-requires-clause-built c = ap is_plot c.in_ok-spec.ensures ∙ bars_are_plots c.args.form.now
+open-requires-clause-built c = ap is_chart c.in_ok-spec.ensures ∙ bars_are_charts c.args.form.now

@@ -1,7 +1,7 @@
 use Rattle.std.proofs.Common.{ℕ, ◌+◌, Some, length, map, arith, sym, ap, subst, ◌∙◌}
 use Rattle.cell_value.specs.declared.state.ChartState.{ChartState}
 use Rattle.cell_value.specs.State.{dataset_of, state_of}
-use Rattle.vega_plots.specs.Plots.{plot_over}
+use Rattle.vega_meaning.specs.Charts.{scene_over}
 use Rattle.vega_meaning.specs.Semantics.{signals_in}
 use Rattle.plain_engine.specs.inner.Kept.{IsKept}
 use Rattle.plain_engine.specs.inner.Sources.{sources_changed, reply_at}
@@ -37,11 +37,11 @@ returns-in-Ok-Done-clause-kept c =
     } in
     IsKept g now scene) in
     subst now (sym c.len.ensures)
-    (kept_done g st signals index change c.requires.within c.requires.kept.of c.from_vec.result scene c.requires.kept.plot
+    (kept_done g st signals index change c.requires.within c.requires.kept.of c.from_vec.result scene c.requires.kept.chart
     ((λ i. sources_changed st.next_id (sym given i) (map dataset_of (sym items i)) index change) ∙ changed
     ∙ ap (λ sources. Some (map dataset_of sources)) (sym placed))
     (replied ∙ (λ i. reply_at g st.next_id (params i) (given i) (map dataset_of (items i)) index change))
-    ((λ i. plot_over g (map dataset_of (placed i)) (sym params i)) ∙ drawn))
+    ((λ i. scene_over g (map dataset_of (placed i)) (sym params i)) ∙ drawn))
 
 pub returns-in-Ok-Refused-clause-kept : goal.returns-in-Ok-Refused-clause-kept
 returns-in-Ok-Refused-clause-kept c =

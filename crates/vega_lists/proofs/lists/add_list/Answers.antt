@@ -1,17 +1,18 @@
-use Rattle.std.proofs.Common.{length, sym, subst}
-use Rattle.plain_rows.specs.Rows.{AreRows}
-use Rattle.vega_lists.specs.Held.{rows_there}
-use Rattle.vega_lists.specs.inner.Places.{IsThere}
-use Rattle.vega_lists.proofs.PlaceLemmas.{begun_there}
-use Rattle.vega_lists.proofs.ListLemmas.{begun_are_rows}
+use Rattle.vega_lists.proofs.OuterLemmas.{own_are}
+use Rattle.vega_lists.proofs.ListLemmas.{own_may_fold, adds_inside}
 use Rattle.vega_lists.proofs.lists.add_list.Goals as goal
 
-pub with_transformed-requires-clause-rows : goal.with_transformed-requires-clause-rows
-with_transformed-requires-clause-rows g c =
-    subst (λ p. AreRows (rows_there c.args.sources.now c.args.lists.made p)) (sym c.begun_place-begun.ensures)
-    (begun_are_rows c.args.sources.now c.args.given.now c.args.lists c.args.set.now c.requires.sources c.requires.given c.requires.lists)
+pub with_own-requires-clause-lists : goal.with_own-requires-clause-lists
+with_own-requires-clause-lists g c =
+    own_are (g.P.ParamReader.values c.args.params.now) c.args.sources.now (g.O.ListReader.named c.args.outer.now) c.args.lists c.in_ok-holding.holding
+    c.in_ok-holding.ensures.takes c.requires.lists
 
-pub with_transformed-requires-clause-there : goal.with_transformed-requires-clause-there
-with_transformed-requires-clause-there g c =
-    subst (IsThere (length c.args.lists.made)) (sym c.begun_place-begun.ensures)
-    (begun_there c.args.sources.now c.args.given.now c.args.lists c.args.set.now c.requires.given c.requires.placed)
+pub with_own-requires-clause-folds : goal.with_own-requires-clause-folds
+with_own-requires-clause-folds g c =
+    own_may_fold c.args.sources.now c.args.given.now c.in_ok-holding.holding c.args.set.now c.requires.sources c.requires.given
+    (g.P.ParamReader.values c.args.params.now) (g.O.ListReader.named c.args.outer.now) c.args.lists c.in_ok-holding.ensures.takes c.requires.folds
+
+pub returns : goal.returns
+returns g c =
+    adds_inside (g.P.ParamReader.values c.args.params.now) c.args.sources.now (g.O.ListReader.named c.args.outer.now) c.args.lists c.in_ok-holding.holding
+    c.args.set.now c.with_own.result c.in_ok-holding.ensures.takes c.in_ok-holding.ensures.source c.in_ok-holding.ensures.looked_up c.with_own.ensures

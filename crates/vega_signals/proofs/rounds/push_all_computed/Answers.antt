@@ -1,4 +1,4 @@
-use Rattle.vega_signals.specs.Signals.{computed_here}
+use Rattle.vega_signals.specs.Extents.{computed_here}
 use Rattle.vega_signals.proofs.RoundLemmas.{more_flat}
 use Rattle.vega_signals.proofs.rounds.push_all_computed.Goals as goal
 

@@ -1,5 +1,5 @@
 use Rattle.std.proofs.Common.{◌≡◌, ◌++◌, take, flat_map}
-use Rattle.vega_signals.specs.Signals.{computed_here}
+use Rattle.vega_signals.specs.Extents.{computed_here}
 use Rattle.vega_signals.proofs.rounds.push_all_computed.Given as goal
 
 abbrev pub invariant-loop-signal : goal.invariant-loop-signal

@@ -1,8 +1,9 @@
 use Rattle.std.proofs.Common.{◌≡◌, map}
 use Rattle.cell_value.specs.State.{dataset_of}
-use Rattle.vega_spec.specs.declared.spec.Group.{out-Group}
-use Rattle.vega_signals.specs.Signals.{values_after}
+use Rattle.vega_lists.specs.Held.{scope_read}
+use Rattle.vega_signals.specs.Settling.{own_after}
 use Rattle.vega_signals.proofs.rounds.settle.Given as goal
 
 abbrev pub invariant-loop-round : goal.invariant-loop-round
-invariant-loop-round l = l.now ≡ values_after (out-Group l.top) (map dataset_of l.sources) l.params l.round
+invariant-loop-round g l =
+    l.now ≡ own_after (map dataset_of l.sources) (scope_read (g.O.ListReader.named l.lists)) (g.P.ParamReader.values l.outer) l.given l.signals l.sets l.round

@@ -1,6 +1,6 @@
 use Rattle.std.proofs.Common.{◌∙◌, ap, sym, Some}
 use Rattle.expr_eval.proofs.Several.{stops_all, all_more}
-use Rattle.vega_signals.specs.Signals.{computed_value}
+use Rattle.vega_signals.specs.Extents.{computed_value}
 use Rattle.vega_signals.proofs.signals.computed_values.Goals as goal
 
 pub returns-in-Err : goal.returns-in-Err

@@ -1,0 +1,53 @@
+-- The Vega specification of a form as an outline, and why it has a meaning and keeps the rules.
+use Rattle.std.proofs.Common.{◌≡◌, ℕ, ◌&&◌, List, [], ◌∷◌, ◌++◌, ap, ◌∙◌}
+use Rattle.vega_spec.specs.Names.{sources_here, mark_sources_here, mark_sources, sources_of}
+use Rattle.vega_spec.specs.declared.spec.Group.{Group, Group-F, out-Group, out-roll-Group, fold-roll-Group}
+use Rattle.vega_spec.specs.declared.spec.VgMark.{VgMark, VgMark-F, out-VgMark, out-roll-VgMark, fold-roll-VgMark}
+use Rattle.vega_charts.specs.Outlines.{Object, Opened, Marks, NoMarks, AMark, object_here, opened, numbered, outline_of}
+use Rattle.vega_charts.specs.Tested.{is_outline, has_sizes, are_new}
+use Rattle.vega_charts.specs.inner.Outlined.{marks_in, marks_of, is_group, plain_of}
+use Rattle.vega_charts.proofs.OutlineLemmas.{opened_object, opened_marks, plain_from}
+use Rattle.first_form.specs.declared.form.FirstForm.{FirstForm}
+use Rattle.first_form.specs.Opening.{no_parts, mark_parts, bars_mark, bars_parts, bars_group, bars_of}
+use Rattle.first_form.specs.Laws.{BarsAreCharts}
+
+-- what the group and the mark of the bars are
+pub opened_group : (form : FirstForm) → out-Group (bars_group form) ≡ bars_parts form
+opened_group form = out-roll-Group (bars_parts form)
+
+pub opened_mark : (form : FirstForm) → out-VgMark (bars_mark form) ≡ mark_parts form
+opened_mark form = out-roll-VgMark (mark_parts form)
+
+-- the top with the one mark in it
+abbrev pub bars_object : FirstForm → Object
+bars_object form = object_here (bars_parts form)
+
+abbrev pub the_bars : FirstForm → Marks
+the_bars form = AMark 0 (plain_of (mark_parts form)) NoMarks
+
+abbrev pub bars_outline : FirstForm → Opened
+bars_outline form = record { object = bars_object form; marks = the_bars form }
+
+pub outlined : (form : FirstForm) → outline_of (bars_of form) ≡ bars_outline form
+outlined form =
+    let object : (opened (bars_group form)).object ≡ bars_object form =
+    opened_object (bars_group form) ∙ ap (λ (g : Group-F Group VgMark). object_here g) (opened_group form) in
+    let marks : numbered 0 1 (opened (bars_group form)).marks ≡ the_bars form =
+    ap (numbered 0 1) (opened_marks (bars_group form) ∙ ap (λ (g : Group-F Group VgMark). marks_of (marks_in g)) (opened_group form))
+    ∙ plain_from 0 1 (bars_mark form) [] (ap is_group (opened_mark form))
+    ∙ ap (λ (m : VgMark-F Group VgMark). AMark 0 (plain_of m) NoMarks) (opened_mark form) in
+    λ i. record { object = object i; marks = marks i }
+
+-- the one source of the Vega specification
+pub named_sources : (form : FirstForm) → sources_of (bars_of form) ≡ form.name ∷ []
+named_sources form =
+    fold-roll-Group (List (List ℕ)) (List (List ℕ)) sources_here mark_sources_here (bars_parts form)
+    ∙ ap (λ names. (form.name ∷ []) ++ (names ++ [])) (mark_none form)
+  where
+    mark_none : (form : FirstForm) → mark_sources (bars_mark form) ≡ []
+    mark_none form =
+        fold-roll-VgMark (List (List ℕ)) (List (List ℕ)) sources_here mark_sources_here (mark_parts form)
+        ∙ fold-roll-Group (List (List ℕ)) (List (List ℕ)) sources_here mark_sources_here no_parts
+
+pub bars_are_charts : BarsAreCharts
+bars_are_charts form = λ i. is_outline (outlined form i) && (has_sizes (bars_of form) && are_new [] (named_sources form i))

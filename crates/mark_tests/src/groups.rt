@@ -1,0 +1,41 @@
+// The numbers that groups encode.
+use crate::building::{Stop, mark_of};
+use crate::settings::{count, scales};
+use cell_value::Cell;
+use expr_eval::NoParams;
+use fixed_num::Num;
+use mark_encode::{ChannelName, number_encoded};
+use std::alloc::Global;
+use text_kit::{OutOfMemory, Text};
+
+// The channel of a name.
+fn channel_of(name: &str) -> Option<ChannelName> {
+    match name {
+        "x" => Some(ChannelName::X),
+        "y" => Some(ChannelName::Y),
+        "width" => Some(ChannelName::Width),
+        "height" => Some(ChannelName::Height),
+        _ => None,
+    }
+}
+
+// The cells of a facet with A, and of one inside it with B and 28.
+fn facet_cells(alloc: Global) -> Result<Vec<(Text, Cell)>, OutOfMemory> {
+    let mut cells = Vec::new(alloc);
+    cells.push((Text::of(alloc, "a")?, Cell::Text(Text::of(alloc, "A")?)))?;
+    cells.push((Text::of(alloc, "a")?, Cell::Text(Text::of(alloc, "B")?)))?;
+    cells.push((Text::of(alloc, "amount")?, Cell::Number(count(28_000_000))))?;
+    Ok(cells)
+}
+
+/// The number that a group with the encode sets of these words encodes in a channel.
+pub fn number_of(alloc: Global, channel: &str, enter: &str, update: &str) -> Result<Num, Stop> {
+    let Some(channel) = channel_of(channel) else {
+        return Err(Stop::Shape);
+    };
+    let mark = mark_of(alloc, "group", enter, update, "")?;
+    let scales = scales(alloc)?;
+    let cells = facet_cells(alloc)?;
+    let cells = cells.as_slice();
+    Ok(number_encoded(alloc, &scales, &mark.encode, channel, cells, &NoParams)?)
+}

@@ -1,0 +1,294 @@
+-- What marks keep, and what names stand for in a copy of a group that is entered.
+use Rattle.std.proofs.Common.{◌≡◌, ℕ, suc, ◌+◌, Bool, true, false, cond, Option, Some, None, List, [], ◌∷◌, map, Bor, refl, sym, ap, ◌∙◌, subst, arith}
+use Rattle.std.specs.Prelude.{All}
+use Rattle.std.specs.Option.{option_map}
+use Rattle.std.specs.Str.{bytes_eq}
+use Rattle.cell_value.specs.declared.state.Keyed.{Keyed}
+use Rattle.cell_value.specs.declared.state.Named.{Named}
+use Rattle.cell_value.specs.Datum.{datum_of}
+use Rattle.cell_value.specs.State.{Dataset, dataset_of}
+use Rattle.expr_eval.specs.Values.{Values}
+use Rattle.expr_eval.specs.Plain.{no_values}
+use Rattle.fixed_num.specs.Ranges.{◌>>=◌, all_found}
+use Rattle.vega_spec.specs.declared.spec.Group.{out-Group}
+use Rattle.vega_spec.specs.declared.spec.VgMark.{VgMark, out-VgMark}
+use Rattle.vega_lists.specs.Held.{AreAllRows, scope_read}
+use Rattle.vega_lists.specs.Inside.{RowsByName, no_rows, rows_inside, AllKeysFit, SetsMayFold}
+use Rattle.vega_lists.specs.Products.{Products, products_after}
+use Rattle.vega_lists.specs.Scopes.{Scope}
+use Rattle.vega_lists.specs.Transforms.{OfTransforms, is_kept}
+use Rattle.vega_signals.specs.Lost.{IsLost, is_among}
+use Rattle.vega_signals.specs.Settling.{values_inside}
+use Rattle.vega_signals.specs.Signals.{data_of}
+use Rattle.vega_charts.specs.declared.copies.CopyOf.{CopyOf}
+use Rattle.vega_charts.specs.declared.names.Level.{Level}
+use Rattle.vega_charts.specs.declared.names.NamesAt.{NamesAt}
+use Rattle.vega_charts.specs.Outlines.{Object, Marks, NoMarks, AMark, AGroup, PlainMark, facet_in, count_marks, count_groups}
+use Rattle.vega_charts.specs.Scopes.{Names, names_in_object, keeps_signals}
+use Rattle.vega_charts.specs.Facets.{Copy, with_parts}
+use Rattle.vega_charts.specs.Scales.{ScaleHere, own_scale, and_outer}
+use Rattle.vega_charts.specs.Copies.{Frame, copy_in, inside_of, names_in_copy, of_no_chart, more_cells, with_scales}
+use Rattle.vega_charts.specs.Built.{KeepsObject, KeepsMarks, FoldsFitIn, products_in_copy}
+use Rattle.vega_charts.specs.inner.Levels.{parts_over, rows_at, values_at, lost_at, names_at, names_over, names_with_level, rows_with_level, kept_names, AreNames, AreLevels}
+use Rattle.vega_charts.specs.inner.Copied.{copy_seen, IsCopy}
+use Rattle.vega_charts.specs.inner.Outlined.{marks_in, marks_of, is_group, plain_of, group_object, object_numbered, AreFew}
+use Rattle.vega_charts.specs.inner.Drawn.{MayStand, MarksMayFold, scaled_in}
+use Rattle.vega_charts.proofs.OutlineLemmas.{plain_first, group_first, counted_first, grouped_first, group_counted, group_grouped}
+
+-- ---- the first of some marks, the others, and those in a group
+
+module _ (P : Marks → Type 0) (m : VgMark) where
+  first_of : (ms : List VgMark)
+      → ((plain : PlainMark) (others : Marks) → P (AMark 0 plain others) → P (AMark 0 plain NoMarks))
+      → ((o : Object) (inside others : Marks) → P (AGroup o inside others) → P (AGroup o inside NoMarks))
+      → P (marks_of (m ∷ ms)) → P (marks_of (m ∷ []))
+  first_of ms plain group p = by_type (is_group (out-VgMark m)) refl
+    where
+      by_type : (b : Bool) → is_group (out-VgMark m) ≡ b → P (marks_of (m ∷ []))
+      by_type true e =
+          subst P (sym (group_first m NoMarks e))
+          (group (group_object 0 (out-VgMark m)) (marks_of (marks_in (out-Group (out-VgMark m).group))) (marks_of ms) (subst P (group_first m (marks_of ms) e) p))
+      by_type false e =
+          subst P (sym (plain_first m NoMarks e)) (plain (plain_of (out-VgMark m)) (marks_of ms) (subst P (plain_first m (marks_of ms) e) p))
+
+  rest_of : (ms : List VgMark)
+      → ((plain : PlainMark) (others : Marks) → P (AMark 0 plain others) → P others)
+      → ((o : Object) (inside others : Marks) → P (AGroup o inside others) → P others)
+      → P (marks_of (m ∷ ms)) → P (marks_of ms)
+  rest_of ms plain group p = by_type (is_group (out-VgMark m)) refl
+    where
+      by_type : (b : Bool) → is_group (out-VgMark m) ≡ b → P (marks_of ms)
+      by_type true e =
+          group (group_object 0 (out-VgMark m)) (marks_of (marks_in (out-Group (out-VgMark m).group))) (marks_of ms) (subst P (group_first m (marks_of ms) e) p)
+      by_type false e = plain (plain_of (out-VgMark m)) (marks_of ms) (subst P (plain_first m (marks_of ms) e) p)
+
+  as_group : is_group (out-VgMark m) ≡ true → P (marks_of (m ∷ []))
+      → P (AGroup (group_object 0 (out-VgMark m)) (marks_of (marks_in (out-Group (out-VgMark m).group))) NoMarks)
+  as_group e p = subst P (group_first m NoMarks e) p
+
+kept_plain : (plain : PlainMark) (others : Marks) → KeepsMarks (AMark 0 plain others) → KeepsMarks (AMark 0 plain NoMarks)
+kept_plain plain others kept = tt
+
+kept_group : (o : Object) (inside others : Marks) → KeepsMarks (AGroup o inside others) → KeepsMarks (AGroup o inside NoMarks)
+kept_group o inside others (kept, below, rest) = (kept, below, tt)
+
+kept_behind_plain : (plain : PlainMark) (others : Marks) → KeepsMarks (AMark 0 plain others) → KeepsMarks others
+kept_behind_plain plain others kept = kept
+
+kept_behind : (o : Object) (inside others : Marks) → KeepsMarks (AGroup o inside others) → KeepsMarks others
+kept_behind o inside others (kept, below, rest) = rest
+
+kept_below : (o : Object) (inside others : Marks) → KeepsMarks (AGroup o inside others) → KeepsMarks inside
+kept_below o inside others (kept, below, rest) = below
+
+kept_object : (o : Object) (inside others : Marks) → KeepsMarks (AGroup o inside others) → KeepsObject o
+kept_object o inside others (kept, below, rest) = kept
+
+module _ (products : Products) where
+  fit_plain : (plain : PlainMark) (others : Marks) → FoldsFitIn products (AMark 0 plain others) → FoldsFitIn products (AMark 0 plain NoMarks)
+  fit_plain plain others fit = tt
+
+  fit_group : (o : Object) (inside others : Marks) → FoldsFitIn products (AGroup o inside others) → FoldsFitIn products (AGroup o inside NoMarks)
+  fit_group o inside others (fit, below, rest) = (fit, below, tt)
+
+  fit_behind_plain : (plain : PlainMark) (others : Marks) → FoldsFitIn products (AMark 0 plain others) → FoldsFitIn products others
+  fit_behind_plain plain others fit = fit
+
+  fit_behind : (o : Object) (inside others : Marks) → FoldsFitIn products (AGroup o inside others) → FoldsFitIn products others
+  fit_behind o inside others (fit, below, rest) = rest
+
+-- the marks may stand where the whole list may
+pub stand_first : (rows : RowsByName) (m : VgMark) (ms : List VgMark) → MayStand rows (m ∷ ms) → MayStand rows (m ∷ [])
+stand_first rows m ms stand = record { kept = first_of KeepsMarks m ms kept_plain kept_group stand.kept; folds = folds stand.folds }
+  where
+    folds : MarksMayFold rows (marks_of (m ∷ ms)) → MarksMayFold rows (marks_of (m ∷ []))
+    folds (products, keys, fit) = (products, keys, first_of (FoldsFitIn products) m ms (fit_plain products) (fit_group products) fit)
+
+pub stand_rest : (rows : RowsByName) (m : VgMark) (ms : List VgMark) → MayStand rows (m ∷ ms) → MayStand rows ms
+stand_rest rows m ms stand = record { kept = rest_of KeepsMarks m ms kept_behind_plain kept_behind stand.kept; folds = folds stand.folds }
+  where
+    folds : MarksMayFold rows (marks_of (m ∷ ms)) → MarksMayFold rows (marks_of ms)
+    folds (products, keys, fit) = (products, keys, rest_of (FoldsFitIn products) m ms (fit_behind_plain products) (fit_behind products) fit)
+
+-- numbers that are few enough
+pub few_first : (unit number : ℕ) (m : VgMark) (ms : List VgMark) → AreFew unit number (m ∷ ms) → AreFew unit number (m ∷ [])
+few_first unit number m ms few = record {
+  units = let all = few.units in let parts = counted_first m ms in omega (arith, all, parts);
+  numbers = let all = few.numbers in let parts = grouped_first m ms in omega (arith, all, parts);
+}
+
+pub few_rest : (unit number : ℕ) (m : VgMark) (ms : List VgMark) → AreFew unit number (m ∷ ms)
+    → AreFew (unit + count_marks (marks_of (m ∷ []))) (number + count_groups (marks_of (m ∷ []))) ms
+few_rest unit number m ms few = record {
+  units = let all = few.units in let parts = counted_first m ms in omega (arith, all, parts);
+  numbers = let all = few.numbers in let parts = grouped_first m ms in omega (arith, all, parts);
+}
+
+pub few_inside : (unit number : ℕ) (m : VgMark) → is_group (out-VgMark m) ≡ true → AreFew unit number (m ∷ [])
+    → AreFew unit (suc number) (marks_in (out-Group (out-VgMark m).group))
+few_inside unit number m e few = record {
+  units = let all = few.units in let parts = group_counted m [] e in omega (arith, all, parts);
+  numbers = let all = few.numbers in let parts = group_grouped m [] e in omega (arith, all, parts);
+}
+
+-- what an object keeps doesn't ask for its number
+pub object_kept : (rows : RowsByName) (number : ℕ) (m : VgMark) → is_group (out-VgMark m) ≡ true → MayStand rows (m ∷ [])
+    → KeepsObject (group_object number (out-VgMark m))
+object_kept rows number m e stand =
+    let kept = kept_object (group_object 0 (out-VgMark m)) (marks_of (marks_in (out-Group (out-VgMark m).group))) NoMarks (as_group KeepsMarks m e stand.kept) in
+    record { sets = kept.sets; scales = kept.scales; domains = kept.domains; bounds = kept.bounds; axes = kept.axes; columns = kept.columns }
+
+pub object_alone : (number : ℕ) (m : VgMark) → KeepsObject (group_object number (out-VgMark m))
+    → KeepsObject (object_numbered number (out-Group (out-VgMark m).group))
+object_alone number m kept = record {
+  sets = kept.sets;
+  scales = kept.scales;
+  domains = kept.domains;
+  bounds = kept.bounds;
+  axes = kept.axes;
+  columns = kept.columns;
+}
+
+-- the data sets of a group
+pub sets_kept : (rows : RowsByName) (m : VgMark) → is_group (out-VgMark m) ≡ true → MayStand rows (m ∷ [])
+    → All (OfTransforms is_kept) (data_of (out-Group (out-VgMark m).group))
+sets_kept rows m e stand = (object_kept rows 0 m e stand).sets
+
+-- the folds of a group in a copy
+pub sets_fold : (names : NamesAt) (m : VgMark) (copy : CopyOf) → is_group (out-VgMark m) ≡ true
+    → MayStand (rows_at names.sources.now names.levels.now) (m ∷ []) → IsCopy names (out-VgMark m) copy
+    → SetsMayFold (parts_over copy.parts (rows_at names.sources.now names.levels.now)) (data_of (out-Group (out-VgMark m).group))
+sets_fold names m copy e stand sound = by_folds stand.folds
+  where
+    by_fit : (products : Products) → AllKeysFit products (rows_at names.sources.now names.levels.now)
+        → FoldsFitIn products (AGroup (group_object 0 (out-VgMark m)) (marks_of (marks_in (out-Group (out-VgMark m).group))) NoMarks)
+        → SetsMayFold (parts_over copy.parts (rows_at names.sources.now names.levels.now)) (data_of (out-Group (out-VgMark m).group))
+    by_fit products keys (fit, below, rest) = (products_in_copy (facet_in (out-VgMark m).from) products, sound.folds products keys, fit)
+
+    by_folds : MarksMayFold (rows_at names.sources.now names.levels.now) (marks_of (m ∷ []))
+        → SetsMayFold (parts_over copy.parts (rows_at names.sources.now names.levels.now)) (data_of (out-Group (out-VgMark m).group))
+    by_folds (products, keys, fit) = by_fit products keys (as_group (FoldsFitIn products) m e fit)
+
+-- ---- one more level of names
+
+abbrev rows_by : List Named → List Level → RowsByName
+rows_by sources [] = no_rows
+rows_by sources (level ∷ outer) = rows_inside sources (parts_over level.parts (rows_by sources outer)) level.lists
+
+abbrev values_by : List Level → Values
+values_by [] = no_values
+values_by (level ∷ outer) = values_inside level.signals (values_by outer)
+
+abbrev lost_by : List Level → IsLost
+lost_by [] = λ name. false
+lost_by (level ∷ outer) = is_among level.lost
+
+rows_are : (sources : List Named) (levels : List (Bor Level)) → rows_at sources levels ≡ rows_by sources (map (λ l. l.now) levels)
+rows_are sources [] = refl
+rows_are sources (level ∷ outer) =
+    ap (λ (rows : RowsByName). rows_inside sources (parts_over level.now.parts rows) level.now.lists) (rows_are sources outer)
+
+values_are : (levels : List (Bor Level)) → values_at levels ≡ values_by (map (λ l. l.now) levels)
+values_are [] = refl
+values_are (level ∷ outer) = ap (values_inside level.now.signals) (values_are outer)
+
+lost_are : (levels : List (Bor Level)) → lost_at levels ≡ lost_by (map (λ l. l.now) levels)
+lost_are [] = refl
+lost_are (level ∷ outer) = refl
+
+module _ (outer : NamesAt) (level : Level) (levels : List (Bor Level)) (more : map (λ l. l.now) levels ≡ level ∷ map (λ l. l.now) outer.levels.now) where
+  pub rows_entered : rows_at outer.sources.now levels ≡ rows_with_level outer level
+  rows_entered =
+      rows_are outer.sources.now levels ∙ ap (rows_by outer.sources.now) more
+      ∙ ap (λ (rows : RowsByName). rows_inside outer.sources.now (parts_over level.parts rows) level.lists)
+      (sym (rows_are outer.sources.now outer.levels.now))
+
+  values_entered : values_at levels ≡ values_inside level.signals (values_at outer.levels.now)
+  values_entered = values_are levels ∙ ap values_by more ∙ ap (values_inside level.signals) (sym (values_are outer.levels.now))
+
+  lost_entered : lost_at levels ≡ is_among level.lost
+  lost_entered = lost_are levels ∙ ap lost_by more
+
+  pub names_entered : names_at outer.sources.now levels ≡ names_with_level outer level
+  names_entered = λ i. record { lists = scope_read (rows_entered i); values = values_entered i; is_lost = lost_entered i }
+
+  pub levels_entered : AreNames outer → AreAllRows (rows_with_level outer level) → AreLevels outer.sources.now levels
+  levels_entered names rows = record { sources_are = names.sources_are; rows = subst AreAllRows (sym rows_entered) rows }
+
+  -- the marks in a group may stand in a copy of it
+  pub stand_inside : (m : VgMark) (copy : CopyOf) → is_group (out-VgMark m) ≡ true
+      → MayStand (rows_at outer.sources.now outer.levels.now) (m ∷ []) → IsCopy outer (out-VgMark m) copy
+      → ((products : Products) → AllKeysFit products (parts_over copy.parts (rows_at outer.sources.now outer.levels.now))
+      → AllKeysFit (products_after products (data_of (out-Group (out-VgMark m).group))) (rows_with_level outer level))
+      → MayStand (rows_at outer.sources.now levels) (marks_in (out-Group (out-VgMark m).group))
+  stand_inside m copy e stand sound after =
+      record { kept = kept_below (group_object 0 (out-VgMark m)) (marks_of (marks_in (out-Group (out-VgMark m).group))) NoMarks (as_group KeepsMarks m e stand.kept); folds = by_folds stand.folds }
+    where
+      by_fit : (products : Products) → AllKeysFit products (rows_at outer.sources.now outer.levels.now)
+          → FoldsFitIn products (AGroup (group_object 0 (out-VgMark m)) (marks_of (marks_in (out-Group (out-VgMark m).group))) NoMarks)
+          → MarksMayFold (rows_at outer.sources.now levels) (marks_of (marks_in (out-Group (out-VgMark m).group)))
+      by_fit products keys (fit, below, rest) =
+          let here = products_in_copy (facet_in (out-VgMark m).from) products in (
+            products_after here (data_of (out-Group (out-VgMark m).group)),
+            subst (AllKeysFit (products_after here (data_of (out-Group (out-VgMark m).group)))) (sym rows_entered) (after here (sound.folds products keys)),
+            below,
+          )
+
+      by_folds : MarksMayFold (rows_at outer.sources.now outer.levels.now) (marks_of (m ∷ [])) → MarksMayFold (rows_at outer.sources.now levels) (marks_of (marks_in (out-Group (out-VgMark m).group)))
+      by_folds (products, keys, fit) = by_fit products keys (as_group (FoldsFitIn products) m e fit)
+
+-- ---- a copy, by its names
+
+rows_either : (b : Bool) (own outside : List Keyed) → cond b (map datum_of own) (map datum_of outside) ≡ map datum_of (cond b own outside)
+rows_either true own outside = refl
+rows_either false own outside = refl
+
+part_first : (part : Named) (others : List Named) (rows : RowsByName)
+    → with_parts (map dataset_of others) (scope_read rows) ≡ scope_read (parts_over others rows) → (name : List ℕ)
+    → with_parts (map dataset_of (part ∷ others)) (scope_read rows) name ≡ scope_read (parts_over (part ∷ others) rows) name
+part_first part others rows behind name =
+    ap (λ (scope : Scope). cond (bytes_eq part.name name) (map datum_of part.rows) (scope name)) behind
+    ∙ rows_either (bytes_eq part.name name) part.rows (parts_over others rows name)
+
+-- parts over lists of rows, as they are read
+pub parts_read : (parts : List Named) (rows : RowsByName) → with_parts (map dataset_of parts) (scope_read rows) ≡ scope_read (parts_over parts rows)
+parts_read [] rows = refl
+parts_read (part ∷ others) rows = λ i name. part_first part others rows (parts_read others rows) name i
+
+pub names_of_copy : (sources : List Dataset) (outer : NamesAt) (o : Object) (copy : CopyOf)
+    → names_in_copy sources (names_at outer.sources.now outer.levels.now) o (copy_seen copy) ≡ names_in_object sources (names_over outer copy.parts) o
+names_of_copy sources outer o copy =
+    ap (λ (scope : Scope). names_in_object sources (record (names_at outer.sources.now outer.levels.now) { lists = scope }) o)
+    (parts_read copy.parts (rows_at outer.sources.now outer.levels.now))
+
+module _ (outer : Frame) (o : Object) (copy : Copy) where
+  abbrev with_cells : Frame → Option Frame
+  with_cells frame = Some (record frame { cells = more_cells outer.cells copy.cells })
+
+  abbrev pub named_in : Names → Frame
+  named_in names = record outer { names = names; cells = more_cells outer.cells copy.cells }
+
+  -- a copy of an object: its names, none of its own signals lost, and then its scales
+  pub copy_by_names : {X : Type 0} (sources : List Dataset) (next : Frame → Option X)
+      → (copy_in sources outer o copy >>= next)
+      ≡ (kept_names o (names_in_copy sources outer.names o copy) >>= λ names. scaled_in o (named_in names) >>= next)
+  copy_by_names {X} sources next = by_names (names_in_copy sources outer.names o copy)
+    where
+      by_own : (names : Names) (own : Option (List ScaleHere))
+          → ((option_map (λ own. with_scales outer names (and_outer outer.scales own)) own >>= with_cells) >>= next)
+          ≡ (option_map (λ own. record (named_in names) { scales = and_outer outer.scales own }) own >>= next)
+      by_own names None = refl
+      by_own names (Some own) = refl
+
+      by_kept : (names : Names) (b : Bool)
+          → ((cond b (option_map (λ own. with_scales outer names (and_outer outer.scales own)) (all_found (map (own_scale of_no_chart names) o.scales))) None
+          >>= with_cells) >>= next)
+          ≡ (cond b (Some names) None >>= λ names. scaled_in o (named_in names) >>= next)
+      by_kept names true = by_own names (all_found (map (own_scale of_no_chart names) o.scales))
+      by_kept names false = refl
+
+      by_names : (found : Option Names)
+          → (((found >>= λ names. inside_of of_no_chart outer names o >>= with_cells)) >>= next)
+          ≡ (kept_names o found >>= λ names. scaled_in o (named_in names) >>= next)
+      by_names None = refl
+      by_names (Some names) = by_kept names (keeps_signals names o)

@@ -1,0 +1,49 @@
+use Rattle.std.proofs.Common.{[], Err, sym, subst}
+use Rattle.fixed_num.specs.Ranges.{◌>>=◌}
+use Rattle.expr_eval.specs.Answers.{Evaluates}
+use Rattle.vega_spec.specs.declared.spec.Group.{out-Group}
+use Rattle.vega_charts.specs.declared.frames.Frame.{Frame}
+use Rattle.vega_charts.specs.inner.Drawn.{rows_in_frame, sources_of, MayStand}
+use Rattle.vega_charts.specs.inner.Framed.{frame_seen, frame_with, IsFrame}
+use Rattle.vega_charts.specs.inner.Outlined.{marks_in}
+use Rattle.vega_charts.specs.inner.Placed.{grid_of_object}
+use Rattle.vega_charts.specs.inner.Topped.{top_of, drawn_view}
+use Rattle.vega_charts.proofs.TopLemmas.{top_is_frame, top_few, goes_on, stops}
+use Rattle.vega_charts.proofs.charts.draw_axes.Goals as goal
+
+pub grid_view-requires-clause-place : goal.grid_view-requires-clause-place
+grid_view-requires-clause-place c = record {
+  frame = subst IsFrame (sym c.top_frame.ensures)
+      (top_is_frame c.args.g.now c.args.names c.args.scales c.args.set c.args.size c.args.size c.requires.top c.requires.set c.requires.sound
+      c.requires.size c.requires.size);
+  axes = c.requires.axes;
+}
+
+pub grid_view-requires-clause-marks : goal.grid_view-requires-clause-marks
+grid_view-requires-clause-marks c =
+    subst (λ frame. MayStand (rows_in_frame frame) (marks_in (out-Group c.args.g.now.group))) (sym c.top_frame.ensures) c.requires.top.marks_stand
+
+pub grid_view-requires-clause-few : goal.grid_view-requires-clause-few
+grid_view-requires-clause-few c = top_few c.args.g.now c.requires.top.kept
+
+pub drawn-requires-clause-frame : goal.drawn-requires-clause-frame
+drawn-requires-clause-frame c =
+    subst IsFrame (sym c.top_frame.ensures)
+    (top_is_frame c.args.g.now c.args.names c.args.scales c.args.set c.args.size c.args.size c.requires.top c.requires.set c.requires.sound
+    c.requires.size c.requires.size)
+
+pub returns-in-Ok : goal.returns-in-Ok
+returns-in-Ok c =
+    let g = c.args.g.now in
+    let drawn : Frame → Type 0 = λ frame. Evaluates c.drawn.result
+    (grid_of_object (sources_of frame) (top_of g).object c.args.layout.now (top_of g).marks (frame_with frame c.args.axes.now [])
+    >>= drawn_view g (frame_seen frame)) in
+    subst drawn c.top_frame.ensures (goes_on c.drawn.result _ (drawn_view g (frame_seen c.top_frame.result)) c.in-Ok.view c.in-Ok.ensures.value c.drawn.ensures)
+
+pub returns-in-Err : goal.returns-in-Err
+returns-in-Err c =
+    let g = c.args.g.now in
+    let drawn : Frame → Type 0 = λ frame. Evaluates (Err c.in-Err.error)
+    (grid_of_object (sources_of frame) (top_of g).object c.args.layout.now (top_of g).marks (frame_with frame c.args.axes.now [])
+    >>= drawn_view g (frame_seen frame)) in
+    subst drawn c.top_frame.ensures (stops c.in-Err.error _ (drawn_view g (frame_seen c.top_frame.result)) c.in-Err.ensures.value)

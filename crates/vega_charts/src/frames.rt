@@ -1,0 +1,173 @@
+// The copies of objects.
+ghost use Rattle.std.specs.Prelude.{◌≡◌, ◌++◌, [], IfOk, map, option_copied, unwrap_or};
+ghost use Rattle.std.specs.Option.{option_map};
+ghost use Rattle.expr_eval.specs.Answers.{Evaluates};
+ghost use Rattle.vega_spec.specs.declared.spec.VgMark.{out-VgMark};
+ghost use Rattle.vega_charts.specs.Scales.{with_domains, domain_length_here};
+ghost use Rattle.vega_charts.specs.Copies.{more_cells, encoded_number};
+ghost use Rattle.vega_charts.specs.inner.Levels.{values_at};
+ghost use Rattle.vega_charts.specs.inner.Kept.{scale_seen};
+ghost use Rattle.vega_charts.specs.inner.Outlined.{group_object};
+ghost use Rattle.vega_charts.specs.inner.Framed.{frame_seen, cells_seen, IsFrame};
+
+use crate::names::NamesAt;
+use crate::scales::{ScaleHere, scale_named};
+use cell_value::{Cell, Steps};
+use expr_eval::{EvalError, ParamReader, RowReader};
+use fixed_num::Num;
+use mark_encode::{ChannelName, number_encoded};
+use scale_kit::ScaleSet;
+use std::alloc::Global;
+use std::sync::ledger::Ledger;
+use text_kit::{OutOfMemory, Seq, Text, copy_list};
+use vega_scales::domain_size;
+use vega_spec::VgMark;
+
+/// A copy of an object: the top, or a copy of a group.
+#[derive(Clone, Copy)]
+pub struct Frame<'s, 'a> {
+    /// What names stand for in it.
+    pub names: NamesAt<'a>,
+    /// The scales that have names in it.
+    pub scales: &'a [ScaleHere<'s, 'a>],
+    /// The same, by their names, in its plot.
+    pub set: &'a ScaleSet,
+    /// The cells of the facets round it by their fields, the outer before the inner; None outside facets.
+    pub cells: Option<&'a [(Text, Cell)]>,
+    /// The width of its plot, in pixels; 0 where it is a grid.
+    pub width: Num,
+    /// The height of its plot, in pixels; 0 where it is a grid.
+    pub height: Num,
+    /// How far its marks are moved to the right in its plot, in pixels.
+    pub x: Num,
+    /// How far they are moved down.
+    pub y: Num,
+}
+
+/// What is read where a size is computed: the values of signals, and how long the domains of scales are.
+#[derive(Clone, Copy)]
+pub struct Sizing<'s, 'a> {
+    /// What names stand for.
+    pub names: NamesAt<'a>,
+    /// The scales that have names.
+    pub scales: &'a [ScaleHere<'s, 'a>],
+}
+
+// How long the domain of the scale of a name is; 0 where there is none.
+fn length_of(scales: &[ScaleHere], name: &str) -> u64
+    ensures { result ≡ domain_length_here (map scale_seen scales.now) name.now }
+{
+    match scale_named(scales, name) {
+        Some(scale) => domain_size(&scale.kept.domain),
+        None => 0,
+    }
+}
+
+impl ParamReader for Sizing<'_, '_> {
+    ghost values = { λ sizing. with_domains (map scale_seen sizing.scales.now) (values_at sizing.names.levels.now) };
+
+    fn param(&self, alloc: Global, name: &str) -> Result<Cell, OutOfMemory> {
+        self.names.param(alloc, name)
+    }
+
+    fn member(&self, alloc: Global, name: &str, field: &str) -> Result<Cell, OutOfMemory> {
+        self.names.member(alloc, name, field)
+    }
+
+    fn stored(&self, store: &str) -> u64 {
+        self.names.stored(store)
+    }
+
+    fn selected<R: RowReader, L: Ledger>(
+        &self,
+        alloc: Global,
+        store: &str,
+        row: &R,
+        steps: &mut Steps<L>,
+    ) -> Result<bool, OutOfMemory> {
+        self.names.selected(alloc, store, row, steps)
+    }
+
+    fn domain_length(&self, scale: &str) -> u64 {
+        length_of(self.scales, scale)
+    }
+}
+
+/// The cells of the facets round a copy, and its own behind them.
+pub(crate) fn more_cells(
+    alloc: Global,
+    outer: Option<&[(Text, Cell)]>,
+    own: Option<Seq<(Text, Cell)>>,
+) -> Result<Option<Seq<(Text, Cell)>>, OutOfMemory>
+    ensures { IfOk result (λ cells. cells ≡ more_cells (cells_seen outer.entry) own) }
+{
+    match outer {
+        Some(outer) => {
+            let cells = cells_behind(alloc, outer, own)?;
+            Ok(Some(cells))
+        }
+        None => Ok(own),
+    }
+}
+
+// Cells, and optional ones behind them.
+fn cells_behind(
+    alloc: Global,
+    outer: &[(Text, Cell)],
+    own: Option<Seq<(Text, Cell)>>,
+) -> Result<Seq<(Text, Cell)>, OutOfMemory>
+    ensures { IfOk result (λ cells. cells ≡ outer.now ++ unwrap_or own []) }
+{
+    let mut cells = copy_list(alloc, outer)?;
+    match own {
+        Some(own) => {
+            cells.append(own)?;
+            Ok(cells)
+        }
+        None => Ok(cells),
+    }
+}
+
+// The cells of the facets round a copy; none outside facets.
+fn cells_of(cells: Option<&[(Text, Cell)]>) -> &[(Text, Cell)]
+    ensures { result.now ≡ unwrap_or (cells_seen cells.entry) [] }
+{
+    match cells {
+        Some(cells) => cells,
+        None => &[],
+    }
+}
+
+/// The number that a group encodes in a channel, in a copy of it; 0 where it encodes none. `Overflow` comes exactly where it is out of range.
+pub(crate) fn encoded_number(
+    alloc: Global,
+    frame: &Frame,
+    mark: &VgMark,
+    channel: ChannelName,
+) -> Result<Num, EvalError>
+    requires frame { IsFrame frame.now }
+    ensures { Evaluates result (encoded_number (frame_seen frame.now) (group_object 0 (out-VgMark mark.now)) channel) }
+{
+    let sizing = Sizing {
+        names: frame.names,
+        scales: frame.scales,
+    };
+    number_encoded(
+        alloc,
+        frame.set,
+        &mark.encode,
+        channel,
+        cells_of(frame.cells),
+        &sizing,
+    )
+}
+
+/// What optional cells hold, behind a reference.
+pub(crate) fn slice_of(cells: &Option<Seq<(Text, Cell)>>) -> Option<&[(Text, Cell)]>
+    ensures { cells_seen result ≡ cells.now }
+{
+    match cells {
+        Some(cells) => Some(cells.as_slice()),
+        None => None,
+    }
+}

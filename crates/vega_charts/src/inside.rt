@@ -1,0 +1,396 @@
+// What the marks in a copy of an object draw in the plot round them.
+ghost use Rattle.std.specs.Prelude.{◌≡◌, ◌∷◌, [], true, suc, map, All, IfOk, OnOk};
+ghost use Rattle.std.specs.Option.{option_map};
+ghost use Rattle.cell_value.specs.State.{dataset_of};
+ghost use Rattle.expr_eval.specs.Answers.{Evaluates};
+ghost use Rattle.vega_spec.specs.declared.spec.Group.{out-Group};
+ghost use Rattle.vega_spec.specs.declared.spec.VgMark.{out-VgMark};
+ghost use Rattle.vega_charts.specs.Outlines.{Object, object_here};
+ghost use Rattle.vega_charts.specs.Items.{items_in_plot, items_in_copy};
+ghost use Rattle.vega_charts.specs.Copies.{moved_copy};
+ghost use Rattle.vega_charts.specs.Facets.{copies_of};
+ghost use Rattle.vega_charts.specs.Plots.{drawn_in, with_guides, items_inside, legends_in};
+ghost use Rattle.vega_charts.specs.inner.Framed.{frame_seen, entered, IsFrame};
+ghost use Rattle.vega_charts.specs.inner.Copied.{copy_seen, IsCopy};
+ghost use Rattle.vega_charts.specs.Built.{KeepsObject};
+ghost use Rattle.vega_charts.specs.inner.Outlined.{marks_from, marks_in, plain_of, is_group, AreFew, group_object};
+ghost use Rattle.vega_charts.specs.inner.Drawn.{inside_seen, IsInside, DrawsMore, MayDraw, MayStand, sources_of, placed_from, drawn_framed, drawn_named, drawn_copy, drawn_group};
+ghost use Rattle.vega_charts.specs.Plots.{and_inside, nothing_inside};
+ghost use Rattle.vega_charts.specs.inner.Levels.{rows_at, rows_behind, AreNames, AreLevels, AreParts};
+ghost use Rattle.vega_lists.specs.Held.{scope_read};
+ghost use Rattle.mark_encode.specs.Orders.{data_of};
+ghost use Rattle.vega_charts.specs.Items.{rows_of_mark};
+ghost use Rattle.plain_rows.specs.Rows.{AreRows};
+ghost use Rattle.vega_guides.specs.Shown.{IsAxis};
+
+use crate::axes::{axes_in, push_own_axes};
+use crate::copies::{CopyOf, copies_of};
+use crate::frames::{Frame, encoded_number, more_cells, slice_of};
+use crate::legends::push_legends;
+use crate::levels::{kept_level, with_level};
+use crate::marks::{count_groups_of, count_marks_of, is_group, marks_in};
+use crate::names::{Level, NamesAt};
+use crate::scales::{OfChart, and_outer, own_scales, scales_in, set_of};
+use cell_value::{Cell, Keyed};
+use expr_eval::EvalError;
+use fixed_num::Num;
+use mark_encode::{ChannelName, items_over_rows};
+use scene_tree::{Item, moved_items};
+use std::alloc::Global;
+use text_kit::{OutOfMemory, Seq, Text};
+use vega_lists::ListReader;
+use vega_scenes::{AxisShown, LegendShown};
+use vega_spec::{Group, MarkFrom, VgMark};
+
+/// What marks draw in the plot round them.
+#[derive(Drop)]
+pub struct Inside<'s> {
+    /// The axes that stand there, each over its scale.
+    pub axes: Seq<AxisShown<'s>>,
+    /// The legends.
+    pub legends: Seq<LegendShown>,
+    /// The items.
+    pub items: Seq<Item>,
+}
+
+// The rows from which a mark comes.
+fn rows_of_mark<'a>(
+    alloc: Global,
+    names: &'a NamesAt<'a>,
+    from: &Option<MarkFrom>,
+) -> Result<Seq<&'a Keyed>, OutOfMemory>
+    requires { AreNames names.now }
+    ensures read { IfOk result (λ rows. data_of rows
+        ≡ rows_of_mark (scope_read (rows_at names.now.sources.now names.now.levels.now)) from.now) }
+    ensures rows { IfOk result (λ rows. AreRows (rows_behind rows)) }
+{
+    match from {
+        Some(MarkFrom::Data(name)) => names.rows(alloc, name.as_str()),
+        Some(MarkFrom::Facet(_)) | None => Ok(Seq::new(alloc)),
+    }
+}
+
+// The items of a mark in the plot of a copy of the object that has it, before they are moved.
+fn items_in_plot(
+    alloc: Global,
+    frame: &Frame,
+    unit: u32,
+    mark: &VgMark,
+) -> Result<Seq<Item>, EvalError>
+    requires { IsFrame frame.now }
+    ensures { Evaluates result (items_in_plot (frame_seen frame.now) unit (plain_of (out-VgMark mark.now))
+        (rows_of_mark (frame_seen frame.now).names.lists (plain_of (out-VgMark mark.now)).from)) }
+{
+    let rows = rows_of_mark(alloc, &frame.names, &mark.from)?;
+    items_over_rows(
+        alloc,
+        mark.type_,
+        &mark.encode,
+        &mark.sort,
+        unit,
+        rows.as_slice(),
+        frame.set,
+        frame.width,
+        frame.height,
+        &frame.names,
+    )
+}
+
+// The items of a mark in a copy of the object that has it.
+fn items_in_copy(
+    alloc: Global,
+    frame: &Frame,
+    unit: u32,
+    mark: &VgMark,
+) -> Result<Seq<Item>, EvalError>
+    requires { IsFrame frame.now }
+    ensures { Evaluates result (items_in_copy unit (plain_of (out-VgMark mark.now)) (frame_seen frame.now)) }
+{
+    let items = match items_in_plot(alloc, frame, unit, mark) {
+        Ok(items) => items,
+        Err(error) => return Err(error),
+    };
+    match moved_items(alloc, items, frame.x, frame.y)? {
+        Some(items) => Ok(items),
+        None => Err(EvalError::Overflow),
+    }
+}
+
+// Adds the items of a mark.
+fn draw_mark(
+    alloc: Global,
+    frame: &Frame,
+    unit: u32,
+    mark: &VgMark,
+    out: &mut Inside,
+) -> Result<(), EvalError>
+    requires { IsFrame frame.now }
+    ensures value { DrawsMore result out.old out.new (option_map items_inside (items_in_copy unit (plain_of (out-VgMark mark.now)) (frame_seen frame.now))) }
+    ensures kept { IsInside out.old → OnOk result (IsInside out.new) }
+{
+    let items = match items_in_copy(alloc, frame, unit, mark) {
+        Ok(items) => items,
+        Err(error) => return Err(error),
+    };
+    out.items.append(items)?;
+    Ok(())
+}
+
+/// Adds the axes and the legends of a copy of an object that has this number.
+pub(crate) fn draw_guides<'s>(
+    alloc: Global,
+    frame: &Frame,
+    number: u32,
+    group: &'s Group,
+    out: &mut Inside<'s>,
+) -> Result<(), OutOfMemory>
+    requires frame { IsFrame frame.now }
+    requires axes { All IsAxis (object_here (out-Group group.now)).axes }
+    ensures value { OnOk result (inside_seen out.new ≡ and_inside (inside_seen out.old)
+        (with_guides (record (object_here (out-Group group.now)) { number = number }) (frame_seen frame.now) nothing_inside)) }
+    ensures kept { IsInside out.old → OnOk result (IsInside out.new) }
+{
+    push_own_axes(
+        alloc,
+        frame.width,
+        frame.height,
+        frame.scales,
+        axes_in(group),
+        &mut out.axes,
+    )?;
+    push_legends(alloc, frame, number, group, &mut out.legends)?;
+    Ok(())
+}
+
+// How far the marks of a copy of a group are moved along a channel of its place, where those of the copy round it are moved so far.
+fn place_from(
+    alloc: Global,
+    frame: &Frame,
+    mark: &VgMark,
+    channel: ChannelName,
+    from: Num,
+) -> Result<Num, EvalError>
+    requires { IsFrame frame.now }
+    ensures { Evaluates result (placed_from (frame_seen frame.now) (group_object 0 (out-VgMark mark.now)) channel from) }
+{
+    let by = match encoded_number(alloc, frame, mark, channel) {
+        Ok(by) => by,
+        Err(error) => return Err(error),
+    };
+    match from.add(by) {
+        Some(place) => Ok(place),
+        None => Err(EvalError::Overflow),
+    }
+}
+
+// What a copy of a group draws whose names and scales are known, before its place is.
+#[cycle(drawing)]
+fn draw_framed<'s>(
+    alloc: Global,
+    frame: &Frame,
+    unit: u32,
+    number: u32,
+    mark: &'s VgMark,
+    out: &mut Inside<'s>,
+) -> Result<(), EvalError>
+    requires frame { MayDraw frame.now (marks_in (out-Group (out-VgMark mark.now).group)) }
+    requires object { KeepsObject (group_object number (out-VgMark mark.now)) }
+    requires few { AreFew unit number (mark.now ∷ []) }
+    requires group { is_group (out-VgMark mark.now) ≡ true }
+    ensures value { DrawsMore result out.old out.new (drawn_framed (sources_of frame.now) (frame_seen frame.now) unit number (out-VgMark mark.now)) }
+    ensures kept { IsInside out.old → OnOk result (IsInside out.new) }
+{
+    let x = match place_from(alloc, frame, mark, ChannelName::X, frame.x) {
+        Ok(x) => x,
+        Err(error) => return Err(error),
+    };
+    let y = match place_from(alloc, frame, mark, ChannelName::Y, frame.y) {
+        Ok(y) => y,
+        Err(error) => return Err(error),
+    };
+    let here = Frame { x, y, ..*frame };
+    draw_guides(alloc, &here, number, &mark.group, out)?;
+    draw_all(alloc, &here, unit, number + 1, marks_in(&mark.group), out)
+}
+
+// What a copy of a group draws whose names are known.
+#[cycle(drawing)]
+fn draw_named<'s>(
+    alloc: Global,
+    named: &Frame,
+    unit: u32,
+    number: u32,
+    mark: &'s VgMark,
+    out: &mut Inside<'s>,
+) -> Result<(), EvalError>
+    requires frame { MayDraw named.now (marks_in (out-Group (out-VgMark mark.now).group)) }
+    requires object { KeepsObject (group_object number (out-VgMark mark.now)) }
+    requires few { AreFew unit number (mark.now ∷ []) }
+    requires group { is_group (out-VgMark mark.now) ≡ true }
+    ensures value { DrawsMore result out.old out.new (drawn_named (sources_of named.now) (frame_seen named.now) unit number (out-VgMark mark.now)) }
+    ensures kept { IsInside out.old → OnOk result (IsInside out.new) }
+{
+    let own = match own_scales(alloc, OfChart::Group, &named.names, scales_in(&mark.group)) {
+        Ok(own) => own,
+        Err(error) => return Err(error),
+    };
+    if own.is_empty() {
+        return draw_framed(alloc, named, unit, number, mark, out);
+    }
+    let scales = and_outer(alloc, own.as_slice(), named.scales)?;
+    let here = scales.as_slice();
+    let set = set_of(alloc, named.width, named.height, here)?;
+    let frame = Frame {
+        scales: here,
+        set: &set,
+        ..*named
+    };
+    draw_framed(alloc, &frame, unit, number, mark, out)
+}
+
+// What a copy of a group draws whose own names are known, with the cells of the facets round it and its own.
+#[cycle(drawing)]
+fn draw_entered<'s, 'x>(
+    alloc: Global,
+    outer: &Frame<'x, 'x>,
+    levels: &'x [&'x Level],
+    cells: Option<&'x [(Text, Cell)]>,
+    unit: u32,
+    number: u32,
+    mark: &'s VgMark,
+    out: &mut Inside<'s>,
+) -> Result<(), EvalError>
+    requires frame { IsFrame outer.now }
+    requires names { AreLevels outer.now.names.sources.now levels.now }
+    requires marks { MayStand (rows_at outer.now.names.sources.now levels.now) (marks_in (out-Group (out-VgMark mark.now).group)) }
+    requires object { KeepsObject (group_object number (out-VgMark mark.now)) }
+    requires few { AreFew unit number (mark.now ∷ []) }
+    requires group { is_group (out-VgMark mark.now) ≡ true }
+    ensures value { DrawsMore result out.old out.new (drawn_named (sources_of outer.now) (entered outer.now levels.now cells.entry) unit number (out-VgMark mark.now)) }
+    ensures kept { IsInside out.old → OnOk result (IsInside out.new) }
+{
+    let named = Frame {
+        names: NamesAt {
+            sources: outer.names.sources,
+            levels,
+        },
+        cells,
+        ..*outer
+    };
+    draw_named(alloc, &named, unit, number, mark, out)
+}
+
+// What a copy of a group draws.
+#[cycle(drawing)]
+fn draw_copy<'s>(
+    alloc: Global,
+    outer: &Frame,
+    copy: CopyOf,
+    unit: u32,
+    number: u32,
+    mark: &'s VgMark,
+    out: &mut Inside<'s>,
+) -> Result<(), EvalError>
+    requires frame { MayDraw outer.now (mark.now ∷ []) }
+    requires copy { IsCopy outer.now.names (out-VgMark mark.now) copy }
+    requires few { AreFew unit number (mark.now ∷ []) }
+    requires group { is_group (out-VgMark mark.now) ≡ true }
+    ensures value { DrawsMore result out.old out.new (drawn_copy (sources_of outer.now) (frame_seen outer.now) unit number (out-VgMark mark.now) (copy_seen copy)) }
+    ensures kept { IsInside out.old → OnOk result (IsInside out.new) }
+{
+    let CopyOf { cells: own, parts } = copy;
+    let cells = more_cells(alloc, outer.cells, own)?;
+    let level = match kept_level(alloc, &outer.names, &mark.group, parts) {
+        Ok(level) => level,
+        Err(error) => return Err(error),
+    };
+    let levels = with_level(alloc, &level, outer.names.levels)?;
+    draw_entered(
+        alloc,
+        &*outer,
+        levels.as_slice(),
+        slice_of(&cells),
+        unit,
+        number,
+        mark,
+        out,
+    )
+}
+
+// What the copies of a group draw.
+#[cycle(drawing)]
+fn draw_group<'s>(
+    alloc: Global,
+    frame: &Frame,
+    unit: u32,
+    number: u32,
+    mark: &'s VgMark,
+    out: &mut Inside<'s>,
+) -> Result<(), EvalError>
+    requires frame { MayDraw frame.now (mark.now ∷ []) }
+    requires few { AreFew unit number (mark.now ∷ []) }
+    requires group { is_group (out-VgMark mark.now) ≡ true }
+    ensures value { DrawsMore result out.old out.new (drawn_group (sources_of frame.now) (frame_seen frame.now) unit number (out-VgMark mark.now)) }
+    ensures kept { IsInside out.old → OnOk result (IsInside out.new) }
+{
+    let found = copies_of(alloc, &frame.names, mark)?;
+    for copy in found.copies.into_vec() {
+        match draw_copy(alloc, frame, copy, unit, number, mark, out) {
+            Ok(()) => {}
+            Err(error) => return Err(error),
+        }
+    }
+    Ok(())
+}
+
+// Adds what a mark draws that is numbered `unit`, or a group that is numbered `number` and in which marks are numbered from `unit` on.
+#[cycle(drawing)]
+fn draw_one<'s>(
+    alloc: Global,
+    frame: &Frame,
+    unit: u32,
+    number: u32,
+    mark: &'s VgMark,
+    out: &mut Inside<'s>,
+) -> Result<(), EvalError>
+    requires frame { MayDraw frame.now (mark.now ∷ []) }
+    requires few { AreFew unit number (mark.now ∷ []) }
+    ensures value { DrawsMore result out.old out.new
+        (drawn_in (sources_of frame.now) (marks_from unit number (mark.now ∷ [])) (frame_seen frame.now)) }
+    ensures kept { IsInside out.old → OnOk result (IsInside out.new) }
+{
+    if is_group(mark) {
+        draw_group(alloc, frame, unit, number, mark, out)
+    } else {
+        draw_mark(alloc, frame, unit, mark, out)
+    }
+}
+
+/// Adds what marks draw, which are numbered from `unit` on, and the groups among them from `number` on, in the order of the text.
+#[cycle(drawing)]
+pub(crate) fn draw_all<'s>(
+    alloc: Global,
+    frame: &Frame,
+    unit: u32,
+    number: u32,
+    marks: &'s [VgMark],
+    out: &mut Inside<'s>,
+) -> Result<(), EvalError>
+    requires frame { MayDraw frame.now marks.now }
+    requires few { AreFew unit number marks.now }
+    ensures value { DrawsMore result out.old out.new
+        (drawn_in (sources_of frame.now) (marks_from unit number marks.now) (frame_seen frame.now)) }
+    ensures kept { IsInside out.old → OnOk result (IsInside out.new) }
+{
+    let mut next_unit = unit;
+    let mut next_number = number;
+    for mark in marks {
+        match draw_one(alloc, frame, next_unit, next_number, mark, out) {
+            Ok(()) => {}
+            Err(error) => return Err(error),
+        }
+        next_unit += count_marks_of(mark);
+        next_number += count_groups_of(mark);
+    }
+    Ok(())
+}

@@ -1,0 +1,27 @@
+//! What is drawn of whole Vega specifications: their lists and signals, scales, facets, plots, grids and legends.
+#![tactic(auto)]
+
+mod apart;
+mod axes;
+mod charts;
+mod copies;
+mod folds;
+mod frames;
+mod grids;
+mod inside;
+mod laws;
+mod legends;
+mod levels;
+mod marks;
+mod names;
+mod panels;
+mod plots;
+mod scales;
+mod sizes;
+mod spots;
+mod tested;
+mod units;
+
+pub use charts::{DrawError, drawing_of};
+pub use laws::{laws_of_charts, laws_of_one_plot};
+pub use tested::{charts_are_tested, is_chart};

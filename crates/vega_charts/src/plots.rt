@@ -1,0 +1,229 @@
+// Plots.
+ghost use Rattle.std.specs.Prelude.{◌≡◌, ◌<◌, ◌^◌, ◌∷◌, ◌++◌, [], suc, IfOk, OnOk, All, map};
+ghost use Rattle.std.specs.List.{filter};
+ghost use Rattle.expr_eval.specs.Answers.{Evaluates};
+ghost use Rattle.vega_spec.specs.declared.spec.Group.{out-Group};
+ghost use Rattle.vega_scenes.specs.Legends.{IsLegendShown};
+ghost use Rattle.vega_charts.specs.Built.{KeepsObject};
+ghost use Rattle.vega_charts.specs.Outlines.{count_marks, first_unit};
+ghost use Rattle.vega_charts.specs.Plots.{nothing_inside, plot_of, scales_of_plot};
+ghost use Rattle.vega_charts.specs.Scales.{scale_in};
+ghost use Rattle.vega_charts.specs.inner.Drawn.{inside_seen, rows_in_frame, sources_of, IsInside, MayDraw, MayStand};
+ghost use Rattle.vega_charts.specs.inner.Framed.{frame_seen, frame_with, cells_seen, IsFrame};
+ghost use Rattle.vega_charts.specs.inner.Kept.{axis_seen, scale_seen, AreKeptAxes, IsKeptScale};
+ghost use Rattle.vega_charts.specs.inner.Outlined.{marks_from, marks_in, marks_of, object_numbered, AreFew};
+ghost use Rattle.vega_charts.specs.inner.Plotted.{is_of_plot, plot_round, plot_with, standing_in};
+ghost use Rattle.vega_charts.specs.inner.Results.{result_map};
+
+use crate::axes::push_all_shown;
+use crate::frames::Frame;
+use crate::inside::{Inside, draw_all, draw_guides};
+use crate::marks::{first_unit, marks_in};
+use crate::scales::{AxisHere, ScaleHere, scale_in};
+use crate::units::in_unit_order;
+use cell_value::Cell;
+use expr_eval::EvalError;
+use guide_kit::GuideError;
+use scale_kit::ScaleIn;
+use std::alloc::Global;
+use text_kit::{Copies, OutOfMemory, Seq, Text, copy_list};
+use vega_guides::Axes;
+use vega_scenes::{Header, Plot, axes_at};
+use vega_spec::Group;
+
+// Adds a scale of a plot where it isn't one of the whole chart.
+fn push_plot_scale(
+    alloc: Global,
+    frame: &Frame,
+    scale: &ScaleHere,
+    out: &mut Seq<ScaleIn>,
+) -> Result<(), OutOfMemory>
+    requires frame { IsFrame frame.now }
+    requires kept { IsKeptScale scale.now.kept.now }
+    ensures { OnOk result (out.new ≡ out.old
+        ++ map (scale_in frame.now.width frame.now.height) (filter is_of_plot (scale_seen scale.now ∷ []))) }
+{
+    if scale.kept.of_chart {
+        Ok(())
+    } else {
+        out.push(scale_in(alloc, frame.width, frame.height, scale)?)
+    }
+}
+
+// The scales of a plot that aren't of the whole chart.
+fn scales_of_plot(alloc: Global, frame: &Frame) -> Result<Seq<ScaleIn>, OutOfMemory>
+    requires { IsFrame frame.now }
+    ensures { IfOk result (λ scales. scales ≡ scales_of_plot (frame_seen frame.now)) }
+{
+    let mut out = Seq::new(alloc);
+    for scale in frame.scales {
+        push_plot_scale(alloc, frame, scale, &mut out)?;
+    }
+    Ok(out)
+}
+
+// Headers once more.
+pub(crate) fn headers_copied(alloc: Global, headers: &[Header]) -> Result<Seq<Header>, OutOfMemory>
+    ensures { IfOk result (λ copy. copy ≡ headers.now) }
+{
+    let mut out = Seq::with_capacity(alloc, headers.len())?;
+    for header in headers {
+        out.push(Header {
+            is_beside: header.is_beside,
+            text: header.text.copy()?,
+        })?;
+    }
+    Ok(out)
+}
+
+// The cells of the facets round a copy once more.
+fn cells_copied(
+    alloc: Global,
+    cells: Option<&[(Text, Cell)]>,
+) -> Result<Option<Seq<(Text, Cell)>>, OutOfMemory>
+    ensures { IfOk result (λ copy. copy ≡ cells_seen cells.entry) }
+{
+    match cells {
+        Some(cells) => Ok(Some(copy_list(alloc, cells)?)),
+        None => Ok(None),
+    }
+}
+
+// Nothing inside a plot.
+fn no_inside<'s>(alloc: Global) -> Inside<'s>
+    ensures seen { inside_seen result ≡ nothing_inside }
+    ensures kept { IsInside result }
+{
+    Inside {
+        axes: Seq::new(alloc),
+        legends: Seq::new(alloc),
+        items: Seq::new(alloc),
+    }
+}
+
+// Adds what stands in a plot: the axes of the grids round it before its own, and the items in the order of the text.
+fn draw_inside<'s>(
+    alloc: Global,
+    frame: &Frame,
+    axes: &[AxisHere<'s, '_>],
+    group: &'s Group,
+    unit: u32,
+    number: u32,
+    out: &mut Inside<'s>,
+) -> Result<(), EvalError>
+    requires frame { MayDraw frame.now (marks_in (out-Group group.now)) }
+    requires axes { AreKeptAxes axes.now }
+    requires object { KeepsObject (object_numbered number (out-Group group.now)) }
+    requires few { AreFew unit (suc number) (marks_in (out-Group group.now)) }
+    requires empty { inside_seen out.old ≡ nothing_inside }
+    ensures value { Evaluates (result_map (λ done. inside_seen out.new) result) (standing_in (sources_of frame.now)
+        (object_numbered number (out-Group group.now)) (marks_from unit (suc number) (marks_in (out-Group group.now)))
+        (frame_seen frame.now) (map axis_seen axes.now)) }
+    ensures kept { IsInside out.old → OnOk result (IsInside out.new) }
+{
+    push_all_shown(alloc, frame.width, frame.height, axes, &mut out.axes)?;
+    draw_guides(alloc, frame, number, group, out)?;
+    draw_all(alloc, frame, unit, number + 1, marks_in(group), out)
+}
+
+// What stands in a plot.
+fn inside_of<'s>(
+    alloc: Global,
+    frame: &Frame,
+    axes: &[AxisHere<'s, '_>],
+    group: &'s Group,
+    unit: u32,
+    number: u32,
+) -> Result<Inside<'s>, EvalError>
+    requires frame { MayDraw frame.now (marks_in (out-Group group.now)) }
+    requires axes { AreKeptAxes axes.now }
+    requires object { KeepsObject (object_numbered number (out-Group group.now)) }
+    requires few { AreFew unit (suc number) (marks_in (out-Group group.now)) }
+    ensures value { Evaluates (result_map inside_seen result) (standing_in (sources_of frame.now) (object_numbered number (out-Group group.now))
+        (marks_from unit (suc number) (marks_in (out-Group group.now))) (frame_seen frame.now) (map axis_seen axes.now)) }
+    ensures kept { IfOk result IsInside }
+{
+    let mut inside = no_inside(alloc);
+    match draw_inside(alloc, frame, axes, group, unit, number, &mut inside) {
+        Ok(()) => Ok(inside),
+        Err(error) => Err(error),
+    }
+}
+
+// The plot of a copy with these axes, round what is drawn in it.
+fn plot_with(
+    alloc: Global,
+    frame: &Frame,
+    headers: &[Header],
+    group: &Group,
+    unit: u32,
+    axes: Axes,
+    inside: Inside,
+) -> Result<Plot, OutOfMemory>
+    requires frame { IsFrame frame.now }
+    requires few { count_marks (marks_of (marks_in (out-Group group.now))) < 2 ^ 32 }
+    ensures { IfOk result (λ plot. plot ≡ plot_with (object_numbered 0 (out-Group group.now))
+        (first_unit (marks_from unit 0 (marks_in (out-Group group.now)))) (frame_with frame.now [] headers.now) axes (inside_seen inside.entry)) }
+{
+    Ok(Plot {
+        width: frame.width,
+        height: frame.height,
+        title: Copies::copied(&group.title, alloc)?,
+        headers: headers_copied(alloc, headers)?,
+        axes,
+        items: in_unit_order(inside.items)?,
+        view: first_unit(marks_in(group), unit),
+        cells: cells_copied(alloc, frame.cells)?,
+        legends: inside.legends,
+        scales: scales_of_plot(alloc, frame)?,
+    })
+}
+
+// The plot of a copy round what is drawn in it, each axis outside those before it.
+fn plot_round(
+    alloc: Global,
+    frame: &Frame,
+    headers: &[Header],
+    group: &Group,
+    unit: u32,
+    inside: Inside,
+) -> Result<Plot, EvalError>
+    requires frame { IsFrame frame.now }
+    requires few { count_marks (marks_of (marks_in (out-Group group.now))) < 2 ^ 32 }
+    requires kept { IsInside inside }
+    ensures value { Evaluates result (plot_round (object_numbered 0 (out-Group group.now))
+        (first_unit (marks_from unit 0 (marks_in (out-Group group.now)))) (frame_with frame.now [] headers.now) (inside_seen inside.entry)) }
+    ensures legends { IfOk result (λ plot. All IsLegendShown plot.legends) }
+{
+    match axes_at(alloc, inside.axes.as_slice(), &(frame.width, frame.height)) {
+        Ok(axes) => Ok(plot_with(alloc, frame, headers, group, unit, axes, inside)?),
+        Err(GuideError::Overflow) => Err(EvalError::Overflow),
+        Err(GuideError::Memory) => Err(EvalError::Memory),
+    }
+}
+
+/// The plot of a copy of an object: the axes of the grids round it, its own and those of the groups in it, each where it stands; its items
+/// by the numbers of their marks; its own legends and those of the groups in it. `Overflow` comes exactly where a number is out of range.
+pub(crate) fn plot_of<'s>(
+    alloc: Global,
+    frame: &Frame,
+    axes: &[AxisHere<'s, '_>],
+    headers: &[Header],
+    group: &'s Group,
+    unit: u32,
+    number: u32,
+) -> Result<Plot, EvalError>
+    requires frame { IsFrame frame.now }
+    requires axes { AreKeptAxes axes.now }
+    requires marks { MayStand (rows_in_frame frame.now) (marks_in (out-Group group.now)) }
+    requires object { KeepsObject (object_numbered number (out-Group group.now)) }
+    requires few { AreFew unit (suc number) (marks_in (out-Group group.now)) }
+    ensures value { Evaluates result (plot_of (sources_of frame.now) (object_numbered number (out-Group group.now))
+        (marks_from unit (suc number) (marks_in (out-Group group.now))) (frame_with frame.now axes.now headers.now)) }
+    ensures legends { IfOk result (λ plot. All IsLegendShown plot.legends) }
+{
+    match inside_of(alloc, frame, axes, group, unit, number) {
+        Ok(inside) => plot_round(alloc, frame, headers, group, unit, inside),
+        Err(error) => Err(error),
+    }
+}

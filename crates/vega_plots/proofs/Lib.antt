@@ -1,5 +1,0 @@
-mod PlotLemmas
-mod FoldLemmas
-mod FitLaw
-pub mod PlotLaw
-mod NewNames

@@ -1,3 +1,0 @@
--- Words that only private contracts and proofs cite.
-pub mod Found
-pub mod Tested

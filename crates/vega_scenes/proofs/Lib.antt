@@ -1,0 +1,6 @@
+mod AxisLemmas
+mod OrderLemmas
+mod BlockLemmas
+mod GridLemmas
+mod PanelLemmas
+mod NamedLaw

@@ -1,0 +1,184 @@
+// Values of the signals of an inner object, and which of them are lost. Before ` & ` stand the values of the signals round it, behind that a line
+// as those of a top object. Round the object each name stands for the same list of three rows without cells, whose ids are 1, 2 and 3.
+ghost use Rattle.std.specs.Prelude.{◌≡◌, All, IfOk, map};
+ghost use Rattle.vega_signal_tests.specs.Plain.{IsListed, IsPlainSet};
+
+use crate::signals::{Stop, bare, sets_of, shown, signals_of, word_of};
+use cell_value::{Cell, Keyed, Rows};
+use std::alloc::Global;
+use std::test::Fail;
+use text_kit::{OutOfMemory, Seq, Text};
+use vega_lists::ListReader;
+use vega_signals::{PlotParams, lost_inside, own_values};
+use vega_spec::{DataSet, Signal};
+
+const LINES: &str = "\
+k: 7 & k: 2; a = k + 1 -> k=2 a=3\n\
+k: 7 & a = k + 1 -> a=8\n\
+k: 7 & a = b + k; b = k -> a=14 b=7\n\
+k: 7 & k = 5; a = k -> k=5 a=5\n\
+k: 7 & a = k; k = b; b = 1 -> a=1 k=1 b=1\n\
+& a = k -> a=null\n\
+& | u of o: extent _vgsid_ x -> x=[1,3]\n\
+& | u: extent _vgsid_ x -> x=null\n\
+& | u of o: datum._vgsid_ > 1 | v of u: extent _vgsid_ x -> x=[2,3]\n\
+& | o of o: datum._vgsid_ > 1 | v of o: extent _vgsid_ x -> x=[2,3]\n\
+k: 2 & | u of o: datum._vgsid_ < k; extent _vgsid_ x -> x=[1,1]\n\
+k: 2 & k = 3 | u of o: datum._vgsid_ < k; extent _vgsid_ x -> k=3 x=[1,2]\n\
+x: 7 & | u of o: extent _vgsid_ x; bins _vgsid_ x; extent c y -> x=[1,3] y=[1.2,3]\n\
+& | u of o: k = null; a = 7; look o; extent a y -> y=null\n\
+& a = 1000000000000000 + 1 -> a=null\n";
+
+// The names that are lost inside, where `m` and `n` are lost round the object.
+const LOST: &str = "\
+k: 7 & a = k -> m n\n\
+& n: 1 -> m\n\
+& n = 2; a = n -> m\n\
+& a = m; b = a; c = 1 -> m n a b\n\
+& c = b; b = a; a = 1000000000000000 + 1 -> m n c b a\n\
+& n = m -> m n\n\
+k: 7 & a = k + 1000000000000000 -> m n a\n";
+
+// References to rows.
+fn references_to<'a>(alloc: Global, rows: &'a [Keyed]) -> Result<Seq<&'a Keyed>, OutOfMemory>
+    ensures { IfOk result (λ out. map (λ row. row.now) out ≡ rows.now) }
+{
+    let mut out = Seq::new(alloc);
+    for row in rows {
+        out.push(row)?;
+    }
+    Ok(out)
+}
+
+// A list for which each name stands.
+#[derive(Clone, Copy)]
+struct EachName<'a> {
+    rows: &'a [Keyed],
+}
+
+impl ListReader for EachName<'_> {
+    ghost named = { λ reader name. reader.rows.now };
+
+    fn rows<'a>(&'a self, alloc: Global, _: &str) -> Result<Seq<&'a Keyed>, OutOfMemory> {
+        references_to(alloc, self.rows)
+    }
+}
+
+// Three rows.
+#[tactic(auto, using(crate::proofs::TestSources::three_are_listed))]
+fn three_rows(alloc: Global) -> Result<Rows, OutOfMemory>
+    ensures { IfOk result IsListed }
+{
+    let mut rows = Seq::new(alloc);
+    rows.push(bare(alloc, 1))?;
+    rows.push(bare(alloc, 2))?;
+    rows.push(bare(alloc, 3))?;
+    Ok(rows)
+}
+
+// The values inside an object.
+fn values_inside(
+    alloc: Global,
+    rows: &[Keyed],
+    outer: &[(Text, Cell)],
+    given: &[(Text, Cell)],
+    signals: &[Signal],
+    sets: &[DataSet],
+) -> Result<Seq<(Text, Cell)>, OutOfMemory>
+    requires rows { IsListed rows.now }
+    requires plain { All IsPlainSet sets.now }
+{
+    let round = PlotParams {
+        params: outer,
+        lengths: &[],
+    };
+    own_values(alloc, &[], &EachName { rows }, &round, given, signals, sets)
+}
+
+fn answered(alloc: Global, line: &str) -> Result<Text, Stop> {
+    let rows = three_rows(alloc)?;
+    let (round, line) = line.split_once("& ").ok_or(Stop::Shape)?;
+    let mut outer = Seq::new(alloc);
+    signals_of(alloc, round.trim_end(), &mut outer)?;
+    let (signals, sets) = line.split_once("| ").unwrap_or((line, ""));
+    let mut given = Seq::new(alloc);
+    let signals = signals_of(alloc, signals.trim_end(), &mut given)?;
+    let sets = sets_of(alloc, sets)?;
+    let values = values_inside(
+        alloc,
+        rows.as_slice(),
+        outer.as_slice(),
+        given.as_slice(),
+        signals.as_slice(),
+        sets.as_slice(),
+    )?;
+    Ok(shown(alloc, values.as_slice())?)
+}
+
+// Names, each behind a blank.
+fn listed(alloc: Global, names: &[Text]) -> Result<Text, OutOfMemory> {
+    let mut out = Text::new(alloc);
+    for name in names {
+        out.push_str(" ")?;
+        out.push_str(name.as_str())?;
+    }
+    Ok(out)
+}
+
+fn two_lost(alloc: Global) -> Result<Seq<Text>, OutOfMemory> {
+    let mut lost = Seq::new(alloc);
+    lost.push(Text::of(alloc, "m")?)?;
+    lost.push(Text::of(alloc, "n")?)?;
+    Ok(lost)
+}
+
+fn lost_in(alloc: Global, line: &str) -> Result<Text, Stop> {
+    let rows = three_rows(alloc)?;
+    let lost = two_lost(alloc)?;
+    let (round, line) = line.split_once("& ").ok_or(Stop::Shape)?;
+    let mut outer = Seq::new(alloc);
+    signals_of(alloc, round.trim_end(), &mut outer)?;
+    let mut given = Seq::new(alloc);
+    let signals = signals_of(alloc, line, &mut given)?;
+    let sets = sets_of(alloc, "")?;
+    let own = values_inside(
+        alloc,
+        rows.as_slice(),
+        outer.as_slice(),
+        given.as_slice(),
+        signals.as_slice(),
+        sets.as_slice(),
+    )?;
+    let round = PlotParams {
+        params: outer.as_slice(),
+        lengths: &[],
+    };
+    let names = lost_inside(
+        alloc,
+        &round,
+        lost.as_slice(),
+        own.as_slice(),
+        signals.as_slice(),
+    )?;
+    Ok(listed(alloc, names.as_slice())?)
+}
+
+#[test]
+fn inner_signals_settle(rt: HostRuntime) -> Result<(), Fail> {
+    for line in LINES.lines() {
+        let (given, wanted) = line.split_once(" ->").ok_or("a line without an answer")?;
+        let word = word_of(rt.alloc(), answered(rt.alloc(), given))?;
+        assert_eq!(rt; word.as_str(), wanted, "{line}");
+    }
+    Ok(())
+}
+
+#[test]
+fn lost_signals(rt: HostRuntime) -> Result<(), Fail> {
+    for line in LOST.lines() {
+        let (given, wanted) = line.split_once(" ->").ok_or("a line without an answer")?;
+        let word = word_of(rt.alloc(), lost_in(rt.alloc(), given))?;
+        assert_eq!(rt; word.as_str(), wanted, "{line}");
+    }
+    Ok(())
+}
