@@ -12,7 +12,7 @@ from math import floor, isqrt
 
 from table_cells import LIMIT, MILLION, decimal
 
-ROWS = [{"a": "A", "amount": F(28)}, {"a": "B", "amount": F(55)}, {"a": "C", "amount": "none"}]
+ROWS = [{"a": "A", "word": "left", "amount": F(28)}, {"a": "B", "word": "top", "amount": F(55)}, {"a": "C", "word": "square", "amount": "none"}]
 WIDTH, HEIGHT = F(200), F(80)
 MOST = 10**15
 
@@ -108,7 +108,7 @@ class Listed:
         return F(0)
 
 
-SCALES = {"x": Bands(), "y": Linear(), "color": Listed({"A": "red"}), "form": Listed({"A": "triangle-up", "B": "diamond", "C": "cross"}),
+SCALES = {"x": Bands(), "y": Linear(), "color": Listed({"A": "red"}), "form": Listed({"A": "triangle-up", "B": "diamond", "C": "top"}),
           "count": Listed({"A": F(16), "B": F(-1), "C": "left"})}
 LACKING = object()
 
@@ -377,9 +377,9 @@ def line(type_, enter, update="", sort=""):
 
 NUMBERS = ("n:7.5", "f:amount", "s:y,f:amount", "s:x,f:a,b:0.5,o:-1", "if:datum.amount>30,n:3|if:datum.a=='A',n:4", "g:datum.amount/56")
 TEXTS = ("t:blue", "f:a", "s:color,f:a", "s:form,f:a", "if:datum.amount>30,t:red|if:datum.a=='A',t:blue", "n:7")
-FORMS = ("t:circle", "t:square", "t:triangle-up", "t:diamond", "t:cross", "n:3", "s:form,f:a", "if:datum.amount>30,t:square|t:diamond", "f:a")
-ALIGNS = ("t:left", "t:center", "t:right", "t:middle", "n:1", "s:count,f:a", "if:datum.amount>30,t:left|if:datum.a=='A',t:right", "f:a")
-BASELINES = ("t:top", "t:middle", "t:bottom", "t:alphabetic", "t:hanging", "n:1", "s:form,f:a", "if:datum.amount>30,t:top|t:bottom", "f:a")
+FORMS = ("t:circle", "t:square", "t:triangle-up", "t:diamond", "t:cross", "n:3", "s:form,f:a", "if:datum.amount>30,t:square|t:diamond", "f:a", "f:word")
+ALIGNS = ("t:left", "t:center", "t:right", "t:middle", "n:1", "s:count,f:a", "if:datum.amount>30,t:left|if:datum.a=='A',t:right", "f:a", "f:word")
+BASELINES = ("t:top", "t:middle", "t:bottom", "t:alphabetic", "t:hanging", "n:1", "s:form,f:a", "if:datum.amount>30,t:top|t:bottom", "f:a", "f:word")
 WORDS = ("t:word", "n:-0.5", "null:-", "f:amount", "f:other", "g:datum.a", "g:true", "s:y,f:amount", "s:count,f:a", "s:form,f:a", "s:x", "b:1",
          "s:x,b:0.5", "f:amount,o:2", "f:a,o:2", "f:amount,F:.1f", "f:amount,F:%Y", "f:amount,F:%", "s:y,f:amount,F:.1f", "t:a,F:d",
          "if:datum.amount>30,t:many|if:datum.a=='A',f:amount,F:d", "s:color,f:a")
@@ -394,6 +394,11 @@ TYPES = {
     "text": ("x=n:40 y=n:20 text=f:a", PLACES | {"xc": NUMBERS, "yc": NUMBERS, "dx": NUMBERS, "dy": NUMBERS, "align": ALIGNS, "text": WORDS,
              "baseline": BASELINES, "fontSize": NUMBERS + ("n:1", "n:1000", "n:1001", "n:0", "n:-3", "n:20", "t:20", "s:count,f:a")}),
 }
+PLACED = ("x", "x2", "xc", "width", "y", "y2", "yc", "height", "size", "dx", "dy", "fontSize")
+WORDED = ("shape", "text", "align", "baseline")
+# a constant, a field, a scale, a test and what is out of range, for channels that a type of mark doesn't have
+UNREAD = (("n:7.5", "t:top"), ("f:amount", "f:word"), ("s:y,f:amount", "s:form,f:a"), ("if:datum.a=='A',n:4|n:3", "if:datum.a=='A',t:left|t:square"),
+          ("g:1000000000000000+1", "g:1000000000000000+1"))
 OTHERS = [
     # rects
     ("rect", "x=s:x,f:a width=s:x,b:1 y=s:y,f:amount y2=s:y,n:0 fill=t:blue"),
@@ -518,8 +523,13 @@ def lines():
         yield group_line(channel, f"{channel}=n:1", f"{channel}=n:2")
     for type_, (base, channels) in TYPES.items():
         yield line(type_, base)
+        for numbers, texts in UNREAD:
+            unread = [f"{n}={numbers}" for n in PLACED if n not in channels] + [f"{n}={texts}" for n in WORDED if n not in channels]
+            yield line(type_, " ".join([base] + unread))
         for name, values in (channels | LOOKS).items():
             without = " ".join(word for word in base.split(" ") if not word.startswith(name + "="))
+            if without != base:
+                yield line(type_, without)
             for words in values:
                 yield line(type_, f"{without} {name}={words}".strip())
     for other in OTHERS:

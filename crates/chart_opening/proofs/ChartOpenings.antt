@@ -10,7 +10,6 @@ use Rattle.first_form.specs.FirstForm.{form_of}
 use Rattle.first_form.specs.Opening.{bars_of}
 use Rattle.first_form.proofs.BarCharts.{bars_are_charts}
 use Rattle.chart_opening.specs.declared.refusal.Refusal.{Refusal}
-use Rattle.chart_opening.specs.declared.refusal.Refusal.TheVariants as refusal
 use Rattle.chart_opening.specs.declared.opened.Opened.{Opened}
 use Rattle.chart_opening.specs.Files.{tree_of_file}
 use Rattle.chart_opening.specs.Laws.{OpenedAreCharts}

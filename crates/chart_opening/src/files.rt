@@ -11,8 +11,8 @@ ghost use Rattle.chart_opening.specs.inner.Stops.{Gives};
 use crate::refusal::{OpenStop, Refusal, Stop};
 use chart_io::{Failed, Folder, Got, zeros};
 use json_exact::{Json, JsonError};
-use std::alloc::{AllocError, AllocFailed, Global};
-use text_kit::{OutOfMemory, Seq, Text};
+use std::alloc::{AllocError, Global};
+use text_kit::{Seq, Text};
 
 /// How many bytes a file may have.
 const MOST_BYTES: usize = 16_777_216;

@@ -25,7 +25,7 @@ pub enum Refusal {
     Rows,
     /// A number of the opening chart is out of range.
     Overflow,
-    /// The opening chart has so many panels, more than a chart may have.
+    /// So many plots of the opening chart stand in facets, which is more than 400.
     Panels(u64),
 }
 

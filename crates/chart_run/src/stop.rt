@@ -149,7 +149,7 @@ fn json_line(alloc: Global, name: &Text, at: u64) -> Result<Text, OutOfMemory>
     Ok(text)
 }
 
-// The line where a chart has too many panels.
+// The line where a chart has too many plots in facets.
 fn panels_line(alloc: Global, count: u64) -> Result<Text, OutOfMemory>
     ensures { IfOk result (λ text. text ≡ codes "chart: panels " ++ decimal count ++ codes "\n") }
 {

@@ -1,5 +1,5 @@
 //! The parts of a specification of the first form.
-ghost use Rattle.std.specs.Prelude.{◌≡◌, pos};
+ghost use Rattle.std.specs.Prelude.{◌≡◌};
 ghost use Rattle.std.specs.Option.{option_copied, option_map};
 ghost use Rattle.first_form.specs.FirstForm.{is_whole_amount, field_at, fields_of, data_in, bars_in};
 

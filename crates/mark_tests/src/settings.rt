@@ -95,7 +95,7 @@ fn forms(alloc: Global) -> Result<Scale, OutOfMemory>
     ensures { IfOk result IsScale }
 {
     let domain = texts(alloc, ["A", "B", "C"])?;
-    let range = texts(alloc, ["triangle-up", "diamond", "cross"])?;
+    let range = texts(alloc, ["triangle-up", "diamond", "top"])?;
     Ok(listed(domain, range))
 }
 
@@ -137,8 +137,8 @@ fn add(
     })
 }
 
-/// `y` lays 0 to 55 over 200 pixels down to 0, `x` has bands for A and B over 40 pixels, `color` has red for A alone, `form` has the names
-/// of symbols and `count` numbers.
+/// `y` lays 0 to 55 over 200 pixels down to 0, `x` has bands for A and B over 40 pixels, `color` has red for A alone, `form` the names
+/// of two symbols and a baseline, and `count` numbers.
 pub fn scales(alloc: Global) -> Result<ScaleSet, OutOfMemory>
     ensures { IfOk result AreScales }
 {
@@ -151,11 +151,12 @@ pub fn scales(alloc: Global) -> Result<ScaleSet, OutOfMemory>
     Ok(ScaleSet { scales })
 }
 
-fn row(alloc: Global, id: u64, a: &str, amount: Cell) -> Result<Keyed, OutOfMemory>
+fn row(alloc: Global, id: u64, a: &str, word: &str, amount: Cell) -> Result<Keyed, OutOfMemory>
     ensures { IfOk result (λ keyed. keyed.key ≡ record { id = id; branch = 0 }) }
 {
     let mut row = Row::new(alloc);
-    row.set(Text::of(alloc, "a")?, Cell::Text(Text::of(alloc, a)?))?;
+    row.set(Text::of(alloc, "a")?, text(alloc, a)?)?;
+    row.set(Text::of(alloc, "word")?, text(alloc, word)?)?;
     row.set(Text::of(alloc, "amount")?, amount)?;
     Ok(Keyed {
         key: Key { id, branch: 0 },
@@ -163,15 +164,15 @@ fn row(alloc: Global, id: u64, a: &str, amount: Cell) -> Result<Keyed, OutOfMemo
     })
 }
 
-/// A with 28, B with 55, and C with a text.
+/// A with 28, B with 55, and C with a text; and a word with each that some channel takes.
 #[tactic(auto, using(crate::proofs::TestRows::three_are_rows))]
 pub fn rows(alloc: Global) -> Result<Rows, OutOfMemory>
     ensures { IfOk result AreRows }
 {
     let third = Cell::Text(Text::of(alloc, "none")?);
     let mut rows = Seq::new(alloc);
-    rows.push(row(alloc, 1, "A", Cell::Number(count(28_000_000)))?)?;
-    rows.push(row(alloc, 2, "B", Cell::Number(count(55_000_000)))?)?;
-    rows.push(row(alloc, 3, "C", third)?)?;
+    rows.push(row(alloc, 1, "A", "left", Cell::Number(count(28_000_000)))?)?;
+    rows.push(row(alloc, 2, "B", "top", Cell::Number(count(55_000_000)))?)?;
+    rows.push(row(alloc, 3, "C", "square", third)?)?;
     Ok(rows)
 }

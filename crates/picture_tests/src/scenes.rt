@@ -59,7 +59,7 @@ fn items(alloc: Global) -> Result<Seq<Item>, Fail> {
     items.push(item_of(Shape::Circle {
         x: pixels(5),
         y: pixels(6),
-        r: pixels(7),
+        r: pixels(2),
     }))?;
     items.push(item_of(path(alloc)?))?;
     items.push(item_of(Shape::Line {
@@ -123,14 +123,20 @@ fn a_copied_scene_has_all_of_its_parts(rt: HostRuntime) -> Result<(), Fail> {
     Ok(())
 }
 
-// Points of the scene, and the item that stands there.
-const POINTS: [(i32, i32, Option<ItemRef>); 6] = [
+// Points of the scene, and the item that stands there: words and a line end at a corner of the rect, and hold no point.
+const POINTS: [(i32, i32, Option<ItemRef>); 12] = [
+    (6, 7, Some(ItemRef { panel: 0, item: 0 })),
+    (9, 7, Some(ItemRef { panel: 0, item: 0 })),
+    (6, 11, Some(ItemRef { panel: 0, item: 0 })),
+    (5, 7, None),
+    (8, 11, Some(ItemRef { panel: 0, item: 1 })),
+    (10, 9, Some(ItemRef { panel: 0, item: 1 })),
+    (8, 12, None),
+    (10, 11, Some(ItemRef { panel: 0, item: 2 })),
     (13, 14, Some(ItemRef { panel: 0, item: 2 })),
     (16, 17, Some(ItemRef { panel: 0, item: 2 })),
     (16, 18, None),
-    (7, 8, Some(ItemRef { panel: 0, item: 1 })),
-    (10, 4, Some(ItemRef { panel: 0, item: 1 })),
-    (10, 3, None),
+    (17, 17, None),
 ];
 
 // Whether it is this item that is picked at a point.

@@ -1,23 +1,22 @@
 -- Parameters that are set.
-use Rattle.std.proofs.Common.{◌≡◌, ℕ, Bool, true, false, cond, not, ◌&&◌, ◌||◌, List, [], ◌∷◌, map, Option, Some, refl, sym, ap, ap₂, ◌∙◌}
-use Rattle.std.specs.Prelude.{Result, Ok, Err, IfOk, if◌then◌else◌}
+use Rattle.std.proofs.Common.{◌≡◌, ℕ, Bool, true, false, cond, not, ◌&&◌, ◌||◌, List, [], ◌∷◌, map, refl, sym, ap, ap₂, ◌∙◌}
+use Rattle.std.specs.Prelude.{Ok, Err, if◌then◌else◌}
 use Rattle.std.specs.List.{list_any}
 use Rattle.std.specs.Str.{bytes_eq}
 use Rattle.cell_value.specs.declared.cell.Cell.{Cell}
 use Rattle.cell_value.specs.declared.state.ChartState.{ChartState}
 use Rattle.cell_value.specs.declared.state.Params.{Params}
-use Rattle.cell_value.specs.State.{State, IsState, dataset_of, state_of}
+use Rattle.cell_value.specs.State.{dataset_of, state_of}
 use Rattle.scene_tree.specs.declared.scene.Scene.{Scene}
 use Rattle.scene_tree.specs.Outcome.{Drawn}
 use Rattle.param_flow.specs.declared.param_error.ParamError.{ParamError}
 use Rattle.param_flow.specs.declared.param_error.ParamError.TheVariants as error
-use Rattle.param_flow.specs.declared.reply.Reply.{Reply}
-use Rattle.param_flow.specs.declared.reply.Reply.TheVariants.{Done, Refused}
+use Rattle.param_flow.specs.declared.reply.Reply.TheVariants.{Refused}
 use Rattle.param_flow.specs.declared.reply.Cause.TheVariants as cause
-use Rattle.param_flow.specs.Machine.{with_value, reply_to_chart, reply_to_set, state_if, state_set}
+use Rattle.param_flow.specs.Machine.{with_value, reply_to_chart, reply_to_set}
 use Rattle.param_flow.specs.Semantics.{ParamOf}
 use Rattle.param_flow.specs.Semantics as meaning
-use Rattle.param_flow.specs.Settings.{is_settable, has_name, has_settable, params_set, SetsAs}
+use Rattle.param_flow.specs.Settings.{is_settable, has_name, has_settable, params_set}
 use Rattle.vega_spec.specs.declared.names.Parameter.{Parameter}
 use Rattle.vega_spec.specs.declared.names.ParameterKind.{ParameterKind}
 use Rattle.vega_spec.specs.declared.names.ParameterKind.TheVariants as kind
@@ -25,9 +24,9 @@ use Rattle.vega_spec.specs.declared.spec.VgSpec.{VgSpec}
 use Rattle.vega_spec.specs.Names.{parameters_of}
 use Rattle.vega_meaning.specs.Charts.{scene_over}
 use Rattle.vega_meaning.specs.Semantics.{param_kind_of, param_of, vega_semantics}
-use Rattle.vega_meaning.specs.States.{IsStateOf, settable_names}
+use Rattle.vega_meaning.specs.States.{settable_names}
 use Rattle.plain_engine.specs.inner.Kept.{IsKept}
-use Rattle.plain_engine.specs.inner.Settings.{names_of, state_with, state_if_put}
+use Rattle.plain_engine.specs.inner.Settings.{names_of}
 use Rattle.plain_engine.proofs.Replies.{to_drawn}
 
 same_kind : (k : ParameterKind) → meaning.is_settable (param_kind_of k) ≡ is_settable k

@@ -1,5 +1,5 @@
 //! The sources of a state.
-ghost use Rattle.std.specs.Prelude.{◌≡◌, ◌≤◌, ◌<◌, ◌+◌, ◌++◌, ◌||◌, nat_lt, length, map, position, true, Some, IfOk, OnErr};
+ghost use Rattle.std.specs.Prelude.{◌≡◌, ◌≤◌, ◌<◌, ◌+◌, ◌++◌, ◌||◌, nat_lt, length, map, position, true, IfOk, OnErr};
 ghost use Rattle.std.specs.Str.{bytes_eq};
 ghost use Rattle.cell_value.specs.State.{IsState, state_of, dataset_of, most_rows, greatest_id};
 ghost use Rattle.vega_lists.specs.Held.{AreSources};

@@ -1,10 +1,10 @@
 -- Where the test of a chart holds, it has a meaning and keeps the rules.
 use Rattle.std.proofs.Common.{◌≡◌, ℕ, ◌+◌, ◌*◌, ◌^◌, ◌<◌, ◌&&◌, ◌||◌, ℤ, pos, ◌≤ℤ◌, Bool, true, false, IsTrue, IfSome, List, [], ◌∷◌, Option}
-use Rattle.std.proofs.Common.{Some, None, unwrap_or, nat_lt, refl, sym, ap, subst, ◌∙◌, arith}
+use Rattle.std.proofs.Common.{Some, None, unwrap_or, nat_lt, refl, sym, subst, arith}
 use Rattle.std.specs.Option.{option_map_or}
 use Rattle.std.specs.List.{All, list_all}
 use Rattle.std.proofs.lemmas.Int.{ints}
-use Rattle.std.proofs.lemmas.Bool.{false≢true}
+use Rattle.std.proofs.lemmas.Bool.{false≢true, and_parts as both, and_from as together}
 use Rattle.std.proofs.lemmas.Bool.Decides.{nat_tests}
 use Rattle.std.proofs.lemmas.List.Elements.{All-cons, All-nil}
 use Rattle.fixed_num.specs.Number.{million}
@@ -27,22 +27,14 @@ use Rattle.vega_signals.specs.Signals.{data_of}
 use Rattle.vega_guides.specs.Plots.{is_kept_axis}
 use Rattle.vega_guides.specs.Shown.{IsAxis, IsCount}
 use Rattle.vega_charts.specs.Sizes.{IsSizeKept}
-use Rattle.vega_charts.specs.Outlines.{Object, Opened, Marks, NoMarks, AMark, AGroup, outline_of, opened, object_here, count_marks, count_groups}
-use Rattle.vega_charts.specs.Built.{is_plain_object, are_plain, IsBuilt, KeepsObject, KeepsMarks, KeepsRules}
+use Rattle.vega_charts.specs.Outlines.{Object, Marks, NoMarks, AMark, AGroup, outline_of, count_marks, count_groups}
+use Rattle.vega_charts.specs.Built.{is_plain_object, are_plain, KeepsObject, KeepsMarks, KeepsRules}
 use Rattle.vega_charts.specs.Fitting.{folds_fit}
-use Rattle.vega_charts.specs.Tested.{is_padding, is_pixel, is_range, is_set, has_places, is_scale, is_count, has_columns, is_size, is_space}
-use Rattle.vega_charts.specs.Tested.{is_object, are_objects, are_few, is_outline, has_sizes, are_new, is_chart, ChartsAreTested}
+use Rattle.vega_charts.specs.Tested.{is_padding, is_pixel, is_range, is_set, has_places, is_scale, is_count, is_size, is_space}
+use Rattle.vega_charts.specs.Tested.{is_object, are_objects, are_few, is_outline, has_sizes, are_new, ChartsAreTested}
 use Rattle.vega_charts.proofs.FitLaw as fit
 use Rattle.vega_charts.proofs.NewNames.{apart}
 use Rattle.vega_charts.proofs.OutlineLemmas.{opened_object}
-
-both : (a b : Bool) → (a && b) ≡ true → (a ≡ true) × (b ≡ true)
-both true b e = (refl, e)
-both false b e = absurd (false≢true e)
-
-together : (a b : Bool) → a ≡ true → b ≡ true → (a && b) ≡ true
-together true b e f = f
-together false b e f = e
 
 holds : (b : Bool) → b ≡ true → IsTrue b
 holds b e = e

@@ -1,7 +1,6 @@
 -- Counts of plots in facets, up to the greatest number of 64 bits.
 use Rattle.std.proofs.Common.{◌≡◌, ℕ, zero, suc, ◌+◌, ◌<◌, ◌≤◌, ◌||◌, min, Bool, true, false, cond, Option, Some, None, List, [], ◌∷◌, map, length, drop, get_or, is_some}
 use Rattle.std.proofs.Common.{Err, refl, sym, ap, ap₂, ◌∙◌, subst, arith}
-use Rattle.std.specs.Borrow.{Bor}
 use Rattle.std.specs.List.{sum}
 use Rattle.std.specs.Option.{option_map}
 use Rattle.std.proofs.lemmas.List.{drop_more}
@@ -25,9 +24,9 @@ use Rattle.vega_charts.specs.inner.Outlined.{marks_of, is_group, group_object}
 use Rattle.vega_charts.specs.inner.Copied.{copy_seen}
 use Rattle.vega_charts.specs.inner.Counted.{most_counted, counted, is_panel, plots_inside, plots_in_copy, plots_of_copy}
 use Rattle.vega_lists.specs.Inside.{RowsByName}
-use Rattle.vega_charts.specs.inner.Drawn.{MayStand}
+use Rattle.vega_charts.specs.inner.Standing.{MayStand}
 use Rattle.vega_charts.proofs.OutlineLemmas.{plain_first, group_first}
-use Rattle.vega_charts.proofs.StandLemmas.{stand_first, stand_rest, names_entered, names_of_copy}
+use Rattle.vega_charts.proofs.StandLemmas.{stand_first, stand_rest, names_of_copy}
 
 -- a count with those that are found, each up to the greatest number
 abbrev pub counted_from : ℕ → List (Option ℕ) → Option ℕ
@@ -263,16 +262,14 @@ module _ (outer : NamesAt) (m : VgMark) (copy : CopyOf) (in_facet in_grid : Bool
       subst (Evaluates {X = ℕ} (Err error)) (sym by_names)
       (names_stop (is_panel in_facet in_grid (out-VgMark m)) (plots_inside sources_read in_facet (out-VgMark m)) named error e)
 
-  module _ (level : Level) (levels : List (Bor Level)) (more : map (λ l. l.now) levels ≡ level ∷ map (λ l. l.now) outer.levels.now)
-      (are : named ≡ Some (names_with_level outer level)) where
+  module _ (level : Level) (are : named ≡ Some (names_with_level outer level)) where
     abbrev within : Option ℕ
-    within = plots_inside sources_read in_facet (out-VgMark m) (names_at outer.sources.now levels)
+    within = plots_inside sources_read in_facet (out-VgMark m) (names_with_level outer level)
 
     by_level : counts ≡ counted (option_map (λ k. cond (is_panel in_facet in_grid (out-VgMark m)) 1 0 + k) within)
     by_level =
         by_names
-        ∙ ap (λ (found : Option Names). counted (option_map (λ k. cond (is_panel in_facet in_grid (out-VgMark m)) 1 0 + k) (found >>= plots_inside sources_read in_facet (out-VgMark m))))
-        (are ∙ ap Some (sym (names_entered outer level levels more)))
+        ∙ ap (λ (found : Option Names). counted (option_map (λ k. cond (is_panel in_facet in_grid (out-VgMark m)) 1 0 + k) (found >>= plots_inside sources_read in_facet (out-VgMark m)))) are
 
     pub copy_counts : (n one whole : ℕ) → counted within ≡ Some n → one ≡ cond (is_panel in_facet in_grid (out-VgMark m)) 1 0
         → whole ≡ min (n + one) most_counted → counts ≡ Some whole

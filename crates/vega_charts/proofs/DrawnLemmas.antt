@@ -1,10 +1,10 @@
 -- What is drawn in a plot, one after the other.
-use Rattle.std.proofs.Common.{◌≡◌, ℕ, suc, ◌+◌, ◌<◌, ◌^◌, Bool, true, false, Option, Some, None, List, [], ◌∷◌, ◌++◌, map, length, drop, get_or, refl, sym, ap, ◌∙◌, arith, subst}
+use Rattle.std.proofs.Common.{◌≡◌, ℕ, suc, ◌+◌, ◌<◌, ◌^◌, Bool, true, false, Option, Some, None, List, [], ◌∷◌, ◌++◌, map, length, length-drop, drop, get_or, refl, sym, ap, ◌∙◌, arith, subst}
 use Rattle.std.proofs.Common.{append_assoc, append-nil}
 use Rattle.std.specs.Prelude.{IfOk, Result, Ok, Err}
+use Rattle.std.specs.List.{AllZip}
 use Rattle.std.specs.Option.{option_map}
 use Rattle.std.specs.Borrow.{Bor}
-use Rattle.std.proofs.lemmas.List.{drop_more}
 use Rattle.fixed_num.specs.Ranges.{◌>>=◌, all_found}
 use Rattle.cell_value.specs.State.{Dataset}
 use Rattle.cell_value.specs.Datum.{datum_of}
@@ -23,22 +23,25 @@ use Rattle.vega_spec.specs.declared.marks.MarkFrom.{MarkFrom}
 use Rattle.vega_spec.specs.declared.marks.MarkFrom.TheVariants as from
 use Rattle.vega_lists.specs.Held.{scope_read}
 use Rattle.vega_lists.specs.Inside.{RowsByName}
-use Rattle.vega_lists.specs.Products.{Products}
 use Rattle.vega_scenes.specs.Axes.{seen, AxisShown}
 use Rattle.vega_scenes.specs.declared.legends.LegendShown.{LegendShown}
 use Rattle.vega_scenes.specs.declared.axes.AxisShown.{AxisShown as AxisHeld}
-use Rattle.vega_charts.specs.Outlines.{Marks, NoMarks, AGroup, count_marks, count_groups}
+use Rattle.vega_charts.specs.Outlines.{Marks, count_marks, count_groups}
 use Rattle.vega_charts.specs.Items.{rows_of_mark, items_in_copy}
 use Rattle.vega_charts.specs.Copies.{Frame, moved_copy}
 use Rattle.vega_charts.specs.Facets.{copies_of}
 use Rattle.vega_charts.specs.Plots.{Inside, and_inside, all_inside, nothing_inside, items_inside, drawn_in}
-use Rattle.vega_charts.specs.Built.{KeepsMarks, FoldsFitIn}
 use Rattle.vega_charts.specs.inner.Outlined.{marks_in, is_group, marks_of, marks_from, plain_of, group_object, AreFew}
 use Rattle.vega_charts.specs.inner.Framed.{frame_seen}
-use Rattle.vega_charts.specs.inner.Drawn.{inside_seen, IsInside, DrawsMore, MayStand, rows_in_frame, sources_of, drawn_inside, drawn_group}
+use Rattle.vega_charts.specs.inner.Drawn.{inside_seen, IsInside, DrawsMore, rows_in_frame, sources_of, drawn_inside, drawn_group}
+use Rattle.vega_charts.specs.declared.made.CopiesMade.{CopiesMade}
+use Rattle.vega_charts.specs.inner.Made.{levels_behind, HaveCopies, OneMade}
+use Rattle.vega_charts.specs.inner.Standing.{MayStand}
 use Rattle.vega_charts.specs.declared.frames.Frame.{Frame as HeldFrame}
 use Rattle.vega_charts.specs.declared.inside.Inside.{Inside as HeldInside}
-use Rattle.vega_charts.proofs.OutlineLemmas.{plain_first, group_first, plain_from, group_from, plain_counted, group_counted, plain_grouped, group_grouped, counted_first, grouped_first}
+use Rattle.vega_charts.proofs.CopyLemmas.{data_behind}
+use Rattle.vega_charts.proofs.MadeLemmas.{at_place}
+use Rattle.vega_charts.proofs.OutlineLemmas.{plain_from, group_from, plain_counted, group_counted, plain_grouped, group_grouped}
 use Rattle.vega_charts.proofs.StandLemmas.{stand_first, stand_rest, few_first, few_rest}
 
 -- ---- one after the other
@@ -90,20 +93,16 @@ stops_drawing error.Memory o drawn old new none leads = tt
 
 -- ---- what a mark and the guides of a copy add
 
-read_behind : (rows : List (Bor Keyed)) → data_of rows ≡ map datum_of (rows_behind rows)
-read_behind [] = refl
-read_behind (row ∷ rows) = ap (λ l. datum_of row.now ∷ l) (read_behind rows)
-
 -- the rows of the name from which a mark comes
 pub rows_named : {E : Type 0} (result : Result (List (Bor Keyed)) E) (rows : RowsByName) (name given : List ℕ) (source : Option MarkFrom) → given ≡ name
     → source ≡ Some (from.Data name) → IfOk result (λ found. map (λ (row : Bor Keyed). row.now) found ≡ rows given)
     → IfOk result (λ found. data_of found ≡ rows_of_mark (scope_read rows) source)
 rows_named (Ok found) rows name given source e is reads =
-    read_behind found ∙ ap (map datum_of) reads ∙ ap (scope_read rows) e ∙ sym (ap (rows_of_mark (scope_read rows)) is)
+    data_behind found ∙ ap (map datum_of) reads ∙ ap (scope_read rows) e ∙ sym (ap (rows_of_mark (scope_read rows)) is)
 rows_named (Err error) rows name given source e is reads = tt
 
 pub listed : (rows given : List (Bor Keyed)) → given ≡ rows → AreRows (rows_behind rows) → AreListed (data_of given)
-listed rows given is are = subst AreListed (sym (ap data_of is ∙ read_behind rows)) (rows_are_listed (rows_behind rows) are)
+listed rows given is are = subst AreListed (sym (ap data_of is ∙ data_behind rows)) (rows_are_listed (rows_behind rows) are)
 
 pub adds_items : (old : HeldInside) (items grown : List Item) (o : Option (List Item)) → o ≡ Some items → grown ≡ old.items ++ items
     → option_map (and_inside (inside_seen old)) (option_map items_inside o) ≡ Some (inside_seen (record old { items = grown }))
@@ -204,73 +203,96 @@ module _ (sources : List Dataset) (frame : Frame) where
 
 -- ---- marks that are left to be drawn in a copy, and what comes of them behind what there is
 
-pub record MarksLeft (f : HeldFrame) (begun : HeldInside) (whole : Option Inside) (unit number : ℕ) (marks : List VgMark) (out : HeldInside) : Type 0 where
-  pub stand : MayStand (rows_in_frame f) marks
+some_here : {X Y : Type 0} (R : X → Y → Type 0) (x : X) (xs : List X) (ys : List Y) → AllZip R (x ∷ xs) ys → 0 < length ys
+some_here R x xs [] each = absurd each
+some_here R x xs (y ∷ ys) each = omega arith
+
+pub record MarksLeft (f : HeldFrame) (begun : HeldInside) (whole : Option Inside) (unit number : ℕ) (marks : List VgMark) (found : List CopiesMade) (out : HeldInside) : Type 0 where
+  pub stand : HaveCopies f.names.sources.now f.names.levels.now marks found
   pub few : AreFew unit number marks
   pub draws : option_map (and_inside (inside_seen out)) (drawn_in (sources_of f) (marks_from unit number marks) (frame_seen f)) ≡ whole
   pub kept : IsInside begun → IsInside out
 
 module _ (f : HeldFrame) (begun : HeldInside) (whole : Option Inside) (unit number : ℕ) where
-  pub nothing_left : (marks : List VgMark) (out : HeldInside) → marks ≡ [] → MarksLeft f begun whole unit number marks out → whole ≡ Some (inside_seen out)
-  nothing_left marks out none left =
+  pub nothing_left : (marks : List VgMark) (found : List CopiesMade) (out : HeldInside) → marks ≡ [] → MarksLeft f begun whole unit number marks found out
+      → whole ≡ Some (inside_seen out)
+  nothing_left marks found out none left =
       sym left.draws
       ∙ ap (λ ms. option_map (and_inside (inside_seen out)) (drawn_in (sources_of f) (marks_from unit number ms) (frame_seen f))) none
       ∙ ap Some (nothing_last (inside_seen out))
 
-  module _ (all : List VgMark) (index : ℕ) (m : VgMark) (out : HeldInside) (within : index < length all) (is : m ≡ get_or all index m)
-      (left : MarksLeft f begun whole unit number (drop index all) out) where
-    here : MarksLeft f begun whole unit number (m ∷ drop (index + 1) all) out
-    here =
-        subst (λ marks. MarksLeft f begun whole unit number marks out)
-        (drop_more all index m within ∙ ap (λ x. x ∷ drop (index + 1) all) (sym is)) left
+  abbrev one_made : VgMark → CopiesMade → Type 0
+  one_made = OneMade f.names.sources.now (levels_behind f.names.levels.now)
 
-    pub next_stands : MayStand (rows_in_frame f) (m ∷ [])
-    next_stands = stand_first (rows_in_frame f) m (drop (index + 1) all) here.stand
+  module _ (all : List VgMark) (index : ℕ) (m : VgMark) (every : List CopiesMade) (at : ℕ) (out : HeldInside) (within : index < length all) (is : m ≡ get_or all index m)
+      (left : MarksLeft f begun whole unit number (drop index all) (drop at every) out) where
+    marks_here : drop index all ≡ m ∷ drop (index + 1) all
+    marks_here = at_place all index m within is
 
-    pub next_few : AreFew unit number (m ∷ [])
-    next_few = few_first unit number m (drop (index + 1) all) here.few
+    -- what was made of the next mark is there
+    pub made_within : at < length every
+    made_within =
+        let some = some_here one_made m (drop (index + 1) all) (drop at every) (subst (λ ms. AllZip one_made ms (drop at every)) marks_here left.stand.made) in
+        let size = length-drop at every in
+        omega (arith, some, size)
 
-    pub marks_fit : count_marks (marks_of (m ∷ [])) < 2 ^ 32
-    marks_fit = omega (arith, next_few.units)
+    module _ (one : CopiesMade) (one_is : one ≡ get_or every at one) where
+      here : MarksLeft f begun whole unit number (m ∷ drop (index + 1) all) (one ∷ drop (at + 1) every) out
+      here =
+          subst (λ found. MarksLeft f begun whole unit number (m ∷ drop (index + 1) all) found out)
+          (at_place every at one made_within one_is)
+          (subst (λ marks. MarksLeft f begun whole unit number marks (drop at every) out) marks_here left)
 
-    pub groups_fit : count_groups (marks_of (m ∷ [])) < 2 ^ 32
-    groups_fit = omega (arith, next_few.numbers)
+      pub next_stands : MayStand (rows_in_frame f) (m ∷ [])
+      next_stands = stand_first (rows_in_frame f) m (drop (index + 1) all) here.stand.stand
 
-    pub unit_fits : (n : ℕ) → n ≡ count_marks (marks_of (m ∷ [])) → unit + n < 2 ^ 32
-    unit_fits n is = omega (arith, next_few.units, is)
+      pub next_made : one_made m one
+      next_made = here.stand.made.0
 
-    pub number_fits : (n : ℕ) → n ≡ count_groups (marks_of (m ∷ [])) → number + n < 2 ^ 32
-    number_fits n is = omega (arith, next_few.numbers, is)
+      pub next_few : AreFew unit number (m ∷ [])
+      next_few = few_first unit number m (drop (index + 1) all) here.few
 
-    abbrev one : Option Inside
-    one = drawn_in (sources_of f) (marks_from unit number (m ∷ [])) (frame_seen f)
+      pub marks_fit : count_marks (marks_of (m ∷ [])) < 2 ^ 32
+      marks_fit = omega (arith, next_few.units)
 
-    abbrev others : Option Inside
-    others =
-        drawn_in (sources_of f)
-        (marks_from (unit + count_marks (marks_of (m ∷ []))) (number + count_groups (marks_of (m ∷ []))) (drop (index + 1) all)) (frame_seen f)
+      pub groups_fit : count_groups (marks_of (m ∷ [])) < 2 ^ 32
+      groups_fit = omega (arith, next_few.numbers)
 
-    whole_is : option_map (and_inside (inside_seen out)) (and_rest one others) ≡ whole
-    whole_is =
-        ap (option_map (and_inside (inside_seen out))) (sym (first_and_rest (sources_of f) (frame_seen f) unit number m (drop (index + 1) all)))
-        ∙ here.draws
+      pub unit_fits : (n : ℕ) → n ≡ count_marks (marks_of (m ∷ [])) → unit + n < 2 ^ 32
+      unit_fits n is = omega (arith, next_few.units, is)
 
-    pub next_drawn : (new : HeldInside) (units numbers : ℕ) → option_map (and_inside (inside_seen out)) one ≡ Some (inside_seen new)
-        → (IsInside out → IsInside new) → units ≡ count_marks (marks_of (m ∷ [])) → numbers ≡ count_groups (marks_of (m ∷ []))
-        → MarksLeft f begun whole (unit + units) (number + numbers) (drop (index + 1) all) new
-    next_drawn new units numbers drawn keeps counted grouped =
-        let made : MarksLeft f begun whole (unit + count_marks (marks_of (m ∷ []))) (number + count_groups (marks_of (m ∷ []))) (drop (index + 1) all) new
-        = record {
-          stand = stand_rest (rows_in_frame f) m (drop (index + 1) all) here.stand;
-          few = few_rest unit number m (drop (index + 1) all) here.few;
-          draws = behind_both (inside_seen out) one others (inside_seen new) drawn ∙ whole_is;
-          kept = λ inside. keeps (here.kept inside);
-        } in
-        subst (λ n. MarksLeft f begun whole (unit + units) (number + n) (drop (index + 1) all) new) (sym grouped)
-        (subst (λ u. MarksLeft f begun whole (unit + u) (number + count_groups (marks_of (m ∷ []))) (drop (index + 1) all) new) (sym counted) made)
+      pub number_fits : (n : ℕ) → n ≡ count_groups (marks_of (m ∷ [])) → number + n < 2 ^ 32
+      number_fits n is = omega (arith, next_few.numbers, is)
 
-    pub next_stops : (e : EvalError) (after : HeldInside) (old : Inside) (drawn : Option Inside) → whole ≡ option_map (and_inside old) drawn
-        → DrawsMore {X = Unit {0}} (Err e) out after one → (new : HeldInside) (before : HeldInside) → DrawsMore {X = Unit {0}} (Err e) before new drawn
-    next_stops error.Overflow after old drawn is none new before =
-        none_drawn old drawn (sym is ∙ sym whole_is ∙ none_behind (inside_seen out) one others none)
-    next_stops error.Memory after old drawn is none new before = tt
+      abbrev drawn_here : Option Inside
+      drawn_here = drawn_in (sources_of f) (marks_from unit number (m ∷ [])) (frame_seen f)
+
+      abbrev others : Option Inside
+      others =
+          drawn_in (sources_of f)
+          (marks_from (unit + count_marks (marks_of (m ∷ []))) (number + count_groups (marks_of (m ∷ []))) (drop (index + 1) all)) (frame_seen f)
+
+      whole_is : option_map (and_inside (inside_seen out)) (and_rest drawn_here others) ≡ whole
+      whole_is =
+          ap (option_map (and_inside (inside_seen out))) (sym (first_and_rest (sources_of f) (frame_seen f) unit number m (drop (index + 1) all)))
+          ∙ here.draws
+
+      pub next_drawn : (new : HeldInside) (units numbers : ℕ) → option_map (and_inside (inside_seen out)) drawn_here ≡ Some (inside_seen new)
+          → (IsInside out → IsInside new) → units ≡ count_marks (marks_of (m ∷ [])) → numbers ≡ count_groups (marks_of (m ∷ []))
+          → MarksLeft f begun whole (unit + units) (number + numbers) (drop (index + 1) all) (drop (at + 1) every) new
+      next_drawn new units numbers drawn keeps counted grouped =
+          let made : MarksLeft f begun whole (unit + count_marks (marks_of (m ∷ []))) (number + count_groups (marks_of (m ∷ []))) (drop (index + 1) all) (drop (at + 1) every) new
+          = record {
+            stand = record { stand = stand_rest (rows_in_frame f) m (drop (index + 1) all) here.stand.stand; made = here.stand.made.1 };
+            few = few_rest unit number m (drop (index + 1) all) here.few;
+            draws = behind_both (inside_seen out) drawn_here others (inside_seen new) drawn ∙ whole_is;
+            kept = λ inside. keeps (here.kept inside);
+          } in
+          subst (λ n. MarksLeft f begun whole (unit + units) (number + n) (drop (index + 1) all) (drop (at + 1) every) new) (sym grouped)
+          (subst (λ u. MarksLeft f begun whole (unit + u) (number + count_groups (marks_of (m ∷ []))) (drop (index + 1) all) (drop (at + 1) every) new) (sym counted) made)
+
+      pub next_stops : (e : EvalError) (after : HeldInside) (old : Inside) (drawn : Option Inside) → whole ≡ option_map (and_inside old) drawn
+          → DrawsMore {X = Unit {0}} (Err e) out after drawn_here → (new : HeldInside) (before : HeldInside) → DrawsMore {X = Unit {0}} (Err e) before new drawn
+      next_stops error.Overflow after old drawn is none new before =
+          none_drawn old drawn (sym is ∙ sym whole_is ∙ none_behind (inside_seen out) drawn_here others none)
+      next_stops error.Memory after old drawn is none new before = tt

@@ -1,62 +1,41 @@
 -- What a copy of a group draws, step by step.
-use Rattle.std.proofs.Common.{◌≡◌, ℕ, ◌+◌, ◌<◌, ◌^◌, Bool, true, false, cond, Option, Some, None, List, [], ◌∷◌, ◌++◌, map, refl, sym, ap, ◌∙◌, arith, subst}
-use Rattle.std.proofs.Common.{append-nil}
+use Rattle.std.proofs.Common.{◌≡◌, ℕ, ◌+◌, ◌<◌, ◌^◌, Bool, true, false, cond, Option, Some, None, List, [], ◌∷◌, ◌++◌, map, refl, sym, ap, ◌∙◌, arith, subst, append-nil}
 use Rattle.std.specs.Prelude.{All, Result, Ok, Err, ℤ, ◌+ℤ◌}
 use Rattle.std.specs.List.{filter}
 use Rattle.std.specs.Option.{option_map}
-use Rattle.std.specs.Str.{bytes_eq}
 use Rattle.std.specs.Borrow.{Bor}
-use Rattle.std.specs.declared.alloc.Global.{Global}
-use Rattle.std.specs.declared.vec.IntoIter.{IntoIter}
-use Rattle.std.specs.Vec.Iter.{into_iter_items, into_iter_len}
-use Rattle.std.proofs.lemmas.List.{nil_from_length}
 use Rattle.std.proofs.lemmas.List.Elements.{All-head, All-tail}
+use Rattle.std.proofs.lemmas.Option.{same_Some}
 use Rattle.fixed_num.specs.Ranges.{◌>>=◌, all_found, in_range}
-use Rattle.cell_value.specs.State.{Dataset, dataset_of}
-use Rattle.cell_value.specs.Datum.{datum_of}
+use Rattle.cell_value.specs.State.{Dataset}
 use Rattle.cell_value.specs.declared.cell.Cell.{Cell}
-use Rattle.cell_value.specs.declared.state.Named.{Named}
-use Rattle.expr_eval.specs.Plain.{no_values}
-use Rattle.expr_eval.specs.Values.{Values}
 use Rattle.expr_eval.specs.declared.error.EvalError.{EvalError}
 use Rattle.expr_eval.specs.declared.error.EvalError.TheVariants as error
 use Rattle.mark_encode.specs.declared.channels.ChannelName.TheVariants as channel
-use Rattle.vega_spec.specs.declared.spec.Group.{Group, out-Group}
+use Rattle.vega_spec.specs.declared.spec.Group.{Group}
 use Rattle.vega_spec.specs.declared.spec.VgMark.{VgMark, VgMark-F, out-VgMark}
-use Rattle.vega_lists.specs.Held.{scope_read}
-use Rattle.vega_lists.specs.Inside.{RowsByName, no_rows, rows_inside, AllKeysFit, SetsMayFold}
-use Rattle.vega_lists.specs.Products.{Products, products_after, FoldsFit}
-use Rattle.vega_lists.specs.Scopes.{with_list}
-use Rattle.vega_signals.specs.Lost.{IsLost, is_among}
-use Rattle.vega_signals.specs.Settling.{values_inside}
-use Rattle.vega_charts.specs.Outlines.{Object, object_here, Marks, NoMarks, AGroup, facet_in}
-use Rattle.vega_charts.specs.Scopes.{Names, names_in_object, keeps_signals}
+use Rattle.vega_charts.specs.Outlines.{Object}
+use Rattle.vega_charts.specs.Scopes.{Names, keeps_signals}
 use Rattle.scale_kit.specs.Scale.{AreScales}
 use Rattle.scale_kit.specs.declared.scale.ScaleSet.{ScaleSet}
 use Rattle.vega_charts.specs.declared.scales.ScaleHere.{ScaleHere as HeldScale}
 use Rattle.vega_charts.specs.inner.Kept.{scale_seen, AreKeptScales}
 use Rattle.vega_charts.specs.Scales.{ScaleHere, own_scale, and_outer, set_of}
-use Rattle.vega_charts.specs.Copies.{Frame, encoded_number, inside_of, with_scales, more_cells, of_no_chart}
-use Rattle.vega_charts.specs.Facets.{copies_of, with_parts}
+use Rattle.vega_charts.specs.Copies.{Frame, encoded_number, inside_of, with_scales, more_cells, of_no_chart, names_in_copy}
 use Rattle.vega_charts.specs.Plots.{Inside, and_inside, all_inside, nothing_inside, axes_over, own_axes, legends_in, with_guides}
-use Rattle.vega_charts.specs.Built.{KeepsObject, KeepsMarks, FoldsFitIn, products_in_copy}
-use Rattle.vega_charts.specs.declared.copies.CopyOf.{CopyOf}
 use Rattle.vega_charts.specs.declared.frames.Frame.{Frame as HeldFrame}
 use Rattle.vega_charts.specs.declared.inside.Inside.{Inside as HeldInside}
 use Rattle.vega_charts.specs.declared.names.Level.{Level}
-use Rattle.vega_charts.specs.declared.names.NamesAt.{NamesAt}
-use Rattle.vega_charts.specs.inner.Levels.{AreLevels, parts_over, rows_at, values_at, lost_at, names_at, names_over, rows_with_level, names_with_level, kept_names}
-use Rattle.vega_charts.specs.inner.Outlined.{marks_in, is_group, marks_of, group_object, AreFew}
+use Rattle.vega_charts.specs.inner.Levels.{AreLevels, kept_names}
+use Rattle.vega_charts.specs.inner.Outlined.{is_group, group_object, AreFew}
 use Rattle.vega_charts.specs.inner.Framed.{frame_seen, cells_seen, entered, IsFrame}
-use Rattle.vega_charts.specs.inner.Copied.{copy_seen, IsCopy}
-use Rattle.vega_charts.specs.inner.Drawn.{inside_seen, IsInside, DrawsMore, MayStand, sources_of, placed_from, drawn_inside, drawn_framed, drawn_named, drawn_copy, drawn_group}
-use Rattle.vega_charts.proofs.OutlineLemmas.{group_first, group_counted, group_grouped}
-use Rattle.vega_charts.proofs.StandLemmas.{names_entered, parts_read}
+use Rattle.vega_charts.specs.inner.Drawn.{inside_seen, IsInside, DrawsMore, sources_of, placed_from, drawn_inside, drawn_framed, drawn_named, drawn_copy, drawn_group}
+use Rattle.vega_charts.proofs.OutlineLemmas.{group_grouped}
 use Rattle.vega_charts.proofs.DrawnLemmas.{nothing_last, joined, and_rest, behind_both, none_behind, none_drawn}
-
--- the levels of names behind references
-abbrev pub levels_behind : List (Bor Level) → List Level
-levels_behind levels = map (λ (level : Bor Level). level.now) levels
+use Rattle.vega_charts.specs.declared.made.CopiesMade.{CopiesMade, out-CopiesMade}
+use Rattle.vega_charts.specs.declared.made.Made.{Made, out-Made}
+use Rattle.vega_charts.specs.inner.Made.{levels_behind, names_under, made_seen, IsCopyMade, OneMade}
+use Rattle.vega_charts.proofs.MadeLemmas.{kept_in_made, names_entered_are, copies_are, each_copy_made}
 
 -- ---- a copy of a group by its names
 
@@ -99,9 +78,6 @@ module _ (sources : List Dataset) (outer : Frame) (unit number : ℕ) (m : VgMar
       by_kept true e = cc
       by_kept false e = refl
 
-  same_names : (a b : Names) → Some a ≡ Some b → a ≡ b
-  same_names a b e = cc
-
   named_by : (found : Option Names) (names : Names) → kept_names (group_object number m) found ≡ Some names
       → drawn_by found ≡ drawn_named sources (with_these names) unit number m
   named_by None names e = cc
@@ -114,47 +90,40 @@ module _ (sources : List Dataset) (outer : Frame) (unit number : ℕ) (m : VgMar
           ≡ drawn_named sources (with_these names) unit number m
       by_kept true e =
           with_own here (all_found (map (own_scale of_no_chart here) (group_object number m).scales))
-          ∙ ap (λ n. drawn_named sources (with_these n) unit number m) (same_names here names e)
+          ∙ ap (λ n. drawn_named sources (with_these n) unit number m) (same_Some here names e)
       by_kept false e = cc
 
-module _ (outer : HeldFrame) (copy : CopyOf) (unit number : ℕ) (m : VgMark) where
+module _ (outer : HeldFrame) (copy : Made) (unit number : ℕ) (m : VgMark)
+    (is : IsCopyMade outer.names.sources.now (levels_behind outer.names.levels.now) (out-VgMark m) copy) where
   abbrev here : Object
-  here = object_here (out-Group (out-VgMark m).group)
+  here = group_object number (out-VgMark m)
 
-  abbrev pub names_found : Option Names
-  names_found = kept_names here (names_in_object (sources_of outer) (names_over outer.names copy.parts) here)
+  abbrev names_here : Names
+  names_here = names_under outer.names.sources.now ((out-Made copy).level ∷ levels_behind outer.names.levels.now)
 
   abbrev drawn : Option Inside
-  drawn = drawn_copy (sources_of outer) (frame_seen outer) unit number (out-VgMark m) (copy_seen copy)
+  drawn = drawn_copy (sources_of outer) (frame_seen outer) unit number (out-VgMark m) (made_seen copy)
 
-  abbrev round : Names
-  round = names_at outer.names.sources.now outer.names.levels.now
+  abbrev names_found : Option Names
+  names_found = names_in_copy (sources_of outer) (frame_seen outer).names here (made_seen copy)
 
-  by_parts : drawn
-      ≡ drawn_by (sources_of outer) (frame_seen outer) unit number (out-VgMark m) copy.cells
-      (names_in_object (sources_of outer) (names_over outer.names copy.parts) here)
-  by_parts =
-      ap (λ lists. drawn_by (sources_of outer) (frame_seen outer) unit number (out-VgMark m) copy.cells
-      (names_in_object (sources_of outer) (record round { lists = lists }) here))
-      (parts_read copy.parts (rows_at outer.names.sources.now outer.names.levels.now))
+  kept_is : (b : Bool) → keeps_signals names_here here ≡ b → kept_names here names_found ≡ cond b (Some names_here) None
+  kept_is = kept_in_made outer.names.sources.now outer.names.levels.now m copy is number
 
-  pub copy_stops : names_found ≡ None → drawn ≡ None
-  copy_stops e =
-      by_parts
-      ∙ none_by (sources_of outer) (frame_seen outer) unit number (out-VgMark m) copy.cells
-      (names_in_object (sources_of outer) (names_over outer.names copy.parts) here) e
+  pub copy_stops : keeps_signals names_here here ≡ false → drawn ≡ None
+  copy_stops lost = none_by (sources_of outer) (frame_seen outer) unit number (out-VgMark m) (out-Made copy).cells names_found (kept_is false lost)
 
-  pub copy_named : (level : Level) (levels : List (Bor Level)) (cells : Option (Bor (List (List ℕ × Cell))))
-      → names_found ≡ Some (names_with_level outer.names level)
-      → levels_behind levels ≡ level ∷ levels_behind outer.names.levels.now
-      → cells_seen cells ≡ more_cells (cells_seen outer.cells) copy.cells
+  pub copy_named : (levels : List (Bor Level)) (cells : Option (Bor (List (List ℕ × Cell)))) → keeps_signals names_here here ≡ true
+      → levels_behind levels ≡ (out-Made copy).level ∷ levels_behind outer.names.levels.now
+      → cells_seen cells ≡ more_cells (cells_seen outer.cells) (out-Made copy).cells
       → drawn_named (sources_of outer) (entered outer levels cells) unit number (out-VgMark m) ≡ drawn
-  copy_named level levels cells found inside both =
-      (λ i. drawn_named (sources_of outer) (record (frame_seen outer) { names = names_entered outer.names level levels inside i; cells = both i })
+  copy_named levels cells keeps inside both =
+      (λ i. drawn_named (sources_of outer) (record (frame_seen outer) {
+        names = sym (names_entered_are outer.names.sources.now outer.names.levels.now m copy is levels inside) i;
+        cells = both i;
+      })
       unit number (out-VgMark m))
-      ∙ sym (named_by (sources_of outer) (frame_seen outer) unit number (out-VgMark m) copy.cells
-      (names_in_object (sources_of outer) (names_over outer.names copy.parts) here) (names_with_level outer.names level) found)
-      ∙ sym by_parts
+      ∙ sym (named_by (sources_of outer) (frame_seen outer) unit number (out-VgMark m) (out-Made copy).cells names_found names_here (kept_is true keeps))
 
 -- a group has a number below the greatest
 pub group_fits : (unit number : ℕ) (m : VgMark) → is_group (out-VgMark m) ≡ true → AreFew unit number (m ∷ []) → number + 1 < 2 ^ 32
@@ -268,10 +237,10 @@ module _ (sources : List Dataset) (named : Frame) (unit number : ℕ) (m : VgMar
 
 -- ---- copies that are left to be drawn, and what comes of them behind what there is
 
-pub record CopiesLeft (f : HeldFrame) (begun : HeldInside) (whole : Option Inside) (unit number : ℕ) (m : VgMark) (copies : List CopyOf) (out : HeldInside) : Type 0 where
-  pub sound : All (IsCopy f.names (out-VgMark m)) copies
+pub record CopiesLeft (f : HeldFrame) (begun : HeldInside) (whole : Option Inside) (unit number : ℕ) (m : VgMark) (copies : List Made) (out : HeldInside) : Type 0 where
+  pub sound : All (IsCopyMade f.names.sources.now (levels_behind f.names.levels.now) (out-VgMark m)) copies
   pub draws : option_map (and_inside (inside_seen out))
-      (option_map all_inside (all_found (map (drawn_copy (sources_of f) (frame_seen f) unit number (out-VgMark m)) (map copy_seen copies)))) ≡ whole
+      (option_map all_inside (all_found (map (drawn_copy (sources_of f) (frame_seen f) unit number (out-VgMark m)) (map made_seen copies)))) ≡ whole
   pub kept : IsInside begun → IsInside out
 
 one_and_rest : (a : Option Inside) (rest : Option (List Inside))
@@ -281,34 +250,34 @@ one_and_rest (Some x) None = refl
 one_and_rest (Some x) (Some xs) = refl
 
 module _ (f : HeldFrame) (begun : HeldInside) (whole : Option Inside) (unit number : ℕ) (m : VgMark) where
-  abbrev all_drawn : List CopyOf → Option Inside
-  all_drawn copies = option_map all_inside (all_found (map (drawn_copy (sources_of f) (frame_seen f) unit number (out-VgMark m)) (map copy_seen copies)))
+  abbrev all_drawn : List Made → Option Inside
+  all_drawn copies = option_map all_inside (all_found (map (drawn_copy (sources_of f) (frame_seen f) unit number (out-VgMark m)) (map made_seen copies)))
 
-  pub no_copies_left : (copies : List CopyOf) (out : HeldInside) → copies ≡ [] → CopiesLeft f begun whole unit number m copies out
+  pub no_copies_left : (copies : List Made) (out : HeldInside) → copies ≡ [] → CopiesLeft f begun whole unit number m copies out
       → whole ≡ Some (inside_seen out)
   no_copies_left copies out none left =
       sym left.draws ∙ ap (λ cs. option_map (and_inside (inside_seen out)) (all_drawn cs)) none ∙ ap Some (nothing_last (inside_seen out))
 
-  module _ (copies rest : List CopyOf) (copy : CopyOf) (out : HeldInside) (is : copies ≡ copy ∷ rest) (left : CopiesLeft f begun whole unit number m copies out) where
+  module _ (copies rest : List Made) (copy : Made) (out : HeldInside) (is : copies ≡ copy ∷ rest) (left : CopiesLeft f begun whole unit number m copies out) where
     next_left : CopiesLeft f begun whole unit number m (copy ∷ rest) out
     next_left = subst (λ cs. CopiesLeft f begun whole unit number m cs out) is left
 
-    pub next_copy : IsCopy f.names (out-VgMark m) copy
-    next_copy = All-head (IsCopy f.names (out-VgMark m)) copy rest next_left.sound
+    pub next_copy : IsCopyMade f.names.sources.now (levels_behind f.names.levels.now) (out-VgMark m) copy
+    next_copy = All-head (IsCopyMade f.names.sources.now (levels_behind f.names.levels.now) (out-VgMark m)) copy rest next_left.sound
 
     abbrev one_drawn : Option Inside
-    one_drawn = drawn_copy (sources_of f) (frame_seen f) unit number (out-VgMark m) (copy_seen copy)
+    one_drawn = drawn_copy (sources_of f) (frame_seen f) unit number (out-VgMark m) (made_seen copy)
 
     all_is : option_map (and_inside (inside_seen out)) (and_rest one_drawn (all_drawn rest)) ≡ whole
     all_is =
         ap (option_map (and_inside (inside_seen out)))
-        (sym (one_and_rest one_drawn (all_found (map (drawn_copy (sources_of f) (frame_seen f) unit number (out-VgMark m)) (map copy_seen rest)))))
+        (sym (one_and_rest one_drawn (all_found (map (drawn_copy (sources_of f) (frame_seen f) unit number (out-VgMark m)) (map made_seen rest)))))
         ∙ next_left.draws
 
     pub copy_drawn : (new : HeldInside) → option_map (and_inside (inside_seen out)) one_drawn ≡ Some (inside_seen new) → (IsInside out → IsInside new)
         → CopiesLeft f begun whole unit number m rest new
     copy_drawn new drawn keeps = record {
-      sound = All-tail (IsCopy f.names (out-VgMark m)) copy rest next_left.sound;
+      sound = All-tail (IsCopyMade f.names.sources.now (levels_behind f.names.levels.now) (out-VgMark m)) copy rest next_left.sound;
       draws = behind_both (inside_seen out) one_drawn (all_drawn rest) (inside_seen new) drawn ∙ all_is;
       kept = λ inside. keeps (next_left.kept inside);
     }
@@ -319,19 +288,17 @@ module _ (f : HeldFrame) (begun : HeldInside) (whole : Option Inside) (unit numb
         none_drawn old all (sym is ∙ sym all_is ∙ none_behind (inside_seen out) one_drawn (all_drawn rest) none)
     copy_ends error.Memory after before new old all is none = tt
 
--- the copies that were found
-pub copies_begun : (f : HeldFrame) (out : HeldInside) (unit number : ℕ) (m : VgMark) (found items : List CopyOf) → items ≡ found
-    → map copy_seen found ≡ copies_of (frame_seen f).names.lists (group_object 0 (out-VgMark m)) → All (IsCopy f.names (out-VgMark m)) found
+-- the copies that were made
+pub copies_begun : (f : HeldFrame) (out : HeldInside) (unit number : ℕ) (m : VgMark) (found : CopiesMade) (items : List Made) → items ≡ (out-CopiesMade found).copies
+    → is_group (out-VgMark m) ≡ true → OneMade f.names.sources.now (levels_behind f.names.levels.now) m found
     → CopiesLeft f out (option_map (and_inside (inside_seen out)) (drawn_group (sources_of f) (frame_seen f) unit number (out-VgMark m))) unit number m items out
-copies_begun f out unit number m found items is reads sound = record {
-  sound = subst (All (IsCopy f.names (out-VgMark m))) (sym is) sound;
+copies_begun f out unit number m found items is e one = record {
+  sound =
+      subst (All (IsCopyMade f.names.sources.now (levels_behind f.names.levels.now) (out-VgMark m))) (sym is)
+      (each_copy_made f.names.sources.now f.names.levels.now m found e one);
   draws =
       ap (λ cs. option_map (and_inside (inside_seen out))
       (option_map all_inside (all_found (map (drawn_copy (sources_of f) (frame_seen f) unit number (out-VgMark m)) cs))))
-      (ap (map copy_seen) is ∙ reads);
+      (ap (map made_seen) is ∙ copies_are f.names.sources.now f.names.levels.now m found e one 0);
   kept = λ inside. inside;
 }
-
--- nothing is left where none is counted
-pub none_left : (copies : IntoIter CopyOf Global) → into_iter_len copies ≡ 0 → into_iter_items copies ≡ []
-none_left copies e = nil_from_length copies.rest.items (sym copies.rest.ok.0 ∙ e)

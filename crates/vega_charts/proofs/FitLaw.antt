@@ -1,8 +1,8 @@
 -- Where the test of folds holds, they fit.
-use Rattle.std.proofs.Common.{◌≡◌, ℕ, ◌*◌, ◌≤◌, ◌&&◌, Bool, true, false, if◌then◌else◌, List, [], ◌∷◌, Option, Some, None, nat_le, refl, sym, ap, subst, ◌∙◌, arith}
+use Rattle.std.proofs.Common.{◌≡◌, ℕ, ◌*◌, ◌≤◌, Bool, true, false, if◌then◌else◌, List, [], ◌∷◌, Option, Some, None, nat_le, refl, sym, ap, subst, ◌∙◌, arith}
 use Rattle.std.specs.Option.{option_map, option_map_or}
 use Rattle.std.specs.List.{All}
-use Rattle.std.proofs.lemmas.Bool.{false≢true}
+use Rattle.std.proofs.lemmas.Bool.{false≢true, and_parts as both}
 use Rattle.std.proofs.lemmas.Bool.Decides.{nat_tests}
 use Rattle.std.proofs.lemmas.Option.{same_Some}
 use Rattle.std.proofs.lemmas.List.Elements.{All-cons, All-nil}
@@ -15,7 +15,7 @@ use Rattle.vega_charts.specs.Outlines.{Marks, NoMarks, AMark, AGroup}
 use Rattle.vega_charts.specs.Built.{products_in_copy, FoldsFitIn}
 use Rattle.vega_charts.specs.Fitting.{fitted, products_fitted, folds_fit_in, folds_fit}
 
-abbrev is_small : ℕ → Type 0
+abbrev pub is_small : ℕ → Type 0
 is_small product = product ≤ most_folded
 
 small : (n : ℕ) → true ≡ nat_le n most_folded → n ≤ most_folded
@@ -64,10 +64,6 @@ one_object : (products : Products) (sets : List DataSet) (inside : Marks) (found
 one_object products sets inside None is e rest = absurd (false≢true e)
 one_object products sets inside (Some next) is e rest =
     let h = sets_fit products sets next (sym is) in (h.0, subst (λ after. FoldsFitIn after inside) h.1 (rest next e))
-
-both : (a b : Bool) → (a && b) ≡ true → (a ≡ true) × (b ≡ true)
-both true b e = (refl, e)
-both false b e = absurd (false≢true e)
 
 marks_fit : (products : Products) (marks : Marks) → folds_fit_in products marks ≡ true → FoldsFitIn products marks
 marks_fit products NoMarks e = tt

@@ -13,7 +13,10 @@ pub mod DrawnLemmas
 pub mod EnteredLemmas
 pub mod SizeLemmas
 pub mod PlotLemmas
+pub mod HeaderLemmas
+pub mod LayoutLemmas
 pub mod GridLemmas
+pub mod ViewLemmas
 pub mod StandLemmas
 pub mod TopLaws
 pub mod TopLemmas
@@ -27,4 +30,4 @@ pub mod PassLaw
 pub mod ItemOrder
 pub mod OnePlot
 pub mod OnePlotLaw
-pub mod OrderLemmas
+pub mod MadeLemmas

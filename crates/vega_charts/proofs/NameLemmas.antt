@@ -1,6 +1,6 @@
 -- What levels of names stand for.
-use Rattle.std.proofs.Common.{◌≡◌, ℕ, Bool, true, false, cond, Option, Some, None, List, [], ◌∷◌, find, map, refl, sym, ap, ◌∙◌}
-use Rattle.std.specs.Prelude.{unwrap_or, ◌<◌, ◌+◌, length, All, Result, Err, drop, get_or}
+use Rattle.std.proofs.Common.{◌≡◌, ℕ, Bool, true, false, cond, Option, Some, None, List, [], ◌∷◌, map, refl, sym, ap, ◌∙◌}
+use Rattle.std.specs.Prelude.{unwrap_or, ◌<◌, ◌+◌, length, Err, drop, get_or}
 use Rattle.std.specs.List.{list_any}
 use Rattle.std.proofs.lemmas.List.{drop_more}
 use Rattle.std.proofs.lemmas.List.Elements.{All-head, All-tail}
@@ -12,7 +12,6 @@ use Rattle.cell_value.specs.Datum.{CellAt}
 use Rattle.cell_value.specs.declared.state.Keyed.{Keyed}
 use Rattle.cell_value.specs.declared.state.Named.{Named}
 use Rattle.vega_lists.specs.Inside.{RowsByName, rows_held}
-use Rattle.cell_value.specs.declared.cell.Cell.{Cell}
 use Rattle.cell_value.specs.State.{dataset_of}
 use Rattle.expr_eval.specs.Answers.{Evaluates}
 use Rattle.expr_eval.specs.declared.error.EvalError.{EvalError}

@@ -1,12 +1,12 @@
 -- Marks of a specification as outlines.
-use Rattle.std.proofs.Common.{◌≡◌, ℕ, zero, suc, ◌+◌, Bool, true, false, Option, Some, None, List, [], ◌∷◌, map, refl, sym, ap, ◌∙◌, arith}
+use Rattle.std.proofs.Common.{◌≡◌, ℕ, zero, suc, ◌+◌, Bool, true, false, Option, Some, None, List, [], ◌∷◌, refl, ap, ◌∙◌, arith}
 use Rattle.std.specs.Prelude.{unwrap_or}
 use native.Mathlib.Numerals.{unary_clauses}
 use Rattle.vega_spec.specs.declared.marks.MarkType.TheVariants as mark
-use Rattle.vega_spec.specs.declared.spec.Group.{Group, Group-F, out-Group, map-Group, fold_out-Group}
+use Rattle.vega_spec.specs.declared.spec.Group.{Group, out-Group, map-Group, fold_out-Group}
 use Rattle.vega_spec.specs.declared.spec.Group.TheShapes.{former-Group-marks}
 use Rattle.vega_spec.specs.declared.spec.VgMark.{VgMark, VgMark-F, out-VgMark, map-VgMark, fold_out-VgMark}
-use Rattle.vega_charts.specs.Outlines.{Object, Opened, Before, Marks, NoMarks, AMark, AGroup, object_here, group_here, mark_here, mark_of_type, opened, in_a_row, facet_in}
+use Rattle.vega_charts.specs.Outlines.{Opened, Before, Marks, NoMarks, AMark, AGroup, object_here, group_here, mark_here, mark_of_type, opened, in_a_row, facet_in}
 use Rattle.vega_charts.specs.Outlines.{PlainMark, numbered, count_marks, count_groups, first_unit}
 use Rattle.vega_spec.specs.declared.marks.MarkType.{MarkType}
 use Rattle.std.specs.Option.{option_or}

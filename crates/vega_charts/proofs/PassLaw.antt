@@ -6,7 +6,7 @@ use Rattle.std.specs.Option.{option_map, option_map_or}
 use Rattle.std.specs.List.{All, AllPairs, list_all, list_any}
 use Rattle.std.specs.Str.{bytes_eq}
 use Rattle.std.proofs.lemmas.Int.{ints}
-use Rattle.std.proofs.lemmas.Bool.{false≢true}
+use Rattle.std.proofs.lemmas.Bool.{false≢true, and_from as both, and_parts as parts}
 use Rattle.std.proofs.lemmas.Bool.Decides.{nat_tests}
 use Rattle.std.proofs.lemmas.List.Elements.{All-head, All-tail}
 use Rattle.std.proofs.lemmas.Slice.Eq.{bytes_eq-Decides}
@@ -14,12 +14,10 @@ use Rattle.fixed_num.specs.Number.{million}
 use Rattle.fixed_num.specs.Ranges.{◌>>=◌, is_within}
 use Rattle.vega_spec.specs.declared.data.DataSet.{DataSet}
 use Rattle.vega_spec.specs.declared.transforms.Transform.{Transform}
-use Rattle.vega_spec.specs.declared.guides.Axis.{Axis}
 use Rattle.vega_spec.specs.declared.guides.Layout.{Layout}
 use Rattle.vega_spec.specs.declared.scales.Scale.{Scale as VegaScale}
 use Rattle.vega_spec.specs.declared.spec.Size.{Size}
 use Rattle.vega_spec.specs.declared.spec.Size.TheVariants as size
-use Rattle.vega_spec.specs.declared.spec.VgSpec.{VgSpec}
 use Rattle.vega_spec.specs.Names.{sources_of}
 use Rattle.vega_lists.specs.Transforms.{transforms_of, is_kept, OfTransforms}
 use Rattle.vega_lists.specs.Products.{Products, no_folds, fold_length, fold_product, fold_products, most_folded, ProductsFit, FoldsFit, with_product, begun_product, and_its_product, products_after}
@@ -29,19 +27,12 @@ use Rattle.vega_scales.specs.Scales as scaling
 use Rattle.vega_guides.specs.Plots.{is_kept_axis}
 use Rattle.vega_guides.specs.Shown.{IsAxis, IsCount}
 use Rattle.vega_charts.specs.Sizes.{IsSizeKept}
-use Rattle.vega_charts.specs.Outlines.{Object, Opened, Marks, NoMarks, AMark, AGroup, outline_of, count_marks, count_groups}
-use Rattle.vega_charts.specs.Built.{is_plain_object, are_plain, products_in_copy, IsBuilt, FoldsFitIn, KeepsObject, KeepsMarks, KeepsRules}
+use Rattle.vega_charts.specs.Outlines.{Object, Marks, NoMarks, AMark, AGroup, outline_of, count_marks, count_groups}
+use Rattle.vega_charts.specs.Built.{is_plain_object, are_plain, products_in_copy, FoldsFitIn, KeepsObject, KeepsMarks}
 use Rattle.vega_charts.specs.Fitting.{fitted, products_fitted, folds_fit_in, folds_fit}
 use Rattle.vega_charts.specs.Tested.{is_padding, is_pixel, is_range, is_set, has_places, is_scale, is_count, has_columns, is_size, is_space}
-use Rattle.vega_charts.specs.Tested.{is_object, are_objects, are_few, is_outline, has_sizes, are_new, is_chart, ChartsPass}
-
-both : (a b : Bool) → a ≡ true → b ≡ true → (a && b) ≡ true
-both true b e f = f
-both false b e f = e
-
-parts : (a b : Bool) → (a && b) ≡ true → (a ≡ true) × (b ≡ true)
-parts true b e = (refl, e)
-parts false b e = absurd (false≢true e)
+use Rattle.vega_charts.specs.Tested.{is_object, are_objects, are_few, is_outline, has_sizes, are_new, ChartsPass}
+use Rattle.vega_charts.proofs.FitLaw.{is_small}
 
 -- where each has a property, each passes a test
 each : {X : Type 0} (p : X → Bool) (P : X → Type 0) → ((x : X) → P x → p x ≡ true) → (xs : List X) → All P xs → list_all p xs ≡ true
@@ -126,9 +117,6 @@ few n h = grind (arith, nat_tests)
 
 small : (n : ℕ) → n ≤ most_folded → nat_le n most_folded ≡ true
 small n h = grind (arith, nat_tests)
-
-abbrev is_small : ℕ → Type 0
-is_small product = product ≤ most_folded
 
 found : (before : ℕ) (ts : List Transform) → ProductsFit before ts → fitted before ts ≡ Some (fold_product before ts)
 found before [] h = refl

@@ -7,17 +7,15 @@ use Rattle.cell_value.specs.declared.state.Keyed.{Keyed}
 use Rattle.cell_value.specs.declared.state.Named.{Named}
 use Rattle.cell_value.specs.Datum.{datum_of}
 use Rattle.cell_value.specs.State.{Dataset, dataset_of}
-use Rattle.expr_eval.specs.Values.{Values}
-use Rattle.expr_eval.specs.Plain.{no_values}
 use Rattle.fixed_num.specs.Ranges.{◌>>=◌, all_found}
 use Rattle.vega_spec.specs.declared.spec.Group.{out-Group}
 use Rattle.vega_spec.specs.declared.spec.VgMark.{VgMark, out-VgMark}
 use Rattle.vega_lists.specs.Held.{AreAllRows, scope_read}
-use Rattle.vega_lists.specs.Inside.{RowsByName, no_rows, rows_inside, AllKeysFit, SetsMayFold}
+use Rattle.vega_lists.specs.Inside.{RowsByName, rows_inside, AllKeysFit, SetsMayFold}
 use Rattle.vega_lists.specs.Products.{Products, products_after}
 use Rattle.vega_lists.specs.Scopes.{Scope}
 use Rattle.vega_lists.specs.Transforms.{OfTransforms, is_kept}
-use Rattle.vega_signals.specs.Lost.{IsLost, is_among}
+use Rattle.vega_signals.specs.Lost.{is_among}
 use Rattle.vega_signals.specs.Settling.{values_inside}
 use Rattle.vega_signals.specs.Signals.{data_of}
 use Rattle.vega_charts.specs.declared.copies.CopyOf.{CopyOf}
@@ -32,7 +30,9 @@ use Rattle.vega_charts.specs.Built.{KeepsObject, KeepsMarks, FoldsFitIn, product
 use Rattle.vega_charts.specs.inner.Levels.{parts_over, rows_at, values_at, lost_at, names_at, names_over, names_with_level, rows_with_level, kept_names, AreNames, AreLevels}
 use Rattle.vega_charts.specs.inner.Copied.{copy_seen, IsCopy}
 use Rattle.vega_charts.specs.inner.Outlined.{marks_in, marks_of, is_group, plain_of, group_object, object_numbered, AreFew}
-use Rattle.vega_charts.specs.inner.Drawn.{MayStand, MarksMayFold, scaled_in}
+use Rattle.vega_charts.specs.inner.Drawn.{scaled_in}
+use Rattle.vega_charts.specs.inner.Made.{levels_behind, rows_under, values_under, lost_under}
+use Rattle.vega_charts.specs.inner.Standing.{MayStand, MarksMayFold}
 use Rattle.vega_charts.proofs.OutlineLemmas.{plain_first, group_first, counted_first, grouped_first, group_counted, group_grouped}
 
 -- ---- the first of some marks, the others, and those in a group
@@ -149,6 +149,12 @@ object_alone number m kept = record {
   columns = kept.columns;
 }
 
+-- the marks in a group
+pub marks_kept : (rows : RowsByName) (m : VgMark) → is_group (out-VgMark m) ≡ true → MayStand rows (m ∷ [])
+    → KeepsMarks (marks_of (marks_in (out-Group (out-VgMark m).group)))
+marks_kept rows m e stand =
+    kept_below (group_object 0 (out-VgMark m)) (marks_of (marks_in (out-Group (out-VgMark m).group))) NoMarks (as_group KeepsMarks m e stand.kept)
+
 -- the data sets of a group
 pub sets_kept : (rows : RowsByName) (m : VgMark) → is_group (out-VgMark m) ≡ true → MayStand rows (m ∷ [])
     → All (OfTransforms is_kept) (data_of (out-Group (out-VgMark m).group))
@@ -171,43 +177,32 @@ sets_fold names m copy e stand sound = by_folds stand.folds
 
 -- ---- one more level of names
 
-abbrev rows_by : List Named → List Level → RowsByName
-rows_by sources [] = no_rows
-rows_by sources (level ∷ outer) = rows_inside sources (parts_over level.parts (rows_by sources outer)) level.lists
+pub rows_are_under : (sources : List Named) (levels : List (Bor Level)) → rows_at sources levels ≡ rows_under sources (levels_behind levels)
+rows_are_under sources [] = refl
+rows_are_under sources (level ∷ outer) =
+    ap (λ (rows : RowsByName). rows_inside sources (parts_over level.now.parts rows) level.now.lists) (rows_are_under sources outer)
 
-abbrev values_by : List Level → Values
-values_by [] = no_values
-values_by (level ∷ outer) = values_inside level.signals (values_by outer)
+pub values_are_under : (levels : List (Bor Level)) → values_at levels ≡ values_under (levels_behind levels)
+values_are_under [] = refl
+values_are_under (level ∷ outer) = ap (values_inside level.now.signals) (values_are_under outer)
 
-abbrev lost_by : List Level → IsLost
-lost_by [] = λ name. false
-lost_by (level ∷ outer) = is_among level.lost
-
-rows_are : (sources : List Named) (levels : List (Bor Level)) → rows_at sources levels ≡ rows_by sources (map (λ l. l.now) levels)
-rows_are sources [] = refl
-rows_are sources (level ∷ outer) =
-    ap (λ (rows : RowsByName). rows_inside sources (parts_over level.now.parts rows) level.now.lists) (rows_are sources outer)
-
-values_are : (levels : List (Bor Level)) → values_at levels ≡ values_by (map (λ l. l.now) levels)
-values_are [] = refl
-values_are (level ∷ outer) = ap (values_inside level.now.signals) (values_are outer)
-
-lost_are : (levels : List (Bor Level)) → lost_at levels ≡ lost_by (map (λ l. l.now) levels)
-lost_are [] = refl
-lost_are (level ∷ outer) = refl
+pub lost_are_under : (levels : List (Bor Level)) → lost_at levels ≡ lost_under (levels_behind levels)
+lost_are_under [] = refl
+lost_are_under (level ∷ outer) = refl
 
 module _ (outer : NamesAt) (level : Level) (levels : List (Bor Level)) (more : map (λ l. l.now) levels ≡ level ∷ map (λ l. l.now) outer.levels.now) where
   pub rows_entered : rows_at outer.sources.now levels ≡ rows_with_level outer level
   rows_entered =
-      rows_are outer.sources.now levels ∙ ap (rows_by outer.sources.now) more
+      rows_are_under outer.sources.now levels ∙ ap (rows_under outer.sources.now) more
       ∙ ap (λ (rows : RowsByName). rows_inside outer.sources.now (parts_over level.parts rows) level.lists)
-      (sym (rows_are outer.sources.now outer.levels.now))
+      (sym (rows_are_under outer.sources.now outer.levels.now))
 
   values_entered : values_at levels ≡ values_inside level.signals (values_at outer.levels.now)
-  values_entered = values_are levels ∙ ap values_by more ∙ ap (values_inside level.signals) (sym (values_are outer.levels.now))
+  values_entered =
+      values_are_under levels ∙ ap values_under more ∙ ap (values_inside level.signals) (sym (values_are_under outer.levels.now))
 
   lost_entered : lost_at levels ≡ is_among level.lost
-  lost_entered = lost_are levels ∙ ap lost_by more
+  lost_entered = lost_are_under levels ∙ ap lost_under more
 
   pub names_entered : names_at outer.sources.now levels ≡ names_with_level outer level
   names_entered = λ i. record { lists = scope_read (rows_entered i); values = values_entered i; is_lost = lost_entered i }
@@ -215,27 +210,24 @@ module _ (outer : NamesAt) (level : Level) (levels : List (Bor Level)) (more : m
   pub levels_entered : AreNames outer → AreAllRows (rows_with_level outer level) → AreLevels outer.sources.now levels
   levels_entered names rows = record { sources_are = names.sources_are; rows = subst AreAllRows (sym rows_entered) rows }
 
-  -- the marks in a group may stand in a copy of it
-  pub stand_inside : (m : VgMark) (copy : CopyOf) → is_group (out-VgMark m) ≡ true
-      → MayStand (rows_at outer.sources.now outer.levels.now) (m ∷ []) → IsCopy outer (out-VgMark m) copy
-      → ((products : Products) → AllKeysFit products (parts_over copy.parts (rows_at outer.sources.now outer.levels.now))
-      → AllKeysFit (products_after products (data_of (out-Group (out-VgMark m).group))) (rows_with_level outer level))
-      → MayStand (rows_at outer.sources.now levels) (marks_in (out-Group (out-VgMark m).group))
-  stand_inside m copy e stand sound after =
-      record { kept = kept_below (group_object 0 (out-VgMark m)) (marks_of (marks_in (out-Group (out-VgMark m).group))) NoMarks (as_group KeepsMarks m e stand.kept); folds = by_folds stand.folds }
-    where
-      by_fit : (products : Products) → AllKeysFit products (rows_at outer.sources.now outer.levels.now)
-          → FoldsFitIn products (AGroup (group_object 0 (out-VgMark m)) (marks_of (marks_in (out-Group (out-VgMark m).group))) NoMarks)
-          → MarksMayFold (rows_at outer.sources.now levels) (marks_of (marks_in (out-Group (out-VgMark m).group)))
-      by_fit products keys (fit, below, rest) =
-          let here = products_in_copy (facet_in (out-VgMark m).from) products in (
-            products_after here (data_of (out-Group (out-VgMark m).group)),
-            subst (AllKeysFit (products_after here (data_of (out-Group (out-VgMark m).group)))) (sym rows_entered) (after here (sound.folds products keys)),
-            below,
-          )
+-- the marks in a group may stand in a copy of it
+pub stand_inside : (outer : NamesAt) (level : Level) (m : VgMark) (copy : CopyOf) → is_group (out-VgMark m) ≡ true
+    → MayStand (rows_at outer.sources.now outer.levels.now) (m ∷ []) → IsCopy outer (out-VgMark m) copy
+    → ((products : Products) → AllKeysFit products (parts_over copy.parts (rows_at outer.sources.now outer.levels.now))
+    → AllKeysFit (products_after products (data_of (out-Group (out-VgMark m).group))) (rows_with_level outer level))
+    → MayStand (rows_with_level outer level) (marks_in (out-Group (out-VgMark m).group))
+stand_inside outer level m copy e stand sound after = record { kept = marks_kept (rows_at outer.sources.now outer.levels.now) m e stand; folds = by_folds stand.folds }
+  where
+    by_fit : (products : Products) → AllKeysFit products (rows_at outer.sources.now outer.levels.now)
+        → FoldsFitIn products (AGroup (group_object 0 (out-VgMark m)) (marks_of (marks_in (out-Group (out-VgMark m).group))) NoMarks)
+        → MarksMayFold (rows_with_level outer level) (marks_of (marks_in (out-Group (out-VgMark m).group)))
+    by_fit products keys (fit, below, rest) =
+        let here = products_in_copy (facet_in (out-VgMark m).from) products in
+        (products_after here (data_of (out-Group (out-VgMark m).group)), after here (sound.folds products keys), below)
 
-      by_folds : MarksMayFold (rows_at outer.sources.now outer.levels.now) (marks_of (m ∷ [])) → MarksMayFold (rows_at outer.sources.now levels) (marks_of (marks_in (out-Group (out-VgMark m).group)))
-      by_folds (products, keys, fit) = by_fit products keys (as_group (FoldsFitIn products) m e fit)
+    by_folds : MarksMayFold (rows_at outer.sources.now outer.levels.now) (marks_of (m ∷ []))
+        → MarksMayFold (rows_with_level outer level) (marks_of (marks_in (out-Group (out-VgMark m).group)))
+    by_folds (products, keys, fit) = by_fit products keys (as_group (FoldsFitIn products) m e fit)
 
 -- ---- a copy, by its names
 

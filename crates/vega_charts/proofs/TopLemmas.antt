@@ -26,6 +26,7 @@ use Rattle.vega_spec.specs.declared.guides.Layout.{Layout}
 use Rattle.vega_spec.specs.declared.spec.Group.{out-Group}
 use Rattle.vega_spec.specs.declared.spec.VgSpec.{VgSpec}
 use Rattle.vega_charts.specs.declared.names.Level.{Level}
+use Rattle.vega_charts.specs.declared.made.CopiesMade.{CopiesMade}
 use Rattle.vega_charts.specs.declared.names.NamesAt.{NamesAt}
 use Rattle.vega_charts.specs.declared.scales.ScaleHere.{ScaleHere as HeldScale}
 use Rattle.vega_charts.specs.Outlines.{Marks, NoMarks, AMark, AGroup, Opened, outline_of, numbered, count_marks, count_groups}
@@ -40,7 +41,7 @@ use Rattle.vega_charts.specs.inner.Levels.{rows_at, names_at}
 use Rattle.vega_charts.specs.inner.Framed.{IsFrame}
 use Rattle.vega_charts.specs.inner.Kept.{scale_seen, IsFitHere, IsKeptScale, AreKeptScales}
 use Rattle.vega_charts.specs.inner.Outlined.{marks_in, marks_of, AreFew}
-use Rattle.vega_charts.specs.inner.Drawn.{MayStand}
+use Rattle.vega_charts.specs.inner.Standing.{MayStand}
 use Rattle.vega_charts.specs.inner.Topped.{top_of, held_top, top_seen, scaled_plot, scaled_grid, IsTop, drawn_view, drawn_plot, sized_plot, grid_with_axes, rows_on_top, names_on_top}
 use Rattle.vega_charts.proofs.OutlineLemmas.{opened_object, opened_marks}
 
@@ -147,8 +148,8 @@ names_alike sources (l ∷ other ∷ others) level e = absurd (cc)
 
 -- ---- the top as a copy
 
-pub top_is_frame : (g : VgSpec) (names : NamesAt) (scales : Bor (List HeldScale)) (set : Bor ScaleSet) (w h : ℤ) → IsTop g names scales.now
-    → set.now ≡ set_of w h (map scale_seen scales.now) → AreScales set.now → IsPixel w → IsPixel h → IsFrame (held_top names scales set w h)
+pub top_is_frame : {made : List CopiesMade} (g : VgSpec) (names : NamesAt) (scales : Bor (List HeldScale)) (set : Bor ScaleSet) (w h : ℤ)
+    → IsTop g names scales.now made → set.now ≡ set_of w h (map scale_seen scales.now) → AreScales set.now → IsPixel w → IsPixel h → IsFrame (held_top names scales set w h)
 top_is_frame g names scales set w h top is sound wide high =
     record { names = top.names; scales = top.scales; set = is; sound = sound; width = wide; height = high }
 

@@ -3,17 +3,17 @@ use Rattle.std.proofs.Common.{◌≡◌, ℕ, suc, ◌+◌, ◌-◌, ◌^◌, �
 use Rattle.std.specs.Option.{option_map_or}
 use Rattle.std.proofs.lemmas.List.{drop_more}
 use Rattle.std.proofs.lemmas.Bool.Decides.{nat_tests}
-use Rattle.vega_spec.specs.declared.spec.Group.{Group, out-Group}
+use Rattle.vega_spec.specs.declared.spec.Group.{out-Group}
 use Rattle.vega_spec.specs.declared.spec.VgMark.{VgMark, out-VgMark}
 use Rattle.vega_spec.specs.declared.spec.VgSpec.{VgSpec}
 use Rattle.vega_lists.specs.Products.{Products, no_folds}
-use Rattle.vega_charts.specs.Outlines.{Opened, Marks, NoMarks, AMark, AGroup, opened, outline_of, object_here, numbered, count_marks, count_groups}
+use Rattle.vega_charts.specs.Outlines.{Marks, NoMarks, AMark, AGroup, opened, outline_of, object_here, numbered, count_marks, count_groups}
 use Rattle.vega_charts.specs.Built.{products_in_copy}
 use Rattle.vega_charts.specs.Fitting.{products_fitted, folds_fit_in, folds_fit}
 use Rattle.vega_charts.specs.Tested.{is_object, are_objects, are_few, is_outline}
 use Rattle.vega_charts.specs.inner.Outlined.{marks_in, is_group, marks_of}
 use Rattle.vega_charts.specs.inner.Tested.{group_folds_fit, group_is_kept}
-use Rattle.vega_charts.proofs.OutlineLemmas.{plain_first, group_first, opened_object, opened_marks, counted_first, grouped_first, group_counted, group_grouped}
+use Rattle.vega_charts.proofs.OutlineLemmas.{plain_first, group_first, opened_object, opened_marks, group_counted, group_grouped}
 
 and_true : (a : Bool) → (a && true) ≡ a
 and_true true = refl

@@ -1,5 +1,4 @@
 -- Items in the order of their marks.
-use Rattle.std.specs.Ordering.{nat_cmp}
 use Rattle.std.specs.Cmp.{IsTotalOrder, on_total, nat_cmp_total}
 use Rattle.vega_charts.specs.Items.{unit_of, by_unit}
 

@@ -1,5 +1,5 @@
 -- Which specifications have a meaning so far: those without selections; and what those keep that break no rule.
-use Rattle.std.specs.Prelude.{◌≡◌, ◌≢◌, refl, ◌+◌, ◌<◌, ◌^◌, ◌*◌, ℕ, ◌&&◌, Bool, true, false, IsTrue, Option, Some, None, List, [], ◌∷◌, ◌≤ℤ◌, pos, zip}
+use Rattle.std.specs.Prelude.{◌≡◌, ◌≢◌, refl, ◌+◌, ◌<◌, ◌^◌, ◌*◌, ℕ, ◌&&◌, Bool, true, IsTrue, Option, Some, None, List, [], ◌∷◌, ◌≤ℤ◌, pos, zip}
 use Rattle.std.specs.Prelude.{is_none, unwrap_or, IfSome, codes}
 use Rattle.std.specs.List.{All, AllPairs, list_all}
 use Rattle.fixed_num.specs.Number.{million}
@@ -17,7 +17,7 @@ use Rattle.vega_spec.specs.declared.guides.Layout.{Layout}
 use Rattle.fixed_num.specs.Ranges.{◌>>=◌}
 use Rattle.vega_guides.specs.Shown.{IsAxis, IsCount}
 use Rattle.vega_charts.specs.Sizes.{IsSizeKept}
-use Rattle.vega_charts.specs.Outlines.{Object, Marks, NoMarks, AMark, AGroup, Opened, outline_of, count_marks, count_groups}
+use Rattle.vega_charts.specs.Outlines.{Object, Marks, NoMarks, AMark, AGroup, outline_of, count_marks, count_groups}
 
 -- a signal that does nothing on events is no selection
 abbrev pub is_plain : Signal → Bool

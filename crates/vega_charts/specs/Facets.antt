@@ -4,10 +4,11 @@ use Rattle.std.specs.Prelude.{if◌then◌else◌}
 use Rattle.std.specs.Option.{option_map, option_map_or}
 use Rattle.fixed_num.specs.Ranges.{◌>>=◌}
 use Rattle.cell_value.specs.declared.cell.Cell.{Cell}
+use Rattle.cell_value.specs.declared.cell.Cell.TheVariants.{Null, Text}
 use Rattle.cell_value.specs.Datum.{Datum}
 use Rattle.cell_value.specs.State.{Dataset}
 use Rattle.plain_facets.specs.declared.copies.DividedBy.{DividedBy}
-use Rattle.plain_facets.specs.Facets.{part_of, cells_of_fields, cells_of_copies, four_rows}
+use Rattle.plain_facets.specs.Facets.{part_of, cells_of_fields, cells_of_copies, a_row, four_rows}
 use Rattle.vega_spec.specs.declared.marks.Cross.{Cross}
 use Rattle.vega_spec.specs.declared.marks.Facet.{Facet}
 use Rattle.vega_spec.specs.declared.orders.Sort.{Sort}
@@ -112,3 +113,34 @@ one_column_for_each_cell_of_the_second : (columns_across the_list (record bare {
     × (columns_across the_list (record bare { facet = Some (by a_and_b None) }) ≡ None)
     × (columns_across the_list (record bare { facet = Some (by (codes "a" ∷ []) (Some true)) }) ≡ None)
 one_column_for_each_cell_of_the_second = (refl, refl, refl)
+
+-- a row with texts in `a` and `b`
+abbrev texts_in_row : ℕ → List ℕ → List ℕ → Datum
+texts_in_row id a b = a_row id (Text a) (Text b) Null
+
+-- two lists: the cells stand list after list, and each name has the rows of its list
+abbrev both_lists : Scope
+both_lists = with_list (codes "u") (texts_in_row 5 (codes "z") (codes "p") ∷ texts_in_row 6 (codes "y") (codes "q") ∷ []) the_list
+
+abbrev by_both : Facet
+by_both = record (by (codes "a" ∷ []) None) {
+  name = texts.Several (codes "in" ∷ codes "out" ∷ []);
+  data_ = texts.Several (codes "u" ∷ codes "t" ∷ []);
+}
+
+abbrev ids_of_parts : Copy → List (List ℕ)
+ids_of_parts c = map (λ (part : Dataset). map (λ (row : Datum). row.key.id) part.rows) c.parts
+
+the_parts_of_two_lists : map ids_of_parts (copies_of both_lists (record bare { facet = Some by_both }))
+    ≡ ((5 ∷ []) ∷ (4 ∷ []) ∷ []) ∷ ((6 ∷ []) ∷ (1 ∷ 3 ∷ []) ∷ []) ∷ ([] ∷ (2 ∷ []) ∷ []) ∷ []
+the_parts_of_two_lists = refl
+
+-- how many copies a facet of a copy's part makes
+abbrev copies_within : Copy → ℕ
+copies_within c =
+    length (copies_of (with_parts c.parts the_list)
+    (record bare { facet = Some (record (by (codes "b" ∷ []) None) { data_ = texts.One (codes "part") }) }))
+
+-- its cells are those of that part, and not those of all rows
+facets_in_facets : map copies_within (copies_of the_list (record bare { facet = Some (by (codes "a" ∷ []) None) })) ≡ 2 ∷ 1 ∷ 1 ∷ []
+facets_in_facets = refl

@@ -3,7 +3,7 @@ use Rattle.std.specs.Prelude.{◌≡◌, refl, ℕ, ◌+◌, ◌*◌, max, Bool,
 use Rattle.std.specs.Prelude.{List, [], ◌∷◌, ◌++◌, map, filter_map, length, zip, unwrap_or, is_some, codes, if◌then◌else◌}
 use Rattle.std.specs.Option.{option_map_or}
 use Rattle.fixed_num.specs.Number.{million}
-use Rattle.fixed_num.specs.Ranges.{◌>>=◌, all_found}
+use Rattle.fixed_num.specs.Ranges.{◌>>=◌}
 use Rattle.cell_value.specs.declared.cell.Cell.{Cell}
 use Rattle.cell_value.specs.declared.cell.Cell.TheVariants.{Number, Text}
 use Rattle.cell_value.specs.Display.{display_of}

@@ -1,6 +1,6 @@
 -- The plots and grids that a specification draws.
-use Rattle.std.specs.Prelude.{◌≡◌, refl, ℕ, ◌+◌, ◌*◌, not, ℤ, pos, Option, Some, None, List, [], ◌∷◌, ◌++◌, map, flat_map}
-use Rattle.std.specs.Prelude.{length, unwrap_or, codes, if◌then◌else◌}
+use Rattle.std.specs.Prelude.{◌≡◌, refl, ℕ, ◌+◌, ◌*◌, true, not, ℤ, pos, Option, Some, None, List, [], ◌∷◌, ◌++◌, map, flat_map}
+use Rattle.std.specs.Prelude.{length, unwrap_or, codes}
 use Rattle.std.specs.Option.{option_map}
 use Rattle.std.specs.List.{filter, filter_map, enumerate_from}
 use Rattle.fixed_num.specs.Number.{million}
@@ -23,10 +23,11 @@ use Rattle.plain_facets.specs.Facets.{four_rows}
 use Rattle.vega_charts.specs.Facets.{by, copies_of}
 use Rattle.scene_tree.specs.declared.scene.Item.{Item}
 use Rattle.vega_charts.specs.Items.{items_in_copy, in_unit_order}
-use Rattle.vega_charts.specs.Scales.{ScaleHere, laid_over, scale_in, scale_named, AxisHere, axes_here, stands}
+use Rattle.vega_charts.specs.Scales.{ScaleHere, laid_over, scale_in, scale_named, AxisHere, axes_here, stands, a_scale, an_axis}
 use Rattle.vega_charts.specs.Copies.{Frame, moved_copy}
 use Rattle.vega_charts.specs.declared.spots.Grid.{Grid}
 use Rattle.vega_charts.specs.Grids.{grid_of, cell_at}
+use Rattle.vega_scenes.specs.declared.headers.Header.{Header}
 use Rattle.vega_scenes.specs.declared.legends.LegendShown.{LegendShown}
 use Rattle.vega_scenes.specs.declared.views.Plot.{Plot}
 use Rattle.vega_scenes.specs.declared.views.GridShown.{GridShown}
@@ -35,7 +36,6 @@ use Rattle.vega_scenes.specs.declared.views.Part.{Part}
 use Rattle.vega_scenes.specs.declared.views.Part.TheVariants.{Title, OfPlot}
 use Rattle.vega_scenes.specs.Axes.{AxisShown, axes_at}
 use Rattle.vega_scenes.specs.Views.{placed_plot, placed_grid}
-use Rattle.vega_charts.specs.Scales.{a_scale, an_axis}
 use Rattle.vega_charts.specs.Tops.{round_top, top_frame}
 use Rattle.vega_spec.specs.declared.guides.Edge.{Edge}
 use Rattle.vega_spec.specs.declared.guides.Edge.TheVariants.{FirstColumn}
@@ -156,7 +156,8 @@ grid_shown o frame spacing columns = record { columns = columns; spacing = spaci
 abbrev pub grid_round : Object → Frame → ℤ → ℕ → List Placed → Placed
 grid_round o frame spacing columns cells = placed_grid (grid_shown o frame spacing columns) cells
 
--- The view of a copy of an object: without a layout a plot with these marks, with one a grid over what stands in it.
+-- The view of a copy of an object: without a layout a plot with these marks, with one a grid over what stands in it. That is handed in as a
+-- function of the grid, so that `views_in`, which hands itself in, is a recursion over marks alone.
 abbrev pub view_with : List Dataset → Object → Marks → Frame → Option Layout → (Grid → Option (List Placed)) → Option Placed
 view_with sources o marks frame None inside = option_map placed_plot (plot_of sources o marks frame)
 view_with sources o marks frame (Some l) inside =
@@ -237,3 +238,23 @@ legends_round cells =
 legends_of_grids : (legends_round [] ≡ Some 0)
     × (plot_of [] bare NoMarks (round_top round_names) >>= (λ plot. legends_round (placed_plot plot ∷ [])) ≡ Some 2)
 legends_of_grids = (refl, refl)
+
+-- the headers of the copies of a faceted group where these are round it
+abbrev a_headed : Object
+a_headed = record bare { facet = Some (with_header (by (codes "a" ∷ []) None)) }
+
+abbrev under_headers : List Header → Frame
+under_headers outer = record (round_top round_names) { headers = outer }
+
+abbrev texts_of_headers : Frame → List (List ℕ)
+texts_of_headers frame = map (λ (h : Header). h.text) frame.headers
+
+abbrev headers_under : List Header → Option (List (List (List ℕ)))
+headers_under outer =
+    all_found (map (λ cell. option_map texts_of_headers (cell_at [] (under_headers outer) (record { columns = 3; cells = 3 }) a_headed cell))
+    (enumerate_from 0 (copies_of round_names.lists a_headed)))
+
+-- its own stand before those round it
+inner_headers_first : headers_under (record { is_beside = true; text = codes "o" } ∷ [])
+    ≡ Some ((codes "y" ∷ codes "o" ∷ []) ∷ (codes "x" ∷ codes "o" ∷ []) ∷ (codes "z" ∷ codes "o" ∷ []) ∷ [])
+inner_headers_first = refl

@@ -105,7 +105,8 @@ abbrev extent_as : List ℕ → Transform
 extent_as name = vega.Extent record { field = codes "v"; signal = name }
 
 -- the signal of an extent hides an outer one of its name
-an_extent_inside : option_map (λ (names : Names). names.values.value (codes "k")) (names_in_object [] round_two_rows (record bare { sets = a_set (extent_as (codes "k")) ∷ [] }))
+an_extent_inside : option_map (λ (names : Names). names.values.value (codes "k"))
+    (names_in_object [] round_two_rows (record bare { sets = a_set (extent_as (codes "k")) ∷ [] }))
     ≡ Some (Pair (pos 1) (pos 3))
 an_extent_inside = refl
 

@@ -1,5 +1,5 @@
 -- How wide and how high a plot is, and the picture round it, in millionths of a pixel.
-use Rattle.std.specs.Prelude.{◌≡◌, refl, ◌*◌, ◌^◌, ℤ, pos, negsuc, ◌+ℤ◌, ◌*ℤ◌, Option, Some, None, unwrap_or}
+use Rattle.std.specs.Prelude.{◌≡◌, refl, ◌*◌, ◌^◌, ℤ, pos, negsuc, Option, Some, None, unwrap_or}
 use Rattle.std.specs.Option.{option_map, option_map_or}
 use Rattle.std.specs.Int.{int_min, int_max}
 use Rattle.fixed_num.specs.Number.{million, limit}

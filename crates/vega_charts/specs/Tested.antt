@@ -112,9 +112,11 @@ names_of_their_own : are_new [] (codes "a" ∷ codes "b" ∷ []) ≡ true
 names_of_their_own = refl
 
 -- groups in groups are looked at: the inner one has so many columns
+abbrev of_columns : ℕ → Object
+of_columns n = record bare { layout = Some (record { padding = None; columns = Some (pos (n * million)) }) }
+
 abbrev with_columns : ℕ → Marks
-with_columns n =
-    AGroup bare (AMark 0 a_symbol (AGroup (record bare { layout = Some (record { padding = None; columns = Some (pos (n * million)) }) }) NoMarks NoMarks)) NoMarks
+with_columns n = AGroup bare (AMark 0 a_symbol (AGroup (of_columns n) NoMarks NoMarks)) NoMarks
 
 columns_of_an_inner_group : (are_objects (with_columns 1000) ≡ true) × (are_objects (with_columns 1001) ≡ false) × (are_objects (with_columns 0) ≡ false)
 columns_of_an_inner_group = (refl, refl, refl)

@@ -2,7 +2,6 @@
 use Rattle.std.specs.Prelude.{◌≡◌, refl, not, Bool, true, false, pos, Option, Some, None, [], is_some, codes, if◌then◌else◌}
 use Rattle.fixed_num.specs.Ranges.{◌>>=◌}
 use Rattle.vega_spec.specs.declared.guides.Layout.{Layout}
-use Rattle.vega_spec.specs.declared.scales.Range.{Range}
 use Rattle.vega_spec.specs.declared.scales.Range.TheVariants as range
 use Rattle.vega_spec.specs.declared.scales.Scale.{Scale as VegaScale}
 use Rattle.vega_spec.specs.declared.spec.Size.{Size}

@@ -6,6 +6,8 @@ pub mod Kept
 pub mod Framed
 pub mod Copied
 pub mod Counted
+pub mod Standing
+pub mod Made
 pub mod Drawn
 pub mod Placed
 pub mod Topped

@@ -1,10 +1,9 @@
 // The axes of objects over the scales that their names stand for.
-ghost use Rattle.std.specs.Prelude.{◌≡◌, ◌∷◌, ◌++◌, [], IfOk, OnOk, map, All, option_copied};
-ghost use Rattle.std.specs.List.{filter};
+ghost use Rattle.std.specs.Prelude.{◌≡◌, ◌∷◌, ◌++◌, [], IfOk, OnOk, map, All};
 ghost use Rattle.std.specs.Option.{option_to_list};
 ghost use Rattle.scale_kit.specs.Scale.{IsPixel};
 ghost use Rattle.vega_charts.specs.Scales.{axis_past, axes_here, axis_here, stands};
-ghost use Rattle.vega_charts.specs.Plots.{axis_over, axes_over};
+ghost use Rattle.vega_charts.specs.Plots.{axes_over};
 ghost use Rattle.vega_charts.specs.inner.Kept.{scale_seen, axis_seen, IsKeptScale, AreKeptScales, AreKeptAxes};
 ghost use Rattle.vega_guides.specs.Shown.{IsAxis};
 ghost use Rattle.vega_scenes.specs.Axes.{seen, HoldsAxis};
@@ -48,7 +47,7 @@ fn push_axis<'s, 'a>(
     }
 }
 
-/// The axes of the grids round an object, and then its own where it is a grid.
+/// The axes of the grids round a grid, and then its own.
 pub(crate) fn and_axes<'s, 'a>(
     alloc: Global,
     outer: &[AxisHere<'s, 'a>],
@@ -142,7 +141,7 @@ fn push_shown<'s>(
     }
 }
 
-/// Adds the axes among some that stand in a plot of this width and height, each over its scale.
+/// Adds the axes among some that stand in a plot of this width and height in pixels, each over its scale.
 pub(crate) fn push_all_shown<'s>(
     alloc: Global,
     width: Num,
@@ -184,7 +183,7 @@ fn push_own<'s>(
     }
 }
 
-/// Adds the axes of a copy of an object that stand in a plot of this width and height, each over its scale.
+/// Adds the axes of a copy of an object that stand in a plot of this width and height in pixels, each over its scale.
 pub(crate) fn push_own_axes<'s>(
     alloc: Global,
     width: Num,

@@ -18,7 +18,8 @@ ghost use Rattle.vega_charts.specs.Charts.{drawing_of};
 ghost use Rattle.vega_charts.specs.Scales.{and_outer, scale_in, set_of};
 ghost use Rattle.vega_charts.specs.Scenes.{drawing_over, scales_of_chart};
 ghost use Rattle.vega_charts.specs.Scopes.{keeps_signals};
-ghost use Rattle.vega_charts.specs.inner.Drawn.{MayStand};
+ghost use Rattle.vega_charts.specs.inner.Made.{HaveCopies};
+ghost use Rattle.vega_charts.specs.inner.Standing.{MayStand};
 ghost use Rattle.vega_charts.specs.inner.Framed.{frame_seen, IsFrame};
 ghost use Rattle.vega_charts.specs.inner.Kept.{axis_seen, kept_seen, scale_seen, AreKeptAxes, IsKeptScale};
 ghost use Rattle.vega_charts.specs.inner.Levels.{names_at, rows_at, AreNames};
@@ -31,9 +32,9 @@ use crate::axes::{and_axes, axes_in};
 use crate::frames::{Frame, Sizing};
 use crate::grids::{Place, grid_view, plot_view};
 use crate::levels::{keeps_signals, level_with, with_level};
+use crate::made::{CopiesMade, made_in};
 use crate::marks::marks_in;
 use crate::names::{Level, NamesAt};
-use crate::panels::plots_in_facets;
 use crate::scales::{
     AxisHere, OfChart, ScaleHere, ScaleKept, and_outer, own_scales, scale_in, scales_in, set_of,
 };
@@ -142,12 +143,13 @@ fn draw_sized<'s, 'x>(
     alloc: Global,
     g: &'s VgSpec,
     names: NamesAt<'x>,
+    made: &[CopiesMade],
     scales: &'x [ScaleHere<'s, 'x>],
     set: &'x ScaleSet,
     width: Num,
     height: Num,
 ) -> Result<Drawing, EvalError>
-    requires top { IsTop g.now names scales.now }
+    requires top { IsTop g.now names scales.now made.now }
     requires set { set.now ≡ set_of width height (map scale_seen scales.now) }
     requires sound { AreScales set.now }
     requires width { IsPixel width }
@@ -160,7 +162,7 @@ fn draw_sized<'s, 'x>(
         axes: &[],
         headers: &[],
     };
-    match plot_view(alloc, &place, &g.group, 0, 0) {
+    match plot_view(alloc, &place, &g.group, made, 0, 0) {
         Ok(view) => drawn(alloc, g, &place.frame, view),
         Err(error) => Err(error),
     }
@@ -171,8 +173,9 @@ fn draw_plot<'s>(
     alloc: Global,
     g: &'s VgSpec,
     sizing: &Sizing<'s, '_>,
+    made: &[CopiesMade],
 ) -> Result<Drawing, EvalError>
-    requires top { IsTop g.now sizing.now.names sizing.now.scales.now }
+    requires top { IsTop g.now sizing.now.names sizing.now.scales.now made.now }
     ensures { Evaluates result (sized_plot (map dataset_of sizing.now.names.sources.now) g.now
         (names_at sizing.now.names.sources.now sizing.now.names.levels.now) (map scale_seen sizing.now.scales.now)) }
 {
@@ -185,7 +188,16 @@ fn draw_plot<'s>(
         Err(error) => return Err(error),
     };
     let set = set_of(alloc, width, height, sizing.scales)?;
-    draw_sized(alloc, g, sizing.names, sizing.scales, &set, width, height)
+    draw_sized(
+        alloc,
+        g,
+        sizing.names,
+        made,
+        sizing.scales,
+        &set,
+        width,
+        height,
+    )
 }
 
 // The same where its own scales are known.
@@ -193,11 +205,12 @@ fn plot_with_scales<'s>(
     alloc: Global,
     g: &'s VgSpec,
     names: NamesAt,
+    made: &[CopiesMade],
     own: &[ScaleKept<'s>],
 ) -> Result<Drawing, EvalError>
     requires kept { KeepsRules g.now }
     requires names { AreNames names }
-    requires marks { MayStand (rows_at names.sources.now names.levels.now) (marks_in (out-Group g.now.group)) }
+    requires marks { HaveCopies names.sources.now names.levels.now (marks_in (out-Group g.now.group)) made.now }
     requires own { All IsKeptScale own.now }
     ensures { Evaluates result (sized_plot (map dataset_of names.entry.sources.now) g.now
         (names_at names.entry.sources.now names.entry.levels.now) (and_outer [] (map kept_seen own.now))) }
@@ -207,19 +220,24 @@ fn plot_with_scales<'s>(
         names,
         scales: scales.as_slice(),
     };
-    draw_plot(alloc, g, &sizing)
+    draw_plot(alloc, g, &sizing, made)
 }
 
 // The same where its names are known.
-fn plot_over(alloc: Global, g: &VgSpec, names: NamesAt) -> Result<Drawing, EvalError>
+fn plot_over(
+    alloc: Global,
+    g: &VgSpec,
+    names: NamesAt,
+    made: &[CopiesMade],
+) -> Result<Drawing, EvalError>
     requires kept { KeepsRules g.now }
     requires names { AreNames names }
-    requires marks { MayStand (rows_at names.sources.now names.levels.now) (marks_in (out-Group g.now.group)) }
+    requires marks { HaveCopies names.sources.now names.levels.now (marks_in (out-Group g.now.group)) made.now }
     ensures { Evaluates result (scaled_plot (map dataset_of names.entry.sources.now) g.now
         (names_at names.entry.sources.now names.entry.levels.now)) }
 {
     match own_scales(alloc, OfChart::Plot, &names, scales_in(&g.group)) {
-        Ok(own) => plot_with_scales(alloc, g, names, own.as_slice()),
+        Ok(own) => plot_with_scales(alloc, g, names, made, own.as_slice()),
         Err(error) => Err(error),
     }
 }
@@ -230,12 +248,13 @@ fn draw_axes<'s, 'x>(
     g: &'s VgSpec,
     layout: &Layout,
     names: NamesAt<'x>,
+    made: &[CopiesMade],
     scales: &'x [ScaleHere<'s, 'x>],
     set: &'x ScaleSet,
     axes: &'x [AxisHere<'s, 'x>],
     size: Num,
 ) -> Result<Drawing, EvalError>
-    requires top { IsTop g.now names scales.now }
+    requires top { IsTop g.now names scales.now made.now }
     requires set { set.now ≡ set_of size size (map scale_seen scales.now) }
     requires sound { AreScales set.now }
     requires axes { AreKeptAxes axes.now }
@@ -249,7 +268,7 @@ fn draw_axes<'s, 'x>(
         axes,
         headers: &[],
     };
-    match grid_view(alloc, &place, &g.group, layout, 0, 0) {
+    match grid_view(alloc, &place, &g.group, made, layout, 0, 0) {
         Ok(view) => drawn(alloc, g, &place.frame, view),
         Err(error) => Err(error),
     }
@@ -261,9 +280,10 @@ fn draw_grid<'s>(
     g: &'s VgSpec,
     layout: &Layout,
     names: NamesAt,
+    made: &[CopiesMade],
     scales: &[ScaleHere<'s, '_>],
 ) -> Result<Drawing, EvalError>
-    requires top { IsTop g.now names scales.now }
+    requires top { IsTop g.now names scales.now made.now }
     requires columns { IfSome layout.now.columns IsCount }
     ensures { Evaluates result (grid_with_axes (map dataset_of names.entry.sources.now) g.now layout.now
         (names_at names.entry.sources.now names.entry.levels.now) (map scale_seen scales.now)) }
@@ -271,7 +291,17 @@ fn draw_grid<'s>(
     let size = no_length();
     let set = set_of(alloc, size, size, scales)?;
     let axes = and_axes(alloc, &[], scales, axes_in(&g.group))?;
-    draw_axes(alloc, g, layout, names, scales, &set, axes.as_slice(), size)
+    draw_axes(
+        alloc,
+        g,
+        layout,
+        names,
+        made,
+        scales,
+        &set,
+        axes.as_slice(),
+        size,
+    )
 }
 
 // The same where its own scales are known.
@@ -280,18 +310,19 @@ fn grid_with_scales<'s>(
     g: &'s VgSpec,
     layout: &Layout,
     names: NamesAt,
+    made: &[CopiesMade],
     own: &[ScaleKept<'s>],
 ) -> Result<Drawing, EvalError>
     requires kept { KeepsRules g.now }
     requires names { AreNames names }
-    requires marks { MayStand (rows_at names.sources.now names.levels.now) (marks_in (out-Group g.now.group)) }
+    requires marks { HaveCopies names.sources.now names.levels.now (marks_in (out-Group g.now.group)) made.now }
     requires columns { IfSome layout.now.columns IsCount }
     requires own { All IsKeptScale own.now }
     ensures { Evaluates result (grid_with_axes (map dataset_of names.entry.sources.now) g.now layout.now
         (names_at names.entry.sources.now names.entry.levels.now) (and_outer [] (map kept_seen own.now))) }
 {
     let scales = and_outer(alloc, own, &[])?;
-    draw_grid(alloc, g, layout, names, scales.as_slice())
+    draw_grid(alloc, g, layout, names, made, scales.as_slice())
 }
 
 // The same where its names are known.
@@ -300,32 +331,38 @@ fn grid_over(
     g: &VgSpec,
     layout: &Layout,
     names: NamesAt,
+    made: &[CopiesMade],
 ) -> Result<Drawing, EvalError>
     requires kept { KeepsRules g.now }
     requires names { AreNames names }
-    requires marks { MayStand (rows_at names.sources.now names.levels.now) (marks_in (out-Group g.now.group)) }
+    requires marks { HaveCopies names.sources.now names.levels.now (marks_in (out-Group g.now.group)) made.now }
     requires columns { IfSome layout.now.columns IsCount }
     ensures { Evaluates result (scaled_grid (map dataset_of names.entry.sources.now) g.now layout.now
         (names_at names.entry.sources.now names.entry.levels.now)) }
 {
     match own_scales(alloc, OfChart::Grid, &names, scales_in(&g.group)) {
-        Ok(own) => grid_with_scales(alloc, g, layout, names, own.as_slice()),
+        Ok(own) => grid_with_scales(alloc, g, layout, names, made, own.as_slice()),
         Err(error) => Err(error),
     }
 }
 
 // What is drawn where the names of the top are known, and none of its signals is lost.
-fn drawing_over(alloc: Global, g: &VgSpec, names: NamesAt) -> Result<Drawing, EvalError>
+fn drawing_over(
+    alloc: Global,
+    g: &VgSpec,
+    names: NamesAt,
+    made: &[CopiesMade],
+) -> Result<Drawing, EvalError>
     requires kept { KeepsRules g.now }
     requires names { AreNames names }
-    requires marks { MayStand (rows_at names.sources.now names.levels.now) (marks_in (out-Group g.now.group)) }
+    requires marks { HaveCopies names.sources.now names.levels.now (marks_in (out-Group g.now.group)) made.now }
     requires signals { keeps_signals (names_at names.sources.now names.levels.now) (top_of g.now).object ≡ true }
     ensures { Evaluates result (drawing_over g.now (map dataset_of names.entry.sources.now) (top_of g.now)
         (names_at names.entry.sources.now names.entry.levels.now)) }
 {
     match &g.group.layout {
-        Some(layout) => grid_over(alloc, g, layout, names),
-        None => plot_over(alloc, g, names),
+        Some(layout) => grid_over(alloc, g, layout, names, made),
+        None => plot_over(alloc, g, names, made),
     }
 }
 
@@ -335,16 +372,17 @@ fn drawing_kept(
     g: &VgSpec,
     level: &Level,
     names: NamesAt,
+    made: &[CopiesMade],
 ) -> Result<Drawing, EvalError>
     requires kept { KeepsRules g.now }
     requires names { AreNames names }
-    requires marks { MayStand (rows_at names.sources.now names.levels.now) (marks_in (out-Group g.now.group)) }
+    requires marks { HaveCopies names.sources.now names.levels.now (marks_in (out-Group g.now.group)) made.now }
     requires level { names_at names.sources.now names.levels.now ≡ names_on_top names.sources.now level.now }
     ensures { Evaluates result (drawing_over g.now (map dataset_of names.entry.sources.now) (top_of g.now)
         (names_at names.entry.sources.now names.entry.levels.now)) }
 {
     if keeps_signals(level, &g.group) {
-        drawing_over(alloc, g, names)
+        drawing_over(alloc, g, names, made)
     } else {
         Err(EvalError::Overflow)
     }
@@ -370,17 +408,18 @@ fn answered(drawn: Result<Drawing, EvalError>) -> Result<Drawing, DrawError>
     }
 }
 
-// What comes of drawing with so many plots in facets, where the names of the top are known.
+// What comes of drawing where the names of the top are known, its groups have these copies, and so many plots stand in facets.
 fn drawing_counted(
     alloc: Global,
     g: &VgSpec,
     level: &Level,
     names: NamesAt,
+    made: &[CopiesMade],
     plots: u64,
 ) -> Result<Drawing, DrawError>
     requires kept { KeepsRules g.now }
     requires names { AreNames names }
-    requires marks { MayStand (rows_at names.sources.now names.levels.now) (marks_in (out-Group g.now.group)) }
+    requires marks { HaveCopies names.sources.now names.levels.now (marks_in (out-Group g.now.group)) made.now }
     requires level { names_at names.sources.now names.levels.now ≡ names_on_top names.sources.now level.now }
     ensures { Comes (with_counted plots (in_reach (drawing_over g.now (map dataset_of names.entry.sources.now) (top_of g.now)
         (names_at names.entry.sources.now names.entry.levels.now)))) result }
@@ -388,11 +427,11 @@ fn drawing_counted(
     if plots > MOST_PANELS {
         Err(DrawError::Panels(plots))
     } else {
-        answered(drawing_kept(alloc, g, level, names))
+        answered(drawing_kept(alloc, g, level, names, made))
     }
 }
 
-// What is drawn where the names of the top are known, with at most so many plots in facets.
+// What is drawn where the names of the top are known, with at most 400 plots in facets.
 fn drawing_within(
     alloc: Global,
     g: &VgSpec,
@@ -406,14 +445,14 @@ fn drawing_within(
     ensures { Comes (drawn_within (map dataset_of names.entry.sources.now) g.now
         (names_at names.entry.sources.now names.entry.levels.now)) result }
 {
-    match plots_in_facets(
+    match made_in(
         alloc,
         &names,
         marks_in(&g.group),
         false,
         g.group.layout.is_some(),
     ) {
-        Ok(plots) => drawing_counted(alloc, g, level, names, plots),
+        Ok(found) => drawing_counted(alloc, g, level, names, found.made.as_slice(), found.plots),
         Err(error) => Err(stopped(error)),
     }
 }
@@ -446,7 +485,8 @@ fn drawing_at(
 /// What is drawn of a specification over sources of rows and values of the parameters that can be set: the picture with its panels, and
 /// the scales of its plots. `Overflow` comes exactly where a data set or a signal that one reads is out of range; else `Panels` exactly
 /// where more than 400 plots stand in facets, with their count up to the greatest number of 64 bits; else `Overflow` exactly where any other
-/// number is out of range. Each list, scale and facet is made once, and the time is near linear in the rows, the copies and what is drawn.
+/// number is out of range. In each copy of an object its lists, its facets and the domains of its scales are made once. The time is near
+/// linear in what is drawn and, for each copy, in the rows that it reads and the domains of the scales that have names in it.
 pub fn drawing_of(
     alloc: Global,
     g: &VgSpec,

@@ -1,6 +1,5 @@
 // The copies of objects.
-ghost use Rattle.std.specs.Prelude.{◌≡◌, ◌++◌, [], IfOk, map, option_copied, unwrap_or};
-ghost use Rattle.std.specs.Option.{option_map};
+ghost use Rattle.std.specs.Prelude.{◌≡◌, ◌++◌, [], IfOk, map, unwrap_or};
 ghost use Rattle.expr_eval.specs.Answers.{Evaluates};
 ghost use Rattle.vega_spec.specs.declared.spec.VgMark.{out-VgMark};
 ghost use Rattle.vega_charts.specs.Scales.{with_domains, domain_length_here};
@@ -34,7 +33,7 @@ pub struct Frame<'s, 'a> {
     pub set: &'a ScaleSet,
     /// The cells of the facets round it by their fields, the outer before the inner; None outside facets.
     pub cells: Option<&'a [(Text, Cell)]>,
-    /// The width of its plot, in pixels; 0 where it is a grid.
+    /// The width of its plot, in pixels; 0 where it is a grid, since grids stand in grids alone.
     pub width: Num,
     /// The height of its plot, in pixels; 0 where it is a grid.
     pub height: Num,
@@ -97,16 +96,16 @@ impl ParamReader for Sizing<'_, '_> {
 pub(crate) fn more_cells(
     alloc: Global,
     outer: Option<&[(Text, Cell)]>,
-    own: Option<Seq<(Text, Cell)>>,
+    own: &Option<Seq<(Text, Cell)>>,
 ) -> Result<Option<Seq<(Text, Cell)>>, OutOfMemory>
-    ensures { IfOk result (λ cells. cells ≡ more_cells (cells_seen outer.entry) own) }
+    ensures { IfOk result (λ cells. cells ≡ more_cells (cells_seen outer.entry) own.now) }
 {
     match outer {
         Some(outer) => {
             let cells = cells_behind(alloc, outer, own)?;
             Ok(Some(cells))
         }
-        None => Ok(own),
+        None => cells_copied(alloc, slice_of(own)),
     }
 }
 
@@ -114,17 +113,30 @@ pub(crate) fn more_cells(
 fn cells_behind(
     alloc: Global,
     outer: &[(Text, Cell)],
-    own: Option<Seq<(Text, Cell)>>,
+    own: &Option<Seq<(Text, Cell)>>,
 ) -> Result<Seq<(Text, Cell)>, OutOfMemory>
-    ensures { IfOk result (λ cells. cells ≡ outer.now ++ unwrap_or own []) }
+    ensures { IfOk result (λ cells. cells ≡ outer.now ++ unwrap_or own.now []) }
 {
     let mut cells = copy_list(alloc, outer)?;
     match own {
         Some(own) => {
-            cells.append(own)?;
+            cells.append(copy_list(alloc, own.as_slice())?)?;
             Ok(cells)
         }
         None => Ok(cells),
+    }
+}
+
+/// The cells of the facets round a copy once more.
+pub(crate) fn cells_copied(
+    alloc: Global,
+    cells: Option<&[(Text, Cell)]>,
+) -> Result<Option<Seq<(Text, Cell)>>, OutOfMemory>
+    ensures { IfOk result (λ copy. copy ≡ cells_seen cells.entry) }
+{
+    match cells {
+        Some(cells) => Ok(Some(copy_list(alloc, cells)?)),
+        None => Ok(None),
     }
 }
 
@@ -138,7 +150,8 @@ fn cells_of(cells: Option<&[(Text, Cell)]>) -> &[(Text, Cell)]
     }
 }
 
-/// The number that a group encodes in a channel, in a copy of it; 0 where it encodes none. `Overflow` comes exactly where it is out of range.
+/// The number that a group encodes in a channel, in a copy of it, over the cells of the facets round it and its own, and the scales by their
+/// names; 0 where it encodes none. `Overflow` comes exactly where it is out of range.
 pub(crate) fn encoded_number(
     alloc: Global,
     frame: &Frame,

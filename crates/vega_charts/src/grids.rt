@@ -1,50 +1,48 @@
 // Grids of plots, and of grids.
-ghost use Rattle.std.specs.Prelude.{◌≡◌, ◌<◌, ◌≤◌, ◌+◌, suc, ◌++◌, ◌∷◌, [], true, IfOk, OnOk, map, zip, All, length, max, option_copied, unwrap_or};
+ghost use Rattle.std.specs.Prelude.{◌≡◌, ◌<◌, ◌≤◌, ◌+◌, suc, ◌∷◌, [], true, IfOk, OnOk, map, All, length, IfSome};
 ghost use Rattle.expr_eval.specs.Answers.{Evaluates};
 ghost use Rattle.vega_spec.specs.declared.spec.Group.{out-Group};
+ghost use Rattle.vega_charts.specs.declared.made.CopiesMade.{out-CopiesMade};
 ghost use Rattle.vega_spec.specs.declared.spec.VgMark.{out-VgMark};
 ghost use Rattle.vega_charts.specs.Outlines.{object_here};
-ghost use Rattle.vega_charts.specs.Grids.{headers_of, header_for, draws_at, is_row, size_cut};
 ghost use Rattle.vega_charts.specs.Plots.{plot_of, grid_round, views_in, spacing_of};
-ghost use Rattle.vega_charts.specs.inner.Copied.{copy_seen, IsCopy};
-ghost use Rattle.vega_charts.specs.inner.Levels.{rows_at, AreNames, AreLevels};
+ghost use Rattle.vega_charts.specs.inner.Levels.{AreLevels};
+ghost use Rattle.vega_charts.specs.inner.Made.{levels_behind, made_seen, HaveCopies, IsCopyMade, KeepsSignals};
 ghost use Rattle.vega_charts.specs.inner.Outlined.{marks_from, marks_in, is_group, object_numbered, AreFew, group_object};
-ghost use Rattle.vega_charts.specs.inner.Drawn.{MayStand, rows_in_frame, sources_of};
-ghost use Rattle.vega_charts.specs.inner.Placed.{place_seen, IsPlace, IsFound, count_found, columns_found, grid_found, grid_seen, grid_of_object, cell_seen, view_at, view_named, place_past, sized_plot, header_places_of, place_entered, AddsViews, mark_seen, view_scaled};
+ghost use Rattle.vega_charts.specs.inner.Drawn.{rows_in_frame, sources_of};
+ghost use Rattle.vega_charts.specs.inner.Standing.{MayStand};
+ghost use Rattle.vega_charts.specs.inner.Placed.{place_seen, place_past, place_entered, IsPlace, IsFound, count_found, AddsViews};
+ghost use Rattle.vega_charts.specs.inner.Placed.{grid_seen, grid_of_object, cell_seen, mark_seen, view_at, view_named, view_scaled, sized_plot};
 ghost use Rattle.vega_charts.specs.Built.{KeepsObject};
 ghost use Rattle.vega_scenes.specs.Views.{placed_plot, HasLegends};
 ghost use Rattle.vega_charts.specs.Copies.{as_grid};
-ghost use Rattle.vega_charts.specs.Grids.{columns_written};
 ghost use Rattle.fixed_num.specs.Ranges.{all_found};
-ghost use Rattle.std.specs.Option.{option_map, option_to_list};
-ghost use Rattle.std.specs.List.{AllZip, enumerate_from, filter_map};
-ghost use Rattle.scale_kit.specs.Scale.{IsPixel};
-ghost use Rattle.std.specs.Prelude.{IfSome};
+ghost use Rattle.std.specs.Option.{option_map};
+ghost use Rattle.std.specs.List.{enumerate_from};
 ghost use Rattle.vega_guides.specs.Shown.{IsAxis, IsCount};
 ghost use Rattle.vega_charts.specs.inner.Framed.{frame_seen, IsFrame};
 
 use crate::axes::{all_axes_past, and_axes, axes_in};
-use crate::copies::{CopiesOf, CopyOf, copies_of, facet_in};
+use crate::copies::facet_in;
 use crate::frames::{Frame, encoded_number, more_cells, slice_of};
+use crate::headers::headers_of;
+use crate::layouts::{grid_of, spacing_of};
 use crate::legends::push_legends;
-use crate::levels::{kept_level, with_level};
+use crate::levels::{keeps_signals, with_level};
+use crate::made::{CopiesMade, Made};
 use crate::marks::{count_groups_of, count_marks_of, is_group, marks_in};
 use crate::names::{Level, NamesAt};
-use crate::plots::{headers_copied, plot_of};
-use crate::scales::{
-    AxisHere, OfChart, ScaleHere, all_past, and_outer, own_scales, scales_in, set_of,
-};
-use crate::sizes::{number, size_in};
+use crate::plots::plot_of;
+use crate::scales::{AxisHere, OfChart, all_past, and_outer, own_scales, scales_in, set_of};
+use crate::sizes::size_cut;
 use crate::spots::{Grid, Spot, spot_of};
 use cell_value::Cell;
 use expr_eval::EvalError;
-use fixed_num::Num;
 use mark_encode::ChannelName;
 use std::alloc::Global;
 use text_kit::{Copies, OutOfMemory, Seq, Text};
-use vega_guides::whole_of;
 use vega_scenes::{GridShown, Header, Placed, placed_grid, placed_plot};
-use vega_spec::{Facet, Group, Layout, VgMark};
+use vega_spec::{Group, Layout, VgMark};
 
 /// A copy of an object that is a plot or a grid.
 #[derive(Clone, Copy)]
@@ -57,208 +55,17 @@ pub struct Place<'s, 'a> {
     pub headers: &'a [Header],
 }
 
-// Adds the header that a facet draws at a place for one of its fields, if it draws one there.
-fn push_header(
-    alloc: Global,
-    place: vega_spec::Header,
-    drawn: &Option<vega_spec::Header>,
-    cell: &Cell,
-    out: &mut Seq<Header>,
-) -> Result<(), OutOfMemory>
-    ensures { OnOk result (out.new ≡ out.old ++ option_to_list (header_for place (drawn.now, ([], cell.now)))) }
-{
-    if !draws_at(place, drawn) {
-        return Ok(());
-    }
-    out.push(Header {
-        is_beside: is_row(place),
-        text: cell.display(alloc)?,
-    })
-}
-
-// Whether a facet draws a header at a place for one of its fields.
-fn draws_at(place: vega_spec::Header, drawn: &Option<vega_spec::Header>) -> bool
-    ensures { result ≡ draws_at place drawn.now }
-{
-    match drawn {
-        Some(drawn) => *drawn == place,
-        None => false,
-    }
-}
-
-// Whether headers of a place stand beside their plots.
-fn is_row(place: vega_spec::Header) -> bool
-    ensures { result ≡ is_row place }
-{
-    match place {
-        vega_spec::Header::Row => true,
-        vega_spec::Header::Column => false,
-    }
-}
-
-// Adds the headers that a facet draws at a place for the cells of a copy.
-fn push_headers_at(
-    alloc: Global,
-    place: vega_spec::Header,
-    places: &[Option<vega_spec::Header>],
-    cells: &[(Text, Cell)],
-    out: &mut Seq<Header>,
-) -> Result<(), OutOfMemory>
-    ensures { OnOk result (out.new ≡ out.old ++ filter_map (header_for place) (zip places.now cells.now)) }
-{
-    for (drawn, entry) in places.iter().zip(cells) {
-        push_header(alloc, place, drawn, &entry.1, out)?;
-    }
-    Ok(())
-}
-
-// The headers of a copy of a group: those that its facet draws, that of the row before that of the column, and then those round it.
-fn headers_of(
-    alloc: Global,
-    mark: &VgMark,
-    copy: &CopyOf,
-    outer: &[Header],
-) -> Result<Seq<Header>, OutOfMemory>
-    ensures { IfOk result (λ headers. headers ≡ headers_of (group_object 0 (out-VgMark mark.now)) (copy_seen copy.now) ++ outer.now) }
-{
-    let mut headers = Seq::new(alloc);
-    let cells: &[(Text, Cell)] = match &copy.cells {
-        Some(cells) => cells.as_slice(),
-        None => &[],
-    };
-    let places = header_places(facet_in(mark));
-    push_headers_at(alloc, vega_spec::Header::Row, places, cells, &mut headers)?;
-    push_headers_at(
-        alloc,
-        vega_spec::Header::Column,
-        places,
-        cells,
-        &mut headers,
-    )?;
-    headers.append(headers_copied(alloc, outer)?)?;
-    Ok(headers)
-}
-
-// A number cut to the sizes that plots have, 0 to 10^11 pixels.
-fn size_cut(size: Num) -> Num
-    ensures value { result ≡ size_cut size }
-    ensures pixel { IsPixel result }
-{
-    size_in(&Cell::Number(size))
-}
-
-// The columns of a layout: as many as it says, else as many as there are cells.
-fn columns_written(layout: &Layout, cells: u64) -> u64
-    requires { IfSome layout.now.columns IsCount }
-    ensures { result ≡ columns_written layout.now cells }
-{
-    match layout.columns {
-        Some(columns) => u64::from(whole_of(columns)),
-        None => cells,
-    }
-}
-
-// The space between the cells of a layout, 20 pixels where none is given.
-fn spacing_of(layout: &Layout) -> Num
-    ensures { result ≡ spacing_of layout.now }
-{
-    match layout.padding {
-        Some(padding) => padding,
-        None => number(20_000_000),
-    }
-}
-
-// The places of the headers of a facet, by its fields.
-fn header_places(facet: Option<&Facet>) -> &[Option<vega_spec::Header>]
-    ensures { result.now ≡ header_places_of (option_copied facet.entry) }
-{
-    match facet {
-        Some(facet) => match &facet.headers {
-            Some(headers) => headers.as_slice(),
-            None => &[],
-        },
-        None => &[],
-    }
-}
-
-// How many copies the groups of an object have; None where 64 bits don't hold the count, for which there is no memory.
-fn count_copies(found: &[CopiesOf]) -> Option<u64>
-    ensures { IfSome result (λ count. count ≡ count_found found.now) }
-{
-    let mut count = 0u64;
-    for copies in found {
-        count = count.checked_add(copies.copies.len() as u64)?;
-    }
-    Some(count)
-}
-
-// The columns that the first group asks for that crosses two fields, if one does.
-fn columns_asked(found: &[CopiesOf]) -> Option<u64>
-    ensures { result ≡ columns_found found.now }
-{
-    for copies in found {
-        if let Some(across) = copies.across {
-            return Some(across);
-        }
-    }
-    None
-}
-
-// How the cells of an object with a layout stand, from the copies of its groups; None where there is no memory for so many.
-fn grid_of(layout: &Layout, found: &[CopiesOf]) -> Option<Grid>
-    requires { IfSome layout.now.columns IsCount }
-    ensures value { IfSome result (λ grid. grid ≡ grid_found layout.now found.now) }
-    ensures columns { IfSome result (λ (grid : Grid). 0 < grid.columns) }
-{
-    let cells = count_copies(found)?;
-    let columns = columns_asked(found).unwrap_or(columns_written(layout, cells));
-    Some(Grid {
-        columns: columns.max(1),
-        cells,
-    })
-}
-
-// The copies of a mark of an object; of a mark other than a group none.
-fn copies_or_none(alloc: Global, names: &NamesAt, mark: &VgMark) -> Result<CopiesOf, OutOfMemory>
-    requires { AreNames names.now }
-    ensures found { IfOk result (IsFound names.now mark.now) }
-{
-    if is_group(mark) {
-        copies_of(alloc, names, mark)
-    } else {
-        Ok(CopiesOf {
-            copies: Seq::new(alloc),
-            across: None,
-        })
-    }
-}
-
-// The copies of each mark of an object.
-fn all_copies(
-    alloc: Global,
-    names: &NamesAt,
-    marks: &[VgMark],
-) -> Result<Seq<CopiesOf>, OutOfMemory>
-    requires { AreNames names.now }
-    ensures found { IfOk result (AllZip (IsFound names.now) marks.now) }
-{
-    let mut found = Seq::with_capacity(alloc, marks.len())?;
-    for mark in marks {
-        found.push(copies_or_none(alloc, names, mark)?)?;
-    }
-    Ok(found)
-}
-
-/// The view of a plot.
+/// The view of a plot whose groups have these copies.
 pub(crate) fn plot_view<'s>(
     alloc: Global,
     place: &Place<'s, '_>,
     group: &'s Group,
+    made: &[CopiesMade],
     unit: u32,
     number: u32,
 ) -> Result<Placed, EvalError>
     requires place { IsPlace place.now }
-    requires marks { MayStand (rows_in_frame place.now.frame) (marks_in (out-Group group.now)) }
+    requires marks { HaveCopies place.now.frame.names.sources.now place.now.frame.names.levels.now (marks_in (out-Group group.now)) made.now }
     requires object { KeepsObject (object_numbered number (out-Group group.now)) }
     requires few { AreFew unit (suc number) (marks_in (out-Group group.now)) }
     ensures value { Evaluates result (option_map placed_plot (plot_of (sources_of place.now.frame)
@@ -271,6 +78,7 @@ pub(crate) fn plot_view<'s>(
         place.axes,
         place.headers,
         group,
+        made,
         unit,
         number,
     ) {
@@ -307,31 +115,30 @@ fn grid_round(
     placed_grid(alloc, shown, cells)
 }
 
-/// The view of a copy of an object with a layout: a grid over what stands in it. Its own number is `number`, and its marks are numbered
-/// from `unit` on.
+/// The view of a copy of an object with a layout, whose groups have these copies: a grid over what stands in it. Its own number is `number`,
+/// and its marks are numbered from `unit` on.
 #[cycle(viewing)]
 pub(crate) fn grid_view<'s>(
     alloc: Global,
     place: &Place<'s, '_>,
     group: &'s Group,
+    made: &[CopiesMade],
     layout: &Layout,
     unit: u32,
     number: u32,
 ) -> Result<Placed, EvalError>
     requires place { IsPlace place.now }
-    requires marks { MayStand (rows_in_frame place.now.frame) (marks_in (out-Group group.now)) }
+    requires marks { HaveCopies place.now.frame.names.sources.now place.now.frame.names.levels.now (marks_in (out-Group group.now)) made.now }
     requires columns { IfSome layout.now.columns IsCount }
     requires few { AreFew unit (suc number) (marks_in (out-Group group.now)) }
     ensures value { Evaluates result (grid_seen place.now (object_numbered number (out-Group group.now)) layout.now
         (marks_from unit (suc number) (marks_in (out-Group group.now)))) }
     ensures legends { IfOk result HasLegends }
 {
-    let marks = marks_in(group);
-    let found = all_copies(alloc, &place.frame.names, marks)?;
-    let Some(grid) = grid_of(layout, found.as_slice()) else {
+    let Some(grid) = grid_of(layout, made) else {
         return Err(EvalError::Memory);
     };
-    match cells_of(alloc, place, grid, found, marks, unit, number + 1) {
+    match cells_of(alloc, place, grid, marks_in(group), made, unit, number + 1) {
         Ok(cells) => Ok(grid_round(
             alloc,
             &place.frame,
@@ -351,17 +158,16 @@ fn cells_of<'s>(
     alloc: Global,
     place: &Place<'s, '_>,
     grid: Grid,
-    found: Seq<CopiesOf>,
     marks: &'s [VgMark],
+    made: &[CopiesMade],
     unit: u32,
     number: u32,
 ) -> Result<Seq<Placed>, EvalError>
     requires place { IsPlace place.now }
-    requires marks { MayStand (rows_in_frame place.now.frame) marks.now }
+    requires marks { HaveCopies place.now.frame.names.sources.now place.now.frame.names.levels.now marks.now made.now }
     requires few { AreFew unit number marks.now }
     requires columns { 0 < grid.columns }
-    requires found { AllZip (IsFound place.now.frame.names) marks.now found }
-    requires count { count_found found ≤ grid.cells }
+    requires count { count_found made.now ≤ grid.cells }
     ensures value { Evaluates result (views_in (sources_of place.now.frame) (marks_from unit number marks.now)
         (place_seen place.now) grid 0) }
     ensures legends { IfOk result (All HasLegends) }
@@ -370,14 +176,14 @@ fn cells_of<'s>(
     let mut next_unit = unit;
     let mut next_number = number;
     let mut at = 0;
-    for copies in found.into_vec() {
+    for copies in made {
         let mark = &marks[at];
         match push_mark(
             alloc,
             place,
             grid,
-            copies,
             mark,
+            copies,
             next_unit,
             next_number,
             &mut cells,
@@ -398,8 +204,8 @@ fn push_mark<'s>(
     alloc: Global,
     place: &Place<'s, '_>,
     grid: Grid,
-    copies: CopiesOf,
     mark: &'s VgMark,
+    copies: &CopiesMade,
     unit: u32,
     number: u32,
     cells: &mut Seq<Placed>,
@@ -407,15 +213,24 @@ fn push_mark<'s>(
     requires place { IsPlace place.now }
     requires marks { MayStand (rows_in_frame place.now.frame) (mark.now ∷ []) }
     requires few { AreFew unit number (mark.now ∷ []) }
-    requires found { IsFound place.now.frame.names mark.now copies }
+    requires found { IsFound place.now.frame.names mark.now copies.now }
     requires columns { 0 < grid.columns }
-    requires within { length cells.old + length copies.copies ≤ grid.cells }
+    requires within { length cells.old + length (out-CopiesMade copies.now).copies ≤ grid.cells }
     ensures value { AddsViews result cells.old cells.new (mark_seen place.now grid unit number mark.now (length cells.old)) }
-    ensures count { OnOk result (length cells.new ≡ length cells.old + length copies.copies) }
+    ensures count { OnOk result (length cells.new ≡ length cells.old + length (out-CopiesMade copies.now).copies) }
     ensures legends { All HasLegends cells.old → OnOk result (All HasLegends cells.new) }
 {
     if is_group(mark) {
-        push_cells(alloc, place, grid, copies.copies, mark, unit, number, cells)
+        push_cells(
+            alloc,
+            place,
+            grid,
+            mark,
+            copies.copies.as_slice(),
+            unit,
+            number,
+            cells,
+        )
     } else {
         Ok(())
     }
@@ -427,8 +242,8 @@ fn push_cells<'s>(
     alloc: Global,
     place: &Place<'s, '_>,
     grid: Grid,
-    copies: Seq<CopyOf>,
     mark: &'s VgMark,
+    copies: &[Made],
     unit: u32,
     number: u32,
     cells: &mut Seq<Placed>,
@@ -437,17 +252,17 @@ fn push_cells<'s>(
     requires marks { MayStand (rows_in_frame place.now.frame) (mark.now ∷ []) }
     requires few { AreFew unit number (mark.now ∷ []) }
     requires group { is_group (out-VgMark mark.now) ≡ true }
-    requires copies { All (IsCopy place.now.frame.names (out-VgMark mark.now)) copies }
+    requires copies { All (IsCopyMade place.now.frame.names.sources.now (levels_behind place.now.frame.names.levels.now) (out-VgMark mark.now)) copies.now }
     requires columns { 0 < grid.columns }
-    requires within { length cells.old + length copies ≤ grid.cells }
+    requires within { length cells.old + length copies.now ≤ grid.cells }
     ensures value { AddsViews result cells.old cells.new (all_found (map (cell_seen place.now grid unit number (out-VgMark mark.now))
-        (enumerate_from (length cells.old) (map copy_seen copies)))) }
-    ensures count { OnOk result (length cells.new ≡ length cells.old + length copies) }
+        (enumerate_from (length cells.old) (map made_seen copies.now)))) }
+    ensures count { OnOk result (length cells.new ≡ length cells.old + length copies.now) }
     ensures legends { All HasLegends cells.old → OnOk result (All HasLegends cells.new) }
 {
-    for copy in copies.into_vec() {
+    for copy in copies {
         let spot = spot_of(grid, cells.len() as u64);
-        match cell_view(alloc, place, spot, copy, mark, unit, number) {
+        match cell_view(alloc, place, spot, mark, copy, unit, number) {
             Ok(view) => cells.push(view)?,
             Err(error) => return Err(error),
         }
@@ -461,8 +276,8 @@ fn cell_view<'s>(
     alloc: Global,
     outer: &Place<'s, '_>,
     spot: Spot,
-    copy: CopyOf,
     mark: &'s VgMark,
+    copy: &Made,
     unit: u32,
     number: u32,
 ) -> Result<Placed, EvalError>
@@ -470,13 +285,13 @@ fn cell_view<'s>(
     requires marks { MayStand (rows_in_frame outer.now.frame) (mark.now ∷ []) }
     requires few { AreFew unit number (mark.now ∷ []) }
     requires group { is_group (out-VgMark mark.now) ≡ true }
-    requires copy { IsCopy outer.now.frame.names (out-VgMark mark.now) copy }
+    requires copy { IsCopyMade outer.now.frame.names.sources.now (levels_behind outer.now.frame.names.levels.now) (out-VgMark mark.now) copy.now }
     ensures value { Evaluates result (view_at (place_past (group_object number (out-VgMark mark.now)) spot (place_seen outer.now)) outer.now unit number
-        (out-VgMark mark.now) (copy_seen copy)) }
+        (out-VgMark mark.now) (made_seen copy.now)) }
     ensures legends { IfOk result HasLegends }
 {
     match facet_in(mark) {
-        None => copy_view(alloc, outer, copy, mark, unit, number),
+        None => copy_view(alloc, outer, mark, copy, unit, number),
         Some(_) => {
             let scales = all_past(alloc, spot, outer.frame.scales)?;
             let axes = all_axes_past(alloc, spot, outer.axes)?;
@@ -488,7 +303,7 @@ fn cell_view<'s>(
                 axes: axes.as_slice(),
                 headers: outer.headers,
             };
-            copy_view(alloc, &past, copy, mark, unit, number)
+            copy_view(alloc, &past, mark, copy, unit, number)
         }
     }
 }
@@ -498,8 +313,8 @@ fn cell_view<'s>(
 fn copy_view<'s>(
     alloc: Global,
     outer: &Place<'s, '_>,
-    copy: CopyOf,
     mark: &'s VgMark,
+    copy: &Made,
     unit: u32,
     number: u32,
 ) -> Result<Placed, EvalError>
@@ -507,18 +322,39 @@ fn copy_view<'s>(
     requires marks { MayStand (rows_in_frame outer.now.frame) (mark.now ∷ []) }
     requires few { AreFew unit number (mark.now ∷ []) }
     requires group { is_group (out-VgMark mark.now) ≡ true }
-    requires copy { IsCopy outer.now.frame.names (out-VgMark mark.now) copy }
-    ensures value { Evaluates result (view_at (place_seen outer.now) outer.now unit number (out-VgMark mark.now) (copy_seen copy)) }
+    requires copy { IsCopyMade outer.now.frame.names.sources.now (levels_behind outer.now.frame.names.levels.now) (out-VgMark mark.now) copy.now }
+    ensures value { Evaluates result (view_at (place_seen outer.now) outer.now unit number (out-VgMark mark.now) (made_seen copy.now)) }
     ensures legends { IfOk result HasLegends }
 {
-    let headers = headers_of(alloc, mark, &copy, outer.headers)?;
-    let CopyOf { cells: own, parts } = copy;
-    let cells = more_cells(alloc, outer.frame.cells, own)?;
-    let level = match kept_level(alloc, &outer.frame.names, &mark.group, parts) {
-        Ok(level) => level,
-        Err(error) => return Err(error),
-    };
-    let levels = with_level(alloc, &level, outer.frame.names.levels)?;
+    if keeps_signals(&copy.level, &mark.group) {
+        kept_view(alloc, outer, mark, copy, unit, number)
+    } else {
+        Err(EvalError::Overflow)
+    }
+}
+
+// The view of a copy of a group that has lost no signal of its own.
+#[cycle(viewing)]
+fn kept_view<'s>(
+    alloc: Global,
+    outer: &Place<'s, '_>,
+    mark: &'s VgMark,
+    copy: &Made,
+    unit: u32,
+    number: u32,
+) -> Result<Placed, EvalError>
+    requires place { IsPlace outer.now }
+    requires marks { MayStand (rows_in_frame outer.now.frame) (mark.now ∷ []) }
+    requires few { AreFew unit number (mark.now ∷ []) }
+    requires group { is_group (out-VgMark mark.now) ≡ true }
+    requires copy { IsCopyMade outer.now.frame.names.sources.now (levels_behind outer.now.frame.names.levels.now) (out-VgMark mark.now) copy.now }
+    requires kept { KeepsSignals (out-VgMark mark.now) copy.now }
+    ensures value { Evaluates result (view_at (place_seen outer.now) outer.now unit number (out-VgMark mark.now) (made_seen copy.now)) }
+    ensures legends { IfOk result HasLegends }
+{
+    let headers = headers_of(alloc, mark, copy, outer.headers)?;
+    let cells = more_cells(alloc, outer.frame.cells, &copy.cells)?;
+    let levels = with_level(alloc, &copy.level, outer.frame.names.levels)?;
     let inside = levels.as_slice();
     let shown = headers.as_slice();
     entered_view(
@@ -528,6 +364,7 @@ fn copy_view<'s>(
         slice_of(&cells),
         shown,
         mark,
+        copy.inside.as_slice(),
         unit,
         number,
     )
@@ -542,12 +379,13 @@ fn entered_view<'s, 'x>(
     cells: Option<&'x [(Text, Cell)]>,
     headers: &'x [Header],
     mark: &'s VgMark,
+    made: &[CopiesMade],
     unit: u32,
     number: u32,
 ) -> Result<Placed, EvalError>
     requires place { IsPlace outer.now }
     requires names { AreLevels outer.now.frame.names.sources.now levels.now }
-    requires marks { MayStand (rows_at outer.now.frame.names.sources.now levels.now) (marks_in (out-Group (out-VgMark mark.now).group)) }
+    requires marks { HaveCopies outer.now.frame.names.sources.now levels.now (marks_in (out-Group (out-VgMark mark.now).group)) made.now }
     requires object { KeepsObject (group_object number (out-VgMark mark.now)) }
     requires few { AreFew unit number (mark.now ∷ []) }
     requires group { is_group (out-VgMark mark.now) ≡ true }
@@ -566,7 +404,7 @@ fn entered_view<'s, 'x>(
         axes: outer.axes,
         headers,
     };
-    named_view(alloc, &named, mark, unit, number)
+    named_view(alloc, &named, mark, made, unit, number)
 }
 
 // The view of a copy of a group whose names are known.
@@ -575,11 +413,13 @@ fn named_view<'s>(
     alloc: Global,
     named: &Place<'s, '_>,
     mark: &'s VgMark,
+    made: &[CopiesMade],
     unit: u32,
     number: u32,
 ) -> Result<Placed, EvalError>
     requires place { IsPlace named.now }
-    requires marks { MayStand (rows_in_frame named.now.frame) (marks_in (out-Group (out-VgMark mark.now).group)) }
+    requires marks { HaveCopies named.now.frame.names.sources.now named.now.frame.names.levels.now
+        (marks_in (out-Group (out-VgMark mark.now).group)) made.now }
     requires object { KeepsObject (group_object number (out-VgMark mark.now)) }
     requires few { AreFew unit number (mark.now ∷ []) }
     requires group { is_group (out-VgMark mark.now) ≡ true }
@@ -603,7 +443,7 @@ fn named_view<'s>(
         axes: named.axes,
         headers: named.headers,
     };
-    scaled_view(alloc, &scaled, mark, unit, number)
+    scaled_view(alloc, &scaled, mark, made, unit, number)
 }
 
 // The view of a copy of a group whose scales are known.
@@ -612,11 +452,13 @@ fn scaled_view<'s>(
     alloc: Global,
     scaled: &Place<'s, '_>,
     mark: &'s VgMark,
+    made: &[CopiesMade],
     unit: u32,
     number: u32,
 ) -> Result<Placed, EvalError>
     requires place { IsPlace scaled.now }
-    requires marks { MayStand (rows_in_frame scaled.now.frame) (marks_in (out-Group (out-VgMark mark.now).group)) }
+    requires marks { HaveCopies scaled.now.frame.names.sources.now scaled.now.frame.names.levels.now
+        (marks_in (out-Group (out-VgMark mark.now).group)) made.now }
     requires object { KeepsObject (group_object number (out-VgMark mark.now)) }
     requires few { AreFew unit number (mark.now ∷ []) }
     requires group { is_group (out-VgMark mark.now) ≡ true }
@@ -624,8 +466,8 @@ fn scaled_view<'s>(
     ensures legends { IfOk result HasLegends }
 {
     match &mark.group.layout {
-        Some(layout) => inner_grid_view(alloc, scaled, &mark.group, layout, unit, number),
-        None => inner_plot_view(alloc, scaled, mark, unit, number),
+        Some(layout) => inner_grid_view(alloc, scaled, &mark.group, made, layout, unit, number),
+        None => inner_plot_view(alloc, scaled, mark, made, unit, number),
     }
 }
 
@@ -635,12 +477,13 @@ fn inner_grid_view<'s>(
     alloc: Global,
     scaled: &Place<'s, '_>,
     group: &'s Group,
+    made: &[CopiesMade],
     layout: &Layout,
     unit: u32,
     number: u32,
 ) -> Result<Placed, EvalError>
     requires place { IsPlace scaled.now }
-    requires marks { MayStand (rows_in_frame scaled.now.frame) (marks_in (out-Group group.now)) }
+    requires marks { HaveCopies scaled.now.frame.names.sources.now scaled.now.frame.names.levels.now (marks_in (out-Group group.now)) made.now }
     requires axes { All IsAxis (object_here (out-Group group.now)).axes }
     requires columns { IfSome layout.now.columns IsCount }
     requires few { AreFew unit (suc number) (marks_in (out-Group group.now)) }
@@ -658,7 +501,7 @@ fn inner_grid_view<'s>(
         axes: axes.as_slice(),
         headers: scaled.headers,
     };
-    grid_view(alloc, &here, group, layout, unit, number)
+    grid_view(alloc, &here, group, made, layout, unit, number)
 }
 
 // The view of a copy of a group without a layout whose scales are known.
@@ -666,11 +509,13 @@ fn inner_plot_view<'s>(
     alloc: Global,
     scaled: &Place<'s, '_>,
     mark: &'s VgMark,
+    made: &[CopiesMade],
     unit: u32,
     number: u32,
 ) -> Result<Placed, EvalError>
     requires place { IsPlace scaled.now }
-    requires marks { MayStand (rows_in_frame scaled.now.frame) (marks_in (out-Group (out-VgMark mark.now).group)) }
+    requires marks { HaveCopies scaled.now.frame.names.sources.now scaled.now.frame.names.levels.now
+        (marks_in (out-Group (out-VgMark mark.now).group)) made.now }
     requires object { KeepsObject (group_object number (out-VgMark mark.now)) }
     requires few { AreFew unit number (mark.now ∷ []) }
     requires group { is_group (out-VgMark mark.now) ≡ true }
@@ -697,5 +542,5 @@ fn inner_plot_view<'s>(
         axes: scaled.axes,
         headers: scaled.headers,
     };
-    plot_view(alloc, &sized, &mark.group, unit, number)
+    plot_view(alloc, &sized, &mark.group, made, unit, number)
 }

@@ -1,33 +1,29 @@
 // What the marks in a copy of an object draw in the plot round them.
-ghost use Rattle.std.specs.Prelude.{◌≡◌, ◌∷◌, [], true, suc, map, All, IfOk, OnOk};
+ghost use Rattle.std.specs.Prelude.{◌≡◌, ◌∷◌, [], true, All, IfOk, OnOk};
 ghost use Rattle.std.specs.Option.{option_map};
-ghost use Rattle.cell_value.specs.State.{dataset_of};
 ghost use Rattle.expr_eval.specs.Answers.{Evaluates};
 ghost use Rattle.vega_spec.specs.declared.spec.Group.{out-Group};
 ghost use Rattle.vega_spec.specs.declared.spec.VgMark.{out-VgMark};
-ghost use Rattle.vega_charts.specs.Outlines.{Object, object_here};
-ghost use Rattle.vega_charts.specs.Items.{items_in_plot, items_in_copy};
-ghost use Rattle.vega_charts.specs.Copies.{moved_copy};
-ghost use Rattle.vega_charts.specs.Facets.{copies_of};
-ghost use Rattle.vega_charts.specs.Plots.{drawn_in, with_guides, items_inside, legends_in};
+ghost use Rattle.vega_charts.specs.Outlines.{object_here};
+ghost use Rattle.vega_charts.specs.Items.{items_in_plot, items_in_copy, rows_of_mark};
+ghost use Rattle.vega_charts.specs.Plots.{drawn_in, with_guides, items_inside, and_inside, nothing_inside};
 ghost use Rattle.vega_charts.specs.inner.Framed.{frame_seen, entered, IsFrame};
-ghost use Rattle.vega_charts.specs.inner.Copied.{copy_seen, IsCopy};
 ghost use Rattle.vega_charts.specs.Built.{KeepsObject};
 ghost use Rattle.vega_charts.specs.inner.Outlined.{marks_from, marks_in, plain_of, is_group, AreFew, group_object};
-ghost use Rattle.vega_charts.specs.inner.Drawn.{inside_seen, IsInside, DrawsMore, MayDraw, MayStand, sources_of, placed_from, drawn_framed, drawn_named, drawn_copy, drawn_group};
-ghost use Rattle.vega_charts.specs.Plots.{and_inside, nothing_inside};
-ghost use Rattle.vega_charts.specs.inner.Levels.{rows_at, rows_behind, AreNames, AreLevels, AreParts};
+ghost use Rattle.vega_charts.specs.inner.Drawn.{inside_seen, IsInside, DrawsMore, MayDraw, rows_in_frame, sources_of, placed_from, drawn_framed, drawn_named, drawn_copy, drawn_group};
+ghost use Rattle.vega_charts.specs.inner.Made.{levels_behind, made_seen, HaveCopies, IsCopyMade, KeepsSignals, OneMade};
+ghost use Rattle.vega_charts.specs.inner.Standing.{MayStand};
+ghost use Rattle.vega_charts.specs.inner.Levels.{rows_at, rows_behind, AreNames, AreLevels};
 ghost use Rattle.vega_lists.specs.Held.{scope_read};
 ghost use Rattle.mark_encode.specs.Orders.{data_of};
-ghost use Rattle.vega_charts.specs.Items.{rows_of_mark};
 ghost use Rattle.plain_rows.specs.Rows.{AreRows};
 ghost use Rattle.vega_guides.specs.Shown.{IsAxis};
 
 use crate::axes::{axes_in, push_own_axes};
-use crate::copies::{CopyOf, copies_of};
 use crate::frames::{Frame, encoded_number, more_cells, slice_of};
 use crate::legends::push_legends;
-use crate::levels::{kept_level, with_level};
+use crate::levels::{keeps_signals, with_level};
+use crate::made::{CopiesMade, Made};
 use crate::marks::{count_groups_of, count_marks_of, is_group, marks_in};
 use crate::names::{Level, NamesAt};
 use crate::scales::{OfChart, and_outer, own_scales, scales_in, set_of};
@@ -191,9 +187,10 @@ fn draw_framed<'s>(
     unit: u32,
     number: u32,
     mark: &'s VgMark,
+    made: &[CopiesMade],
     out: &mut Inside<'s>,
 ) -> Result<(), EvalError>
-    requires frame { MayDraw frame.now (marks_in (out-Group (out-VgMark mark.now).group)) }
+    requires frame { MayDraw frame.now (marks_in (out-Group (out-VgMark mark.now).group)) made.now }
     requires object { KeepsObject (group_object number (out-VgMark mark.now)) }
     requires few { AreFew unit number (mark.now ∷ []) }
     requires group { is_group (out-VgMark mark.now) ≡ true }
@@ -210,7 +207,15 @@ fn draw_framed<'s>(
     };
     let here = Frame { x, y, ..*frame };
     draw_guides(alloc, &here, number, &mark.group, out)?;
-    draw_all(alloc, &here, unit, number + 1, marks_in(&mark.group), out)
+    draw_all(
+        alloc,
+        &here,
+        unit,
+        number + 1,
+        marks_in(&mark.group),
+        made,
+        out,
+    )
 }
 
 // What a copy of a group draws whose names are known.
@@ -221,9 +226,10 @@ fn draw_named<'s>(
     unit: u32,
     number: u32,
     mark: &'s VgMark,
+    made: &[CopiesMade],
     out: &mut Inside<'s>,
 ) -> Result<(), EvalError>
-    requires frame { MayDraw named.now (marks_in (out-Group (out-VgMark mark.now).group)) }
+    requires frame { MayDraw named.now (marks_in (out-Group (out-VgMark mark.now).group)) made.now }
     requires object { KeepsObject (group_object number (out-VgMark mark.now)) }
     requires few { AreFew unit number (mark.now ∷ []) }
     requires group { is_group (out-VgMark mark.now) ≡ true }
@@ -235,7 +241,7 @@ fn draw_named<'s>(
         Err(error) => return Err(error),
     };
     if own.is_empty() {
-        return draw_framed(alloc, named, unit, number, mark, out);
+        return draw_framed(alloc, named, unit, number, mark, made, out);
     }
     let scales = and_outer(alloc, own.as_slice(), named.scales)?;
     let here = scales.as_slice();
@@ -245,7 +251,7 @@ fn draw_named<'s>(
         set: &set,
         ..*named
     };
-    draw_framed(alloc, &frame, unit, number, mark, out)
+    draw_framed(alloc, &frame, unit, number, mark, made, out)
 }
 
 // What a copy of a group draws whose own names are known, with the cells of the facets round it and its own.
@@ -258,15 +264,17 @@ fn draw_entered<'s, 'x>(
     unit: u32,
     number: u32,
     mark: &'s VgMark,
+    made: &[CopiesMade],
     out: &mut Inside<'s>,
 ) -> Result<(), EvalError>
     requires frame { IsFrame outer.now }
     requires names { AreLevels outer.now.names.sources.now levels.now }
-    requires marks { MayStand (rows_at outer.now.names.sources.now levels.now) (marks_in (out-Group (out-VgMark mark.now).group)) }
+    requires marks { HaveCopies outer.now.names.sources.now levels.now (marks_in (out-Group (out-VgMark mark.now).group)) made.now }
     requires object { KeepsObject (group_object number (out-VgMark mark.now)) }
     requires few { AreFew unit number (mark.now ∷ []) }
     requires group { is_group (out-VgMark mark.now) ≡ true }
-    ensures value { DrawsMore result out.old out.new (drawn_named (sources_of outer.now) (entered outer.now levels.now cells.entry) unit number (out-VgMark mark.now)) }
+    ensures value { DrawsMore result out.old out.new
+        (drawn_named (sources_of outer.now) (entered outer.now levels.now cells.entry) unit number (out-VgMark mark.now)) }
     ensures kept { IsInside out.old → OnOk result (IsInside out.new) }
 {
     let named = Frame {
@@ -277,7 +285,7 @@ fn draw_entered<'s, 'x>(
         cells,
         ..*outer
     };
-    draw_named(alloc, &named, unit, number, mark, out)
+    draw_named(alloc, &named, unit, number, mark, made, out)
 }
 
 // What a copy of a group draws.
@@ -285,26 +293,51 @@ fn draw_entered<'s, 'x>(
 fn draw_copy<'s>(
     alloc: Global,
     outer: &Frame,
-    copy: CopyOf,
     unit: u32,
     number: u32,
     mark: &'s VgMark,
+    copy: &Made,
     out: &mut Inside<'s>,
 ) -> Result<(), EvalError>
-    requires frame { MayDraw outer.now (mark.now ∷ []) }
-    requires copy { IsCopy outer.now.names (out-VgMark mark.now) copy }
+    requires frame { IsFrame outer.now }
+    requires marks { MayStand (rows_in_frame outer.now) (mark.now ∷ []) }
+    requires copy { IsCopyMade outer.now.names.sources.now (levels_behind outer.now.names.levels.now) (out-VgMark mark.now) copy.now }
     requires few { AreFew unit number (mark.now ∷ []) }
     requires group { is_group (out-VgMark mark.now) ≡ true }
-    ensures value { DrawsMore result out.old out.new (drawn_copy (sources_of outer.now) (frame_seen outer.now) unit number (out-VgMark mark.now) (copy_seen copy)) }
+    ensures value { DrawsMore result out.old out.new
+        (drawn_copy (sources_of outer.now) (frame_seen outer.now) unit number (out-VgMark mark.now) (made_seen copy.now)) }
     ensures kept { IsInside out.old → OnOk result (IsInside out.new) }
 {
-    let CopyOf { cells: own, parts } = copy;
-    let cells = more_cells(alloc, outer.cells, own)?;
-    let level = match kept_level(alloc, &outer.names, &mark.group, parts) {
-        Ok(level) => level,
-        Err(error) => return Err(error),
-    };
-    let levels = with_level(alloc, &level, outer.names.levels)?;
+    if keeps_signals(&copy.level, &mark.group) {
+        draw_kept(alloc, outer, unit, number, mark, copy, out)
+    } else {
+        Err(EvalError::Overflow)
+    }
+}
+
+// What a copy of a group draws that has lost no signal of its own.
+#[cycle(drawing)]
+fn draw_kept<'s>(
+    alloc: Global,
+    outer: &Frame,
+    unit: u32,
+    number: u32,
+    mark: &'s VgMark,
+    copy: &Made,
+    out: &mut Inside<'s>,
+) -> Result<(), EvalError>
+    requires frame { IsFrame outer.now }
+    requires marks { MayStand (rows_in_frame outer.now) (mark.now ∷ []) }
+    requires copy { IsCopyMade outer.now.names.sources.now (levels_behind outer.now.names.levels.now) (out-VgMark mark.now) copy.now }
+    requires kept { KeepsSignals (out-VgMark mark.now) copy.now }
+    requires few { AreFew unit number (mark.now ∷ []) }
+    requires group { is_group (out-VgMark mark.now) ≡ true }
+    ensures value { DrawsMore result out.old out.new
+        (drawn_copy (sources_of outer.now) (frame_seen outer.now) unit number (out-VgMark mark.now) (made_seen copy.now)) }
+    ensures kept { IsInside out.old → OnOk result (IsInside out.new) }
+{
+    let cells = more_cells(alloc, outer.cells, &copy.cells)?;
+    let levels = with_level(alloc, &copy.level, outer.names.levels)?;
     draw_entered(
         alloc,
         &*outer,
@@ -313,6 +346,7 @@ fn draw_copy<'s>(
         unit,
         number,
         mark,
+        copy.inside.as_slice(),
         out,
     )
 }
@@ -325,17 +359,20 @@ fn draw_group<'s>(
     unit: u32,
     number: u32,
     mark: &'s VgMark,
+    made: &CopiesMade,
     out: &mut Inside<'s>,
 ) -> Result<(), EvalError>
-    requires frame { MayDraw frame.now (mark.now ∷ []) }
+    requires frame { IsFrame frame.now }
+    requires marks { MayStand (rows_in_frame frame.now) (mark.now ∷ []) }
+    requires made { OneMade frame.now.names.sources.now (levels_behind frame.now.names.levels.now) mark.now made.now }
     requires few { AreFew unit number (mark.now ∷ []) }
     requires group { is_group (out-VgMark mark.now) ≡ true }
     ensures value { DrawsMore result out.old out.new (drawn_group (sources_of frame.now) (frame_seen frame.now) unit number (out-VgMark mark.now)) }
     ensures kept { IsInside out.old → OnOk result (IsInside out.new) }
 {
-    let found = copies_of(alloc, &frame.names, mark)?;
-    for copy in found.copies.into_vec() {
-        match draw_copy(alloc, frame, copy, unit, number, mark, out) {
+    let copies = made.copies.as_slice();
+    for copy in copies {
+        match draw_copy(alloc, frame, unit, number, mark, copy, out) {
             Ok(()) => {}
             Err(error) => return Err(error),
         }
@@ -351,22 +388,26 @@ fn draw_one<'s>(
     unit: u32,
     number: u32,
     mark: &'s VgMark,
+    made: &CopiesMade,
     out: &mut Inside<'s>,
 ) -> Result<(), EvalError>
-    requires frame { MayDraw frame.now (mark.now ∷ []) }
+    requires frame { IsFrame frame.now }
+    requires marks { MayStand (rows_in_frame frame.now) (mark.now ∷ []) }
+    requires made { OneMade frame.now.names.sources.now (levels_behind frame.now.names.levels.now) mark.now made.now }
     requires few { AreFew unit number (mark.now ∷ []) }
     ensures value { DrawsMore result out.old out.new
         (drawn_in (sources_of frame.now) (marks_from unit number (mark.now ∷ [])) (frame_seen frame.now)) }
     ensures kept { IsInside out.old → OnOk result (IsInside out.new) }
 {
     if is_group(mark) {
-        draw_group(alloc, frame, unit, number, mark, out)
+        draw_group(alloc, frame, unit, number, mark, made, out)
     } else {
         draw_mark(alloc, frame, unit, mark, out)
     }
 }
 
-/// Adds what marks draw, which are numbered from `unit` on, and the groups among them from `number` on, in the order of the text.
+/// Adds what marks draw whose groups have these copies, in the order of the text. They are numbered from `unit` on, and the groups among them
+/// from `number` on.
 #[cycle(drawing)]
 pub(crate) fn draw_all<'s>(
     alloc: Global,
@@ -374,9 +415,10 @@ pub(crate) fn draw_all<'s>(
     unit: u32,
     number: u32,
     marks: &'s [VgMark],
+    made: &[CopiesMade],
     out: &mut Inside<'s>,
 ) -> Result<(), EvalError>
-    requires frame { MayDraw frame.now marks.now }
+    requires frame { MayDraw frame.now marks.now made.now }
     requires few { AreFew unit number marks.now }
     ensures value { DrawsMore result out.old out.new
         (drawn_in (sources_of frame.now) (marks_from unit number marks.now) (frame_seen frame.now)) }
@@ -384,13 +426,15 @@ pub(crate) fn draw_all<'s>(
 {
     let mut next_unit = unit;
     let mut next_number = number;
+    let mut at = 0;
     for mark in marks {
-        match draw_one(alloc, frame, next_unit, next_number, mark, out) {
+        match draw_one(alloc, frame, next_unit, next_number, mark, &made[at], out) {
             Ok(()) => {}
             Err(error) => return Err(error),
         }
         next_unit += count_marks_of(mark);
         next_number += count_groups_of(mark);
+        at += 1;
     }
     Ok(())
 }

@@ -16,8 +16,8 @@ use vega_guides::{LegendChannel, legend_shown};
 use vega_scenes::LegendShown;
 use vega_spec::{Group, Legend};
 
-/// The legends of an object.
-pub(crate) fn legends_in(group: &Group) -> &[Legend]
+// The legends of an object.
+fn legends_in(group: &Group) -> &[Legend]
     ensures { result.now ≡ (object_here (out-Group group.now)).legends }
 {
     match &group.legends {

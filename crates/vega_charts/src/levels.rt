@@ -10,15 +10,14 @@ ghost use Rattle.vega_charts.specs.inner.Results.{result_map};
 ghost use Rattle.cell_value.specs.State.{dataset_of};
 ghost use Rattle.expr_eval.specs.Answers.{Evaluates};
 ghost use Rattle.vega_spec.specs.declared.spec.Group.{out-Group};
-ghost use Rattle.vega_lists.specs.Held.{AreSources};
 ghost use Rattle.vega_lists.specs.Inside.{AllKeysFit, SetsMayFold};
 ghost use Rattle.vega_lists.specs.Products.{Products, products_after};
 ghost use Rattle.vega_lists.specs.Held.{AreAllRows};
 ghost use Rattle.vega_lists.specs.Transforms.{is_kept, OfTransforms};
 ghost use Rattle.vega_signals.specs.Signals.{data_of};
 ghost use Rattle.vega_charts.specs.Outlines.{object_here};
-ghost use Rattle.vega_charts.specs.Scopes.{written_here, names_with, names_in_object, settled_in};
-ghost use Rattle.vega_charts.specs.inner.Levels.{parts_over, rows_at, names_at, names_over, names_with_level, rows_with_level, names_with_parts, kept_names, lost_at, AreNames, AreParts};
+ghost use Rattle.vega_charts.specs.Scopes.{written_here, names_in_object};
+ghost use Rattle.vega_charts.specs.inner.Levels.{parts_over, rows_at, names_over, names_with_level, rows_with_level, names_with_parts, lost_at, AreNames, AreParts};
 
 use crate::names::{Level, NamesAt, part_named, referred};
 use cell_value::{Cell, Keyed, Named};
@@ -128,6 +127,7 @@ pub(crate) fn level_with(
     ensures value { Evaluates (result_map (names_with_level outer.now) result)
         (names_with_parts outer.now parts (object_here (out-Group group.now)) given.now) }
     ensures rows { IfOk result (λ level. AreAllRows (rows_with_level outer.now level)) }
+    ensures parts { IfOk result (λ level. level.parts ≡ parts) }
     ensures folds { (products : Products) → AllKeysFit products (parts_over parts (rows_at outer.now.sources.now outer.now.levels.now))
         → IfOk result (λ level. AllKeysFit (products_after products (data_of (out-Group group.now))) (rows_with_level outer.now level)) }
 {
@@ -178,6 +178,7 @@ pub(crate) fn level_in(
     ensures value { Evaluates (result_map (names_with_level outer.now) result)
         (names_in_object (map dataset_of outer.now.sources.now) (names_over outer.now parts) (object_here (out-Group group.now))) }
     ensures rows { IfOk result (λ level. AreAllRows (rows_with_level outer.now level)) }
+    ensures parts { IfOk result (λ level. level.parts ≡ parts) }
     ensures folds { (products : Products) → AllKeysFit products (parts_over parts (rows_at outer.now.sources.now outer.now.levels.now))
         → IfOk result (λ level. AllKeysFit (products_after products (data_of (out-Group group.now))) (rows_with_level outer.now level)) }
 {
@@ -215,31 +216,4 @@ pub(crate) fn keeps_signals(level: &Level, group: &Group) -> bool
     signals_of(group)
         .iter()
         .all(|signal| is_kept_signal(level, signal))
-}
-
-/// The names of a copy of a group in the copy of the object round it. `Overflow` comes exactly where one of its data sets overflows, or one
-/// of its signals is lost.
-pub(crate) fn kept_level(
-    alloc: Global,
-    outer: &NamesAt,
-    group: &Group,
-    parts: Seq<Named>,
-) -> Result<Level, EvalError>
-    requires outer { AreNames outer.now }
-    requires parts { AreParts parts }
-    requires kept { All (OfTransforms is_kept) (data_of (out-Group group.now)) }
-    requires folds { SetsMayFold (parts_over parts (rows_at outer.now.sources.now outer.now.levels.now)) (data_of (out-Group group.now)) }
-    ensures value { Evaluates (result_map (names_with_level outer.now) result)
-        (kept_names (object_here (out-Group group.now))
-        (names_in_object (map dataset_of outer.now.sources.now) (names_over outer.now parts) (object_here (out-Group group.now)))) }
-    ensures rows { IfOk result (λ level. AreAllRows (rows_with_level outer.now level)) }
-    ensures folds { (products : Products) → AllKeysFit products (parts_over parts (rows_at outer.now.sources.now outer.now.levels.now))
-        → IfOk result (λ level. AllKeysFit (products_after products (data_of (out-Group group.now))) (rows_with_level outer.now level)) }
-{
-    let level = level_in(alloc, outer, group, parts)?;
-    if keeps_signals(&level, group) {
-        Ok(level)
-    } else {
-        Err(EvalError::Overflow)
-    }
 }

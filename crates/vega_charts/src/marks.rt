@@ -35,7 +35,7 @@ pub(crate) fn is_group(mark: &VgMark) -> bool
 /// How many marks other than groups there are, those in groups among them.
 #[cycle(counting)]
 #[tactic(auto, using(crate::proofs::OutlineLemmas::counted_first, crate::proofs::OutlineLemmas::counted_alone, crate::proofs::OutlineLemmas::plain_counted))]
-pub fn count_marks(marks: &[VgMark]) -> u32
+pub(crate) fn count_marks(marks: &[VgMark]) -> u32
     requires few { count_marks (marks_of marks.now) < 2 ^ 32 }
     ensures { result ≡ count_marks (marks_of marks.now) }
 {

@@ -1,6 +1,5 @@
 // What names stand for at a copy of an object: lists of rows, and the values of signals.
-ghost use Rattle.std.specs.Prelude.{◌≡◌, [], ℕ, List, IfOk, OnOk, map, option_copied};
-ghost use Rattle.std.specs.Option.{option_map};
+ghost use Rattle.std.specs.Prelude.{◌≡◌, [], IfOk, map, option_copied};
 ghost use Rattle.cell_value.specs.declared.state.Named.{Named};
 ghost use Rattle.vega_charts.specs.inner.Levels.{part_named, rows_here, rows_at, signal_named, values_at};
 

@@ -8,25 +8,26 @@ ghost use Rattle.vega_charts.specs.Built.{KeepsObject};
 ghost use Rattle.vega_charts.specs.Outlines.{count_marks, first_unit};
 ghost use Rattle.vega_charts.specs.Plots.{nothing_inside, plot_of, scales_of_plot};
 ghost use Rattle.vega_charts.specs.Scales.{scale_in};
-ghost use Rattle.vega_charts.specs.inner.Drawn.{inside_seen, rows_in_frame, sources_of, IsInside, MayDraw, MayStand};
-ghost use Rattle.vega_charts.specs.inner.Framed.{frame_seen, frame_with, cells_seen, IsFrame};
+ghost use Rattle.vega_charts.specs.inner.Drawn.{inside_seen, sources_of, IsInside, MayDraw};
+ghost use Rattle.vega_charts.specs.inner.Made.{HaveCopies};
+ghost use Rattle.vega_charts.specs.inner.Framed.{frame_seen, frame_with, IsFrame};
 ghost use Rattle.vega_charts.specs.inner.Kept.{axis_seen, scale_seen, AreKeptAxes, IsKeptScale};
 ghost use Rattle.vega_charts.specs.inner.Outlined.{marks_from, marks_in, marks_of, object_numbered, AreFew};
 ghost use Rattle.vega_charts.specs.inner.Plotted.{is_of_plot, plot_round, plot_with, standing_in};
 ghost use Rattle.vega_charts.specs.inner.Results.{result_map};
 
 use crate::axes::push_all_shown;
-use crate::frames::Frame;
+use crate::frames::{Frame, cells_copied};
 use crate::inside::{Inside, draw_all, draw_guides};
+use crate::made::CopiesMade;
 use crate::marks::{first_unit, marks_in};
 use crate::scales::{AxisHere, ScaleHere, scale_in};
 use crate::units::in_unit_order;
-use cell_value::Cell;
 use expr_eval::EvalError;
 use guide_kit::GuideError;
 use scale_kit::ScaleIn;
 use std::alloc::Global;
-use text_kit::{Copies, OutOfMemory, Seq, Text, copy_list};
+use text_kit::{Copies, OutOfMemory, Seq};
 use vega_guides::Axes;
 use vega_scenes::{Header, Plot, axes_at};
 use vega_spec::Group;
@@ -62,7 +63,7 @@ fn scales_of_plot(alloc: Global, frame: &Frame) -> Result<Seq<ScaleIn>, OutOfMem
     Ok(out)
 }
 
-// Headers once more.
+/// The same headers once more.
 pub(crate) fn headers_copied(alloc: Global, headers: &[Header]) -> Result<Seq<Header>, OutOfMemory>
     ensures { IfOk result (λ copy. copy ≡ headers.now) }
 {
@@ -74,19 +75,6 @@ pub(crate) fn headers_copied(alloc: Global, headers: &[Header]) -> Result<Seq<He
         })?;
     }
     Ok(out)
-}
-
-// The cells of the facets round a copy once more.
-fn cells_copied(
-    alloc: Global,
-    cells: Option<&[(Text, Cell)]>,
-) -> Result<Option<Seq<(Text, Cell)>>, OutOfMemory>
-    ensures { IfOk result (λ copy. copy ≡ cells_seen cells.entry) }
-{
-    match cells {
-        Some(cells) => Ok(Some(copy_list(alloc, cells)?)),
-        None => Ok(None),
-    }
 }
 
 // Nothing inside a plot.
@@ -107,11 +95,12 @@ fn draw_inside<'s>(
     frame: &Frame,
     axes: &[AxisHere<'s, '_>],
     group: &'s Group,
+    made: &[CopiesMade],
     unit: u32,
     number: u32,
     out: &mut Inside<'s>,
 ) -> Result<(), EvalError>
-    requires frame { MayDraw frame.now (marks_in (out-Group group.now)) }
+    requires frame { MayDraw frame.now (marks_in (out-Group group.now)) made.now }
     requires axes { AreKeptAxes axes.now }
     requires object { KeepsObject (object_numbered number (out-Group group.now)) }
     requires few { AreFew unit (suc number) (marks_in (out-Group group.now)) }
@@ -123,7 +112,7 @@ fn draw_inside<'s>(
 {
     push_all_shown(alloc, frame.width, frame.height, axes, &mut out.axes)?;
     draw_guides(alloc, frame, number, group, out)?;
-    draw_all(alloc, frame, unit, number + 1, marks_in(group), out)
+    draw_all(alloc, frame, unit, number + 1, marks_in(group), made, out)
 }
 
 // What stands in a plot.
@@ -132,10 +121,11 @@ fn inside_of<'s>(
     frame: &Frame,
     axes: &[AxisHere<'s, '_>],
     group: &'s Group,
+    made: &[CopiesMade],
     unit: u32,
     number: u32,
 ) -> Result<Inside<'s>, EvalError>
-    requires frame { MayDraw frame.now (marks_in (out-Group group.now)) }
+    requires frame { MayDraw frame.now (marks_in (out-Group group.now)) made.now }
     requires axes { AreKeptAxes axes.now }
     requires object { KeepsObject (object_numbered number (out-Group group.now)) }
     requires few { AreFew unit (suc number) (marks_in (out-Group group.now)) }
@@ -144,7 +134,7 @@ fn inside_of<'s>(
     ensures kept { IfOk result IsInside }
 {
     let mut inside = no_inside(alloc);
-    match draw_inside(alloc, frame, axes, group, unit, number, &mut inside) {
+    match draw_inside(alloc, frame, axes, group, made, unit, number, &mut inside) {
         Ok(()) => Ok(inside),
         Err(error) => Err(error),
     }
@@ -202,27 +192,29 @@ fn plot_round(
     }
 }
 
-/// The plot of a copy of an object: the axes of the grids round it, its own and those of the groups in it, each where it stands; its items
-/// by the numbers of their marks; its own legends and those of the groups in it. `Overflow` comes exactly where a number is out of range.
+/// The plot of a copy of an object whose groups have these copies: the axes of the grids round it, its own and those of the groups in it,
+/// each where it stands; its items by the numbers of their marks; its own legends and those of the groups in it. Its own number is `number`,
+/// and its marks are numbered from `unit` on. `Overflow` comes exactly where a number is out of range.
 pub(crate) fn plot_of<'s>(
     alloc: Global,
     frame: &Frame,
     axes: &[AxisHere<'s, '_>],
     headers: &[Header],
     group: &'s Group,
+    made: &[CopiesMade],
     unit: u32,
     number: u32,
 ) -> Result<Plot, EvalError>
     requires frame { IsFrame frame.now }
     requires axes { AreKeptAxes axes.now }
-    requires marks { MayStand (rows_in_frame frame.now) (marks_in (out-Group group.now)) }
+    requires marks { HaveCopies frame.now.names.sources.now frame.now.names.levels.now (marks_in (out-Group group.now)) made.now }
     requires object { KeepsObject (object_numbered number (out-Group group.now)) }
     requires few { AreFew unit (suc number) (marks_in (out-Group group.now)) }
     ensures value { Evaluates result (plot_of (sources_of frame.now) (object_numbered number (out-Group group.now))
         (marks_from unit (suc number) (marks_in (out-Group group.now))) (frame_with frame.now axes.now headers.now)) }
     ensures legends { IfOk result (λ plot. All IsLegendShown plot.legends) }
 {
-    match inside_of(alloc, frame, axes, group, unit, number) {
+    match inside_of(alloc, frame, axes, group, made, unit, number) {
         Ok(inside) => plot_round(alloc, frame, headers, group, unit, inside),
         Err(error) => Err(error),
     }

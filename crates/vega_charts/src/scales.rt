@@ -1,18 +1,17 @@
 // The scales that have names at a copy of an object, and axes over them.
 ghost use Rattle.std.specs.Prelude.{◌≡◌, ◌∷◌, ◌++◌, [], not, IfOk, OnOk, IsTrue, map, All, option_copied};
-ghost use Rattle.std.specs.List.{list_all};
+ghost use Rattle.std.specs.List.{list_all, filter};
 ghost use Rattle.vega_spec.specs.declared.spec.Group.{out-Group};
 ghost use Rattle.vega_charts.specs.Outlines.{object_here};
-ghost use Rattle.std.specs.List.{filter, filter_map};
-ghost use Rattle.std.specs.Option.{option_map, option_to_list};
+ghost use Rattle.std.specs.Option.{option_map};
 ghost use Rattle.vega_charts.specs.inner.Results.{result_map};
 ghost use Rattle.fixed_num.specs.Ranges.{all_found};
 ghost use Rattle.expr_eval.specs.Answers.{Evaluates};
 ghost use Rattle.scale_kit.specs.Scale.{IsPixel, IsScale, AreScales};
 ghost use Rattle.vega_scales.specs.Scales.{is_built, is_domain_built, KeepsBounds};
 ghost use Rattle.vega_charts.specs.Scales.{name_of, own_scale, has_scale, and_outer, scale_named, set_of, scale_in, laid_over, past, is_at, is_sized};
-ghost use Rattle.vega_charts.specs.inner.Levels.{rows_at, names_at, AreNames};
-ghost use Rattle.vega_charts.specs.inner.Kept.{kept_seen, scale_seen, axis_seen, chart_has, IsKeptScale, AreKeptScales};
+ghost use Rattle.vega_charts.specs.inner.Levels.{names_at, AreNames};
+ghost use Rattle.vega_charts.specs.inner.Kept.{kept_seen, scale_seen, chart_has, IsKeptScale, AreKeptScales};
 
 use crate::names::NamesAt;
 use crate::spots::{Spot, is_at};
@@ -240,7 +239,7 @@ pub(crate) fn and_outer<'s, 'a>(
     Ok(out)
 }
 
-/// The scale in a plot of this width and height.
+/// The scale in a plot of this width and height in pixels.
 pub(crate) fn laid_over(
     alloc: Global,
     width: Num,
@@ -256,7 +255,7 @@ pub(crate) fn laid_over(
     scale_over(alloc, scale.kept.scale, width, height, &scale.kept.domain)
 }
 
-/// The same by its name.
+/// The scale in such a plot, by its name. It belongs to no panel yet.
 pub(crate) fn scale_in(
     alloc: Global,
     width: Num,
@@ -276,7 +275,7 @@ pub(crate) fn scale_in(
     })
 }
 
-/// The scales by their names in a plot of this width and height.
+/// The scales by their names in a plot of this width and height in pixels.
 pub(crate) fn set_of(
     alloc: Global,
     width: Num,

@@ -1,8 +1,9 @@
 // How wide and how high a plot is, and the space round it.
 ghost use Rattle.std.specs.Prelude.{◌≡◌, ◌≤ℤ◌, ◌*◌, pos, neg_ℤ, IfOk};
-ghost use Rattle.fixed_num.specs.Number.{limit, million};
+ghost use Rattle.fixed_num.specs.Number.{limit};
 ghost use Rattle.expr_eval.specs.Answers.{Evaluates};
 ghost use Rattle.scale_kit.specs.Scale.{IsPixel};
+ghost use Rattle.vega_charts.specs.Grids.{size_cut};
 ghost use Rattle.vega_charts.specs.Sizes.{size_in, size_of, padding_round, IsSizeKept};
 
 use cell_value::Cell;
@@ -15,7 +16,7 @@ use vega_spec::Size;
 /// The greatest size of a plot, in millionths of a pixel.
 const GREATEST_SIZE: i128 = 100_000_000_000_000_000;
 
-// So many millionths, which are a number.
+/// So many millionths, which are a number.
 pub(crate) fn number(millionths: i128) -> Num
     requires low { neg_ℤ (pos limit) ≤ℤ millionths }
     requires high { millionths ≤ℤ pos limit }
@@ -27,7 +28,7 @@ pub(crate) fn number(millionths: i128) -> Num
     number
 }
 
-// A computed size is cut to 0 to 10^11 pixels; what is no number is 0.
+/// A computed size, cut to 0 to 10^11 pixels; what is no number is 0.
 pub(crate) fn size_in(cell: &Cell) -> Num
     ensures value { result ≡ size_in cell.now }
     ensures pixel { IsPixel result }
@@ -38,7 +39,16 @@ pub(crate) fn size_in(cell: &Cell) -> Num
     }
 }
 
-/// The width or height of a plot: as written, else that of its expression; 0 where it is absent.
+/// A number cut to the sizes that plots have, 0 to 10^11 pixels.
+pub(crate) fn size_cut(size: Num) -> Num
+    ensures value { result ≡ size_cut size }
+    ensures pixel { IsPixel result }
+{
+    size_in(&Cell::Number(size))
+}
+
+/// The width or height of a plot in pixels: as written, else that of its expression; 0 where it is absent. `Overflow` comes exactly where the
+/// expression overflows.
 pub(crate) fn size_of<P: ParamReader>(
     alloc: Global,
     size: &Option<Size>,

@@ -1,5 +1,5 @@
 // Where copies stand in their grids.
-ghost use Rattle.std.specs.Prelude.{◌≡◌, ◌<◌, ◌+◌, ◌^◌};
+ghost use Rattle.std.specs.Prelude.{◌≡◌, ◌<◌};
 ghost use Rattle.vega_charts.specs.Scales.{spot_of, is_at};
 
 use vega_spec::Edge;

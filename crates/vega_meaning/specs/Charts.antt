@@ -15,7 +15,7 @@ abbrev pub scene_in : Drawing → Scene
 scene_in drawing = drawing.scene
 
 -- The scene over sources of rows and values of the parameters that can be set: that of what is drawn, which may be out of range or have too
--- many panels. No specification that has a meaning so far has selections, so nothing is read of stores.
+-- many plots in facets. No specification that has a meaning so far has selections, so nothing is read of stores.
 abbrev pub scene_over : VgSpec → List Dataset → List (List ℕ × Cell) → Outcome Scene
 scene_over g sources params = outcome_map scene_in (drawing_of g no_values params sources)
 

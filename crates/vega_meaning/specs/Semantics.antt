@@ -9,7 +9,7 @@ use Rattle.param_flow.specs.Semantics.{Semantics, ParamKind, ParamOf}
 use Rattle.param_flow.specs.Semantics as kind
 use Rattle.param_flow.specs.Machine.{reply_of, state_after}
 use Rattle.param_flow.specs.Playing.{IsReply}
-use Rattle.param_flow.specs.Script.{IsOutput, IsOutputOf}
+use Rattle.param_flow.specs.Script.{IsOutputOf}
 use Rattle.vega_spec.specs.declared.names.Parameter.{Parameter}
 use Rattle.vega_spec.specs.declared.names.ParameterKind.{ParameterKind}
 use Rattle.vega_spec.specs.declared.names.ParameterKind.TheVariants as vega

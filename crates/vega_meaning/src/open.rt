@@ -10,7 +10,7 @@ use text_kit::OutOfMemory;
 pub enum OpenError {
     /// A number is out of range.
     Overflow,
-    /// The chart has so many panels, more than a chart may have.
+    /// So many plots of the chart stand in facets, which is more than 400.
     Panels(u64),
     /// Memory was refused.
     Memory,

@@ -1,5 +1,5 @@
 mod AxisLemmas
-mod OrderLemmas
+pub mod OrderLemmas
 mod BlockLemmas
 mod GridLemmas
 mod PanelLemmas

@@ -2,7 +2,6 @@
 use Rattle.std.specs.Prelude.{Option, Some, None, Result}
 use Rattle.text_kit.specs.Answer.{GivesAs}
 use Rattle.chart_opening.specs.declared.refusal.Refusal.{Refusal}
-use Rattle.chart_opening.specs.declared.refusal.Refusal.TheVariants as refusal
 use Rattle.chart_opening.specs.declared.refusal.Stop.{Stop}
 use Rattle.chart_opening.specs.declared.refusal.Stop.TheVariants as stop
 use Rattle.chart_opening.specs.declared.refusal.OpenStop.{OpenStop}

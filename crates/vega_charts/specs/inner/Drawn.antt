@@ -3,29 +3,27 @@ use Rattle.std.specs.Prelude.{◌≡◌, ℕ, suc, ℤ, ◌+ℤ◌, Option, Some
 use Rattle.std.specs.Option.{option_map}
 use Rattle.expr_eval.specs.declared.error.EvalError.{EvalError}
 use Rattle.expr_eval.specs.declared.error.EvalError.TheVariants as error
-use Rattle.vega_spec.specs.declared.spec.VgMark.{VgMark}
-use Rattle.vega_lists.specs.Inside.{RowsByName, AllKeysFit}
-use Rattle.vega_lists.specs.Products.{Products}
+use Rattle.vega_spec.specs.declared.spec.VgMark.{VgMark, VgMark-F}
+use Rattle.vega_lists.specs.Inside.{RowsByName}
 use Rattle.vega_scenes.specs.Axes.{seen, HoldsAxis}
 use Rattle.vega_scenes.specs.Legends.{IsLegendShown}
 use Rattle.vega_charts.specs.declared.frames.Frame.{Frame as HeldFrame}
 use Rattle.vega_charts.specs.declared.inside.Inside.{Inside as HeldInside}
-use Rattle.vega_charts.specs.Outlines.{Marks}
 use Rattle.fixed_num.specs.Ranges.{◌>>=◌, all_found, in_range}
 use Rattle.cell_value.specs.State.{Dataset, dataset_of}
 use Rattle.mark_encode.specs.declared.channels.ChannelName.{ChannelName}
 use Rattle.mark_encode.specs.declared.channels.ChannelName.TheVariants as channel
 use Rattle.vega_spec.specs.declared.spec.Group.{Group, out-Group}
-use Rattle.vega_spec.specs.declared.spec.VgMark.{VgMark-F}
 use Rattle.vega_charts.specs.Outlines.{Object}
 use Rattle.vega_charts.specs.Facets.{Copy, copies_of}
 use Rattle.vega_charts.specs.Scales.{own_scale, and_outer}
 use Rattle.vega_charts.specs.Copies.{Frame, encoded_number, of_no_chart, moved_copy}
 use Rattle.vega_charts.specs.Plots.{Inside, and_inside, all_inside, with_guides, drawn_in}
-use Rattle.vega_charts.specs.Built.{KeepsMarks, FoldsFitIn}
 use Rattle.vega_charts.specs.inner.Levels.{rows_at}
 use Rattle.vega_charts.specs.inner.Framed.{IsFrame}
-use Rattle.vega_charts.specs.inner.Outlined.{marks_in, marks_of, marks_from, group_object}
+use Rattle.vega_charts.specs.inner.Outlined.{marks_in, marks_from, group_object}
+use Rattle.vega_charts.specs.inner.Made.{HaveCopies}
+use Rattle.vega_charts.specs.declared.made.CopiesMade.{CopiesMade}
 
 -- what is held of what marks draw
 abbrev pub inside_seen : HeldInside → Inside
@@ -42,23 +40,14 @@ DrawsMore (Ok x) old new drawn = option_map (and_inside (inside_seen old)) drawn
 DrawsMore (Err error.Overflow) old new drawn = drawn ≡ None
 DrawsMore (Err error.Memory) old new drawn = Unit {0}
 
--- folds of marks fit over the rows for which names stand
-abbrev pub MarksMayFold : RowsByName → Marks → Type 0
-MarksMayFold rows marks = (products : Products) × AllKeysFit products rows × FoldsFitIn products marks
-
--- marks that keep the rules where names stand for these rows
-pub record MayStand (rows : RowsByName) (marks : List VgMark) : Type 0 where
-  pub kept : KeepsMarks (marks_of marks)
-  pub folds : MarksMayFold rows (marks_of marks)
-
 -- the rows for which names stand in a copy
 abbrev pub rows_in_frame : HeldFrame → RowsByName
 rows_in_frame f = rows_at f.names.sources.now f.names.levels.now
 
--- marks that may draw in a copy
-pub record MayDraw (f : HeldFrame) (marks : List VgMark) : Type 0 where
+-- marks that may draw in a copy, with what was made of each
+pub record MayDraw (f : HeldFrame) (marks : List VgMark) (made : List CopiesMade) : Type 0 where
   pub frame : IsFrame f
-  pub marks_stand : MayStand (rows_in_frame f) marks
+  pub marks_stand : HaveCopies f.names.sources.now f.names.levels.now marks made
 
 -- ---- what a copy of a group draws, step by step
 

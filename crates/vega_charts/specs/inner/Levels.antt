@@ -1,6 +1,6 @@
 -- What levels of names stand for.
-use Rattle.std.specs.Prelude.{ℕ, Bool, true, false, All, Option, Some, None, List, [], ◌∷◌, map, find, unwrap_or, if◌then◌else◌}
-use Rattle.std.specs.Option.{option_map, option_map_or, option_or}
+use Rattle.std.specs.Prelude.{ℕ, false, All, Option, Some, None, List, [], ◌∷◌, map, find, if◌then◌else◌}
+use Rattle.std.specs.Option.{option_map, option_or}
 use Rattle.std.specs.Str.{bytes_eq}
 use Rattle.std.specs.Borrow.{Bor}
 use Rattle.cell_value.specs.declared.cell.Cell.{Cell}
@@ -11,11 +11,10 @@ use Rattle.expr_eval.specs.Values.{Values}
 use Rattle.vega_lists.specs.Inside.{RowsByName, no_rows, rows_held, rows_inside}
 use Rattle.vega_lists.specs.Held.{scope_read, AreSources, AreAllRows}
 use Rattle.plain_rows.specs.Rows.{AreRows}
-use Rattle.vega_signals.specs.Settling.{values_inside}
+use Rattle.vega_signals.specs.Settling.{values_inside, Valued}
 use Rattle.vega_signals.specs.Lost.{IsLost, is_among}
 use Rattle.vega_charts.specs.declared.names.Level.{Level}
 use Rattle.cell_value.specs.State.{dataset_of}
-use Rattle.vega_signals.specs.Settling.{Valued}
 use Rattle.vega_charts.specs.declared.names.NamesAt.{NamesAt}
 use Rattle.vega_charts.specs.Outlines.{Object}
 use Rattle.fixed_num.specs.Ranges.{◌>>=◌}

@@ -11,7 +11,7 @@ use Rattle.vega_spec.specs.declared.spec.Group.{Group, out-Group}
 use Rattle.vega_spec.specs.declared.spec.VgMark.{VgMark, VgMark-F, out-VgMark}
 use Rattle.vega_lists.specs.Held.{scope_read}
 use Rattle.vega_scenes.specs.declared.views.Placed.{Placed}
-use Rattle.vega_charts.specs.declared.copies.CopiesOf.{CopiesOf}
+use Rattle.vega_charts.specs.declared.made.CopiesMade.{CopiesMade, out-CopiesMade}
 use Rattle.vega_charts.specs.declared.grids.Place.{Place}
 use Rattle.vega_charts.specs.declared.names.NamesAt.{NamesAt}
 use Rattle.vega_charts.specs.declared.spots.Grid.{Grid}
@@ -31,7 +31,7 @@ use Rattle.vega_charts.specs.Plots.{plot_of, view_with, views_in}
 use Rattle.vega_charts.specs.inner.Levels.{rows_at}
 use Rattle.vega_charts.specs.inner.Kept.{axis_seen, AreKeptAxes}
 use Rattle.vega_charts.specs.inner.Framed.{entered, frame_with, IsFrame}
-use Rattle.vega_charts.specs.inner.Copied.{copy_seen, IsCopy}
+use Rattle.vega_charts.specs.inner.Made.{levels_behind, made_seen, IsCopyMade}
 use Rattle.vega_charts.specs.inner.Outlined.{marks_in, marks_from, is_group, group_object}
 use Rattle.vega_charts.specs.inner.Drawn.{scaled_in, sources_of}
 
@@ -43,25 +43,25 @@ pub record IsPlace (p : Place) : Type 0 where
   pub frame : IsFrame p.frame
   pub axes : AreKeptAxes p.axes.now
 
--- What was found of a mark: the copies of a group, and nothing of another mark.
-pub record IsFound (names : NamesAt) (m : VgMark) (found : CopiesOf) : Type 0 where
-  pub copies : map copy_seen found.copies
+-- What was made of a mark: the copies of a group, and nothing of another mark.
+pub record IsFound (names : NamesAt) (m : VgMark) (found : CopiesMade) : Type 0 where
+  pub copies : map made_seen (out-CopiesMade found).copies
       ≡ (if is_group (out-VgMark m) then copies_of (scope_read (rows_at names.sources.now names.levels.now)) (group_object 0 (out-VgMark m)) else [])
-  pub across : found.across
+  pub across : (out-CopiesMade found).across
       ≡ (if is_group (out-VgMark m) then columns_across (scope_read (rows_at names.sources.now names.levels.now)) (group_object 0 (out-VgMark m)) else None)
-  pub sound : All (IsCopy names (out-VgMark m)) found.copies
+  pub sound : All (IsCopyMade names.sources.now (levels_behind names.levels.now) (out-VgMark m)) (out-CopiesMade found).copies
 
--- how many copies were found
-abbrev pub count_found : List CopiesOf → ℕ
+-- how many copies were made
+abbrev pub count_found : List CopiesMade → ℕ
 count_found [] = 0
-count_found (found ∷ others) = length found.copies + count_found others
+count_found (found ∷ others) = length (out-CopiesMade found).copies + count_found others
 
 -- the columns that the first of them asks for that crosses two fields
-abbrev pub columns_found : List CopiesOf → Option ℕ
+abbrev pub columns_found : List CopiesMade → Option ℕ
 columns_found [] = None
-columns_found (found ∷ others) = option_map_or Some found.across (columns_found others)
+columns_found (found ∷ others) = option_map_or Some (out-CopiesMade found).across (columns_found others)
 
-abbrev pub grid_found : Layout → List CopiesOf → Grid
+abbrev pub grid_found : Layout → List CopiesMade → Grid
 grid_found l found =
     record { columns = max (unwrap_or (columns_found found) (columns_written l (count_found found))) 1; cells = count_found found }
 

@@ -19,6 +19,7 @@ use Rattle.vega_scenes.specs.declared.scenes.Drawing.{Drawing}
 use Rattle.vega_scenes.specs.declared.views.Placed.{Placed}
 use Rattle.vega_scenes.specs.Scenes.{drawing_with}
 use Rattle.vega_scenes.specs.Views.{placed_plot}
+use Rattle.vega_charts.specs.declared.made.CopiesMade.{CopiesMade}
 use Rattle.vega_charts.specs.declared.frames.Frame.{Frame as HeldFrame}
 use Rattle.vega_charts.specs.declared.names.Level.{Level}
 use Rattle.vega_charts.specs.declared.names.NamesAt.{NamesAt}
@@ -33,10 +34,10 @@ use Rattle.vega_charts.specs.Plots.{plot_of}
 use Rattle.vega_charts.specs.Tops.{round_top, sized_top}
 use Rattle.vega_charts.specs.Scenes.{scales_of_chart}
 use Rattle.vega_charts.specs.Built.{KeepsRules}
-use Rattle.vega_charts.specs.inner.Levels.{rows_at, parts_over, AreNames}
+use Rattle.vega_charts.specs.inner.Levels.{parts_over, AreNames}
 use Rattle.vega_charts.specs.inner.Kept.{chart_has, AreKeptScales}
 use Rattle.vega_charts.specs.inner.Outlined.{marks_in, marks_from}
-use Rattle.vega_charts.specs.inner.Drawn.{MayStand}
+use Rattle.vega_charts.specs.inner.Made.{HaveCopies}
 use Rattle.vega_charts.specs.inner.Placed.{grid_of_object}
 
 -- whether a scale belongs to the whole chart
@@ -59,12 +60,12 @@ top_seen names scales width height = record (round_top names) { scales = scales;
 abbrev pub with_axes : List AxisHere → Frame → Frame
 with_axes axes frame = record frame { axes = axes }
 
--- what holds of the top where it has these names and scales
-pub record IsTop (g : VgSpec) (at : NamesAt) (held : List HeldScale) : Type 0 where
+-- what holds of the top where it has these names and scales, and each of its marks was made this
+pub record IsTop (g : VgSpec) (at : NamesAt) (held : List HeldScale) (made : List CopiesMade) : Type 0 where
   pub kept : KeepsRules g
   pub names : AreNames at
   pub scales : AreKeptScales held
-  pub marks_stand : MayStand (rows_at at.sources.now at.levels.now) (marks_in (out-Group g.group))
+  pub marks_stand : HaveCopies at.sources.now at.levels.now (marks_in (out-Group g.group)) made
 
 -- what is drawn of a view of the top
 abbrev pub drawn_view : VgSpec → Frame → Placed → Option Drawing

@@ -3,7 +3,8 @@ use Rattle.fixed_num.specs.Ranges.{◌>>=◌}
 use Rattle.expr_eval.specs.Answers.{Evaluates}
 use Rattle.vega_spec.specs.declared.spec.Group.{out-Group}
 use Rattle.vega_charts.specs.declared.frames.Frame.{Frame}
-use Rattle.vega_charts.specs.inner.Drawn.{rows_in_frame, sources_of, MayStand}
+use Rattle.vega_charts.specs.inner.Drawn.{sources_of}
+use Rattle.vega_charts.specs.inner.Made.{HaveCopies}
 use Rattle.vega_charts.specs.inner.Framed.{frame_seen, frame_with, IsFrame}
 use Rattle.vega_charts.specs.inner.Outlined.{marks_in}
 use Rattle.vega_charts.specs.inner.Placed.{grid_of_object}
@@ -21,7 +22,9 @@ grid_view-requires-clause-place c = record {
 
 pub grid_view-requires-clause-marks : goal.grid_view-requires-clause-marks
 grid_view-requires-clause-marks c =
-    subst (λ frame. MayStand (rows_in_frame frame) (marks_in (out-Group c.args.g.now.group))) (sym c.top_frame.ensures) c.requires.top.marks_stand
+    let marks = marks_in (out-Group c.args.g.now.group) in
+    subst (λ (frame : Frame). HaveCopies frame.names.sources.now frame.names.levels.now marks c.args.made.now) (sym c.top_frame.ensures)
+    c.requires.top.marks_stand
 
 pub grid_view-requires-clause-few : goal.grid_view-requires-clause-few
 grid_view-requires-clause-few c = top_few c.args.g.now c.requires.top.kept

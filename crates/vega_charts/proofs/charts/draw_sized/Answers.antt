@@ -7,7 +7,8 @@ use Rattle.vega_scenes.specs.Views.{placed_plot}
 use Rattle.vega_spec.specs.declared.spec.Group.{out-Group}
 use Rattle.vega_charts.specs.declared.frames.Frame.{Frame}
 use Rattle.vega_charts.specs.Plots.{plot_of}
-use Rattle.vega_charts.specs.inner.Drawn.{rows_in_frame, sources_of, MayStand}
+use Rattle.vega_charts.specs.inner.Drawn.{sources_of}
+use Rattle.vega_charts.specs.inner.Made.{HaveCopies}
 use Rattle.vega_charts.specs.inner.Framed.{frame_seen, frame_with, IsFrame}
 use Rattle.vega_charts.specs.inner.Outlined.{marks_in}
 use Rattle.vega_charts.specs.inner.Topped.{top_of, drawn_view}
@@ -24,7 +25,9 @@ plot_view-requires-clause-place c = record {
 
 pub plot_view-requires-clause-marks : goal.plot_view-requires-clause-marks
 plot_view-requires-clause-marks c =
-    subst (λ frame. MayStand (rows_in_frame frame) (marks_in (out-Group c.args.g.now.group))) (sym c.top_frame.ensures) c.requires.top.marks_stand
+    let marks = marks_in (out-Group c.args.g.now.group) in
+    subst (λ (frame : Frame). HaveCopies frame.names.sources.now frame.names.levels.now marks c.args.made.now) (sym c.top_frame.ensures)
+    c.requires.top.marks_stand
 
 pub plot_view-requires-clause-object : goal.plot_view-requires-clause-object
 plot_view-requires-clause-object c = top_kept c.args.g.now c.requires.top.kept

@@ -1,4 +1,4 @@
-use Rattle.std.proofs.Common.{◌≡◌, ◌-◌, map, arith, ap, ◌∙◌}
+use Rattle.std.proofs.Common.{◌-◌, map, arith, ap, ◌∙◌}
 use Rattle.vega_lists.specs.Products.{Products, with_product}
 use Rattle.vega_charts.specs.inner.Tested.{products_over, products_at}
 use Rattle.vega_charts.proofs.ProductLemmas.{no_part_yet, part_put}

@@ -1,10 +1,9 @@
-use Rattle.std.proofs.Common.{length, map}
+use Rattle.std.proofs.Common.{drop, length, map}
 use Rattle.std.specs.List.{enumerate_from}
-use Rattle.std.specs.Vec.Iter.{into_iter_items}
 use Rattle.fixed_num.specs.Ranges.{all_found}
 use Rattle.vega_spec.specs.declared.spec.VgMark.{out-VgMark}
 use Rattle.vega_charts.specs.Plots.{views_in}
-use Rattle.vega_charts.specs.inner.Copied.{copy_seen}
+use Rattle.vega_charts.specs.inner.Made.{made_seen}
 use Rattle.vega_charts.specs.inner.Drawn.{sources_of}
 use Rattle.vega_charts.specs.inner.Outlined.{marks_from}
 use Rattle.vega_charts.specs.inner.Placed.{place_seen, cell_seen}
@@ -14,10 +13,10 @@ use Rattle.vega_charts.proofs.grids.+viewing.Given as goal
 abbrev pub invariant-cells_of-loop-copies : goal.invariant-cells_of-loop-copies
 invariant-cells_of-loop-copies l =
     MarksLeft l.place l.grid (views_in (sources_of l.place.frame) (marks_from l.unit l.number l.marks) (place_seen l.place) l.grid 0) l.marks
-    (into_iter_items l.copies-iterator) l.at l.next_unit l.next_number l.cells
+    (drop l.copies-index l.made) l.at l.next_unit l.next_number l.cells
 
 abbrev pub invariant-push_cells-loop-copy : goal.invariant-push_cells-loop-copy
 invariant-push_cells-loop-copy l =
     CellsLeft l.place l.grid l.unit l.number l.mark
-    (all_found (map (cell_seen l.place l.grid l.unit l.number (out-VgMark l.mark)) (enumerate_from (length l.initial.cells) (map copy_seen l.fn.copies))))
-    (length l.fn.copies) (into_iter_items l.copy-iterator) l.initial.cells l.cells
+    (all_found (map (cell_seen l.place l.grid l.unit l.number (out-VgMark l.mark)) (enumerate_from (length l.initial.cells) (map made_seen l.copies))))
+    (length l.copies) (drop l.copy-index l.copies) l.initial.cells l.cells

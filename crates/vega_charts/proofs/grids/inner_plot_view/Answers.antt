@@ -2,7 +2,7 @@ use Rattle.std.proofs.Common.{◌∙◌, subst}
 use Rattle.expr_eval.specs.Answers.{Evaluates}
 use Rattle.vega_spec.specs.declared.spec.VgMark.{out-VgMark}
 use Rattle.vega_charts.specs.inner.Placed.{place_seen}
-use Rattle.vega_charts.proofs.GridLemmas.{plot_sized, with_sizes}
+use Rattle.vega_charts.proofs.ViewLemmas.{plot_sized, with_sizes}
 use Rattle.vega_charts.proofs.grids.inner_plot_view.Goals as goal
 
 pub returns-clause-value : goal.returns-clause-value

@@ -1,12 +1,10 @@
-use Rattle.std.proofs.Common.{◌≡◌, ◌+◌, ◌^◌, ◌<◌, ◌≤◌, List, [], ◌∷◌, Err, suc, drop, map, refl, sym, ap, ◌∙◌, subst, arith, rules, add-one}
+use Rattle.std.proofs.Common.{◌≡◌, ◌+◌, ◌^◌, ◌<◌, ◌≤◌, List, [], ◌∷◌, Err, suc, drop, map, refl, sym, ap, ◌∙◌, subst, arith, add-one}
 use Rattle.std.specs.Prelude.{All, IsTrue}
-use Rattle.std.specs.Vec.Iter.{into_iter_items}
 use Rattle.std.proofs.lemmas.List.{drop_all}
 use denote.Param.Weighed.{most, at_most}
 use Rattle.fixed_num.specs.Ranges.{all_found}
 use Rattle.expr_eval.specs.Answers.{Evaluates}
 use Rattle.mark_encode.specs.declared.channels.ChannelName.TheVariants as channel
-use Rattle.vega_lists.specs.Held.{AreAllRows}
 use Rattle.vega_scales.specs.Scales.{is_built, is_domain_built, KeepsBounds}
 use Rattle.vega_spec.specs.declared.scales.Scale.{Scale as VegaScale}
 use Rattle.vega_spec.specs.declared.spec.Group.{out-Group}
@@ -16,15 +14,16 @@ use Rattle.vega_charts.specs.Plots.{drawn_in}
 use Rattle.vega_charts.specs.Scales.{ScaleHere, own_scale, and_outer}
 use Rattle.vega_charts.specs.inner.Framed.{frame_seen}
 use Rattle.vega_charts.specs.inner.Kept.{kept_seen, scale_seen, IsKeptScale, AreKeptScales}
-use Rattle.vega_charts.specs.inner.Copied.{copy_seen}
-use Rattle.vega_charts.specs.inner.Levels.{rows_at, rows_with_level}
+use Rattle.vega_charts.specs.declared.made.Made.{out-Made}
+use Rattle.vega_charts.specs.inner.Made.{levels_behind, HaveCopies}
 use Rattle.vega_charts.specs.inner.Outlined.{marks_from, marks_in, group_object, AreFew}
-use Rattle.vega_charts.specs.inner.Drawn.{inside_seen, sources_of, rows_in_frame, placed_from, drawn_group, drawn_framed, drawn_named, drawn_copy, DrawsMore, MayStand}
-use Rattle.vega_charts.proofs.DrawnLemmas.{stops_drawing, nothing_left, next_stands, next_few, marks_fit, groups_fit, unit_fits, number_fits, next_drawn, next_stops, group_alone, plain_alone}
+use Rattle.vega_charts.specs.inner.Drawn.{inside_seen, sources_of, rows_in_frame, placed_from, drawn_group, drawn_framed, drawn_named, DrawsMore}
+use Rattle.vega_charts.proofs.DrawnLemmas.{stops_drawing, nothing_left, made_within, next_made, next_stands, next_few, marks_fit, groups_fit, unit_fits, number_fits, next_drawn, next_stops, group_alone, plain_alone}
 use Rattle.vega_charts.proofs.EnteredLemmas.{moved_frame, scaled_frame, entered_frame, no_x, no_y, framed_at, behind_guides, group_fits, own_found, no_scales, none_hidden, scaled_with}
-use Rattle.vega_charts.proofs.EnteredLemmas.{names_found, levels_behind, copy_stops, copy_named, copies_begun, next_copy, copy_drawn, copy_ends, none_left, no_copies_left}
+use Rattle.vega_charts.proofs.EnteredLemmas.{copy_stops, copy_named, copies_begun, next_copy, copy_drawn, copy_ends, no_copies_left}
+use Rattle.vega_charts.proofs.MadeLemmas.{at_place, levels_in_made, copies_in_made}
 use Rattle.vega_charts.proofs.SizeLemmas.{inside_smaller}
-use Rattle.vega_charts.proofs.StandLemmas.{few_inside, object_kept, sets_kept, sets_fold, levels_entered, stand_inside}
+use Rattle.vega_charts.proofs.StandLemmas.{few_inside, object_kept}
 use Rattle.vega_charts.proofs.inside.+drawing.Goals as goal
 
 -- marks, one after the other
@@ -36,19 +35,32 @@ pub draw_all-draw_one-requires : goal.draw_all-draw_one-requires
 draw_all-draw_one-requires t c =
     let smaller : size-VgMark c.mark-item.result ≤ most size-VgMark c.args.marks.now =
     subst (λ m. size-VgMark m ≤ most size-VgMark c.args.marks.now) (sym c.mark-item.is)
-    (at_most size-VgMark c.args.marks.now c.loop-mark.mark-index c.mark-item.result c.loop-mark-test.true) in
-    let stand : MayStand (rows_in_frame c.args.frame.now) (c.mark-item.result ∷ []) =
-    next_stands _ _ _ _ _ c.args.marks.now c.loop-mark.mark-index c.mark-item.result _ c.loop-mark-test.true c.mark-item.is c.loop-mark.invariant in (
+    (at_most size-VgMark c.args.marks.now c.loop-mark.mark-index c.mark-item.result c.loop-mark-test.true) in (
       omega (arith, smaller),
       (
-        record { frame = c.requires.frame.frame; marks_stand = stand },
-        next_few _ _ _ _ _ c.args.marks.now c.loop-mark.mark-index c.mark-item.result _ c.loop-mark-test.true c.mark-item.is c.loop-mark.invariant,
+        c.requires.frame.frame,
+        (
+          next_stands _ _ _ _ _ c.args.marks.now c.loop-mark.mark-index c.mark-item.result c.args.made.now c.loop-mark.at _ c.loop-mark-test.true c.mark-item.is
+              c.loop-mark.invariant c.index-made-at.result c.index-made-at.is,
+          (
+            next_made _ _ _ _ _ c.args.marks.now c.loop-mark.mark-index c.mark-item.result c.args.made.now c.loop-mark.at _ c.loop-mark-test.true c.mark-item.is
+                c.loop-mark.invariant c.index-made-at.result c.index-made-at.is,
+            next_few _ _ _ _ _ c.args.marks.now c.loop-mark.mark-index c.mark-item.result c.args.made.now c.loop-mark.at _ c.loop-mark-test.true c.mark-item.is
+                c.loop-mark.invariant c.index-made-at.result c.index-made-at.is,
+          ),
+        ),
       ),
     )
 
+pub draw_all-bounds-made-at : goal.draw_all-bounds-made-at
+draw_all-bounds-made-at t c =
+    made_within _ _ _ _ _ c.args.marks.now c.loop-mark.mark-index c.mark-item.result c.args.made.now c.loop-mark.at _ c.loop-mark-test.true c.mark-item.is
+    c.loop-mark.invariant
+
 pub draw_all-returns-in-Err-clause-value : goal.draw_all-returns-in-Err-clause-value
 draw_all-returns-in-Err-clause-value t c =
-    next_stops _ _ _ _ _ c.args.marks.now c.loop-mark.mark-index c.mark-item.result c.loop-mark.out c.loop-mark-test.true c.mark-item.is c.loop-mark.invariant
+    next_stops _ _ _ _ _ c.args.marks.now c.loop-mark.mark-index c.mark-item.result c.args.made.now c.loop-mark.at c.loop-mark.out c.loop-mark-test.true c.mark-item.is c.loop-mark.invariant
+    c.index-made-at.result c.index-made-at.is
     c.in-Err.error c.draw_one.new.out (inside_seen c.args.out.now)
     (drawn_in (sources_of c.args.frame.now) (marks_from c.args.unit c.args.number c.args.marks.now) (frame_seen c.args.frame.now)) refl c.in-Err.ensures.value
     c.draw_one.new.out c.args.out.now
@@ -56,38 +68,43 @@ draw_all-returns-in-Err-clause-value t c =
 pub draw_all-count_marks_of-next_unit-requires : goal.draw_all-count_marks_of-next_unit-requires
 draw_all-count_marks_of-next_unit-requires t c = record {
   few =
-      marks_fit _ _ _ _ _ c.args.marks.now c.loop-mark.mark-index c.mark-item.result _ c.loop-mark-test.true c.mark-item.is c.loop-mark.invariant;
+      marks_fit _ _ _ _ _ c.args.marks.now c.loop-mark.mark-index c.mark-item.result c.args.made.now c.loop-mark.at _ c.loop-mark-test.true c.mark-item.is c.loop-mark.invariant
+      c.index-made-at.result c.index-made-at.is;
 }
 
 pub draw_all-overflow_add-next_unit : goal.draw_all-overflow_add-next_unit
 draw_all-overflow_add-next_unit t c =
     let fits : c.loop-mark.next_unit + c.count_marks_of-next_unit.result < 2 ^ 32 =
-    unit_fits _ _ _ _ _ c.args.marks.now c.loop-mark.mark-index c.mark-item.result _ c.loop-mark-test.true c.mark-item.is c.loop-mark.invariant
+    unit_fits _ _ _ _ _ c.args.marks.now c.loop-mark.mark-index c.mark-item.result c.args.made.now c.loop-mark.at _ c.loop-mark-test.true c.mark-item.is c.loop-mark.invariant
+    c.index-made-at.result c.index-made-at.is
     c.count_marks_of-next_unit.result c.count_marks_of-next_unit.ensures in
     omega arith
 
 pub draw_all-count_groups_of-next_number-requires : goal.draw_all-count_groups_of-next_number-requires
 draw_all-count_groups_of-next_number-requires t c = record {
   few =
-      groups_fit _ _ _ _ _ c.args.marks.now c.loop-mark.mark-index c.mark-item.result _ c.loop-mark-test.true c.mark-item.is c.loop-mark.invariant;
+      groups_fit _ _ _ _ _ c.args.marks.now c.loop-mark.mark-index c.mark-item.result c.args.made.now c.loop-mark.at _ c.loop-mark-test.true c.mark-item.is c.loop-mark.invariant
+      c.index-made-at.result c.index-made-at.is;
 }
 
 pub draw_all-overflow_add-next_number : goal.draw_all-overflow_add-next_number
 draw_all-overflow_add-next_number t c =
     let fits : c.loop-mark.next_number + c.count_groups_of-next_number.result < 2 ^ 32 =
-    number_fits _ _ _ _ _ c.args.marks.now c.loop-mark.mark-index c.mark-item.result _ c.loop-mark-test.true c.mark-item.is c.loop-mark.invariant
+    number_fits _ _ _ _ _ c.args.marks.now c.loop-mark.mark-index c.mark-item.result c.args.made.now c.loop-mark.at _ c.loop-mark-test.true c.mark-item.is c.loop-mark.invariant
+    c.index-made-at.result c.index-made-at.is
     c.count_groups_of-next_number.result c.count_groups_of-next_number.ensures in
     omega arith
 
 pub draw_all-loop-mark-preserved : goal.draw_all-loop-mark-preserved
 draw_all-loop-mark-preserved t c =
-    next_drawn _ _ _ _ _ c.args.marks.now c.loop-mark.mark-index c.mark-item.result _ c.loop-mark-test.true c.mark-item.is c.loop-mark.invariant
+    next_drawn _ _ _ _ _ c.args.marks.now c.loop-mark.mark-index c.mark-item.result c.args.made.now c.loop-mark.at _ c.loop-mark-test.true c.mark-item.is c.loop-mark.invariant
+    c.index-made-at.result c.index-made-at.is
     c.draw_one.new.out c.count_marks_of-next_unit.result c.count_groups_of-next_number.result c.in-Ok.ensures.value c.in-Ok.ensures.kept
     c.count_marks_of-next_unit.ensures c.count_groups_of-next_number.ensures
 
 pub draw_all-returns-clause-value : goal.draw_all-returns-clause-value
 draw_all-returns-clause-value t c =
-    nothing_left _ _ _ _ _ (drop c.loop-mark.mark-index c.args.marks.now) c.loop-mark.out
+    nothing_left _ _ _ _ _ (drop c.loop-mark.mark-index c.args.marks.now) (drop c.loop-mark.at c.args.made.now) c.loop-mark.out
     (drop_all c.loop-mark.mark-index c.args.marks.now c.loop-mark-test.false) c.loop-mark.invariant
 
 pub draw_all-returns-clause-kept : goal.draw_all-returns-clause-kept
@@ -97,7 +114,7 @@ draw_all-returns-clause-kept t c = c.loop-mark.invariant.kept
 
 pub draw_one-draw_group-requires : goal.draw_one-draw_group-requires
 draw_one-draw_group-requires t c =
-    (omega arith, (c.requires.frame, (c.requires.few, sym c.is_group.ensures ∙ c.if-is_group.true)))
+    (omega arith, (c.requires.frame, (c.requires.marks, (c.requires.made, (c.requires.few, sym c.is_group.ensures ∙ c.if-is_group.true)))))
 
 pub draw_one-returns-then-is_group-clause-value : goal.draw_one-returns-then-is_group-clause-value
 draw_one-returns-then-is_group-clause-value t c =
@@ -121,9 +138,8 @@ draw_one-returns-else-is_group-clause-kept t c = c.draw_mark.ensures.kept
 
 pub draw_group-loop-copy-init : goal.draw_group-loop-copy-init
 draw_group-loop-copy-init t c =
-    let items : into_iter_items c.into_iter-copy-iterator.result ≡ c.in_ok-found.found.copies = first_of (search rules, cc) in
-    copies_begun c.args.frame.now c.args.out.now c.args.unit c.args.number c.args.mark.now c.in_ok-found.found.copies
-    (into_iter_items c.into_iter-copy-iterator.result) items c.in_ok-found.ensures.copies c.in_ok-found.ensures.sound
+    copies_begun c.args.frame.now c.args.out.now c.args.unit c.args.number c.args.mark.now c.args.made.now c.as_slice-copies.result.now c.as_slice-copies.ensures
+    c.requires.group c.requires.made
 
 pub draw_group-draw_copy-requires : goal.draw_group-draw_copy-requires
 draw_group-draw_copy-requires t c = (
@@ -131,63 +147,79 @@ draw_group-draw_copy-requires t c = (
   (
     c.requires.frame,
     (
-      next_copy _ _ _ _ _ _ _ (into_iter_items c.next.new.self) c.in-Some.copy _ c.in-Some.ensures.steps.0 c.loop-copy.invariant,
-      (c.requires.few, c.requires.group),
+      c.requires.marks,
+      (
+        next_copy _ _ _ _ _ _ _ (drop (c.loop-copy.copy-index + 1) c.as_slice-copies.result.now) c.copy-item.result _
+            (at_place c.as_slice-copies.result.now c.loop-copy.copy-index c.copy-item.result c.loop-copy-test.true c.copy-item.is) c.loop-copy.invariant,
+        (c.requires.few, c.requires.group),
+      ),
     ),
   ),
 )
 
 pub draw_group-loop-copy-preserved : goal.draw_group-loop-copy-preserved
 draw_group-loop-copy-preserved t c =
-    copy_drawn _ _ _ _ _ _ _ (into_iter_items c.next.new.self) c.in-Some.copy _ c.in-Some.ensures.steps.0 c.loop-copy.invariant c.draw_copy.new.out
+    copy_drawn _ _ _ _ _ _ _ (drop (c.loop-copy.copy-index + 1) c.as_slice-copies.result.now) c.copy-item.result _
+    (at_place c.as_slice-copies.result.now c.loop-copy.copy-index c.copy-item.result c.loop-copy-test.true c.copy-item.is) c.loop-copy.invariant c.draw_copy.new.out
     c.in-Ok.ensures.value c.in-Ok.ensures.kept
 
 pub draw_group-returns-in-Err-clause-value : goal.draw_group-returns-in-Err-clause-value
 draw_group-returns-in-Err-clause-value t c =
-    copy_ends _ _ _ _ _ _ _ (into_iter_items c.next.new.self) c.in-Some.copy _ c.in-Some.ensures.steps.0 c.loop-copy.invariant c.in-Err.error
+    copy_ends _ _ _ _ _ _ _ (drop (c.loop-copy.copy-index + 1) c.as_slice-copies.result.now) c.copy-item.result _
+    (at_place c.as_slice-copies.result.now c.loop-copy.copy-index c.copy-item.result c.loop-copy-test.true c.copy-item.is) c.loop-copy.invariant c.in-Err.error
     c.draw_copy.new.out c.args.out.now c.draw_copy.new.out (inside_seen c.args.out.now)
     (drawn_group (sources_of c.args.frame.now) (frame_seen c.args.frame.now) c.args.unit c.args.number (out-VgMark c.args.mark.now)) refl
     c.in-Err.ensures.value
 
 pub draw_group-returns-clause-value : goal.draw_group-returns-clause-value
 draw_group-returns-clause-value t c =
-    no_copies_left _ _ _ _ _ _ (into_iter_items c.loop-copy.copy-iterator) c.loop-copy.out
-    (none_left c.loop-copy.copy-iterator c.in-None.ensures.steps.0) c.loop-copy.invariant
+    no_copies_left _ _ _ _ _ _ (drop c.loop-copy.copy-index c.as_slice-copies.result.now) c.loop-copy.out
+    (drop_all c.loop-copy.copy-index c.as_slice-copies.result.now c.loop-copy-test.false) c.loop-copy.invariant
 
 pub draw_group-returns-clause-kept : goal.draw_group-returns-clause-kept
 draw_group-returns-clause-kept t c = c.loop-copy.invariant.kept
 
 -- a copy of a group
 
-pub draw_copy-kept_level-requires-clause-kept : goal.draw_copy-kept_level-requires-clause-kept
-draw_copy-kept_level-requires-clause-kept t c =
-    sets_kept (rows_in_frame c.args.outer.now) c.args.mark.now c.requires.group c.requires.frame.marks_stand
+pub draw_copy-draw_kept-requires : goal.draw_copy-draw_kept-requires
+draw_copy-draw_kept-requires t c = (
+  omega arith,
+  (
+    c.requires.frame,
+    (
+      c.requires.marks,
+      (c.requires.copy, (sym c.keeps_signals.ensures ∙ c.if-keeps_signals.true, (c.requires.few, c.requires.group))),
+    ),
+  ),
+)
 
-pub draw_copy-kept_level-requires-clause-folds : goal.draw_copy-kept_level-requires-clause-folds
-draw_copy-kept_level-requires-clause-folds t c =
-    sets_fold c.args.outer.now.names c.args.mark.now c.args.copy c.requires.group c.requires.frame.marks_stand c.requires.copy
+pub draw_copy-returns-then-keeps_signals-clause-value : goal.draw_copy-returns-then-keeps_signals-clause-value
+draw_copy-returns-then-keeps_signals-clause-value t c = c.draw_kept.ensures.value
 
-pub draw_copy-returns-in-Err-clause-value : goal.draw_copy-returns-in-Err-clause-value
-draw_copy-returns-in-Err-clause-value t c =
-    stops_drawing c.in-Err.error (names_found c.args.outer.now c.args.copy c.args.unit c.args.number c.args.mark.now)
-    (drawn_copy (sources_of c.args.outer.now) (frame_seen c.args.outer.now) c.args.unit c.args.number (out-VgMark c.args.mark.now) (copy_seen c.args.copy))
-    c.args.out.now c.args.out.now c.in-Err.ensures.value (copy_stops c.args.outer.now c.args.copy c.args.unit c.args.number c.args.mark.now)
+pub draw_copy-returns-then-keeps_signals-clause-kept : goal.draw_copy-returns-then-keeps_signals-clause-kept
+draw_copy-returns-then-keeps_signals-clause-kept t c = c.draw_kept.ensures.kept
 
-pub draw_copy-draw_entered-requires : goal.draw_copy-draw_entered-requires
-draw_copy-draw_entered-requires t c =
+pub draw_copy-returns-else-keeps_signals-clause-value : goal.draw_copy-returns-else-keeps_signals-clause-value
+draw_copy-returns-else-keeps_signals-clause-value t c =
+    copy_stops c.args.outer.now c.args.copy.now c.args.unit c.args.number c.args.mark.now c.requires.copy (sym c.keeps_signals.ensures ∙ c.if-keeps_signals.false)
+
+-- a copy that has lost no signal of its own
+
+pub draw_kept-draw_entered-requires : goal.draw_kept-draw_entered-requires
+draw_kept-draw_entered-requires t c =
     let outer = c.args.outer.now.names in
-    let inside : levels_behind c.as_slice.result.now ≡ c.in-Ok.level ∷ levels_behind outer.levels.now =
+    let more : levels_behind c.as_slice.result.now ≡ (out-Made c.args.copy.now).level ∷ levels_behind outer.levels.now =
     ap levels_behind c.as_slice.ensures ∙ c.in_ok-levels.ensures in (
       omega arith,
       (
-        c.requires.frame.frame,
+        c.requires.frame,
         (
-          levels_entered outer c.in-Ok.level c.as_slice.result.now inside c.requires.frame.frame.names c.in-Ok.ensures.rows,
+          levels_in_made outer.sources.now outer.levels.now c.args.mark.now c.args.copy.now c.requires.copy c.as_slice.result.now more c.requires.frame.names,
           (
-            stand_inside outer c.in-Ok.level c.as_slice.result.now inside c.args.mark.now c.args.copy c.requires.group c.requires.frame.marks_stand
-                c.requires.copy c.in-Ok.ensures.folds,
+            copies_in_made outer.sources.now outer.levels.now c.args.mark.now c.args.copy.now c.requires.copy c.as_slice.result.now more _
+                c.as_slice-2.ensures c.requires.group c.requires.marks,
             (
-              object_kept (rows_in_frame c.args.outer.now) c.args.number c.args.mark.now c.requires.group c.requires.frame.marks_stand,
+              object_kept (rows_in_frame c.args.outer.now) c.args.number c.args.mark.now c.requires.group c.requires.marks,
               (c.requires.few, c.requires.group),
             ),
           ),
@@ -195,15 +227,15 @@ draw_copy-draw_entered-requires t c =
       ),
     )
 
-pub draw_copy-returns-clause-value : goal.draw_copy-returns-clause-value
-draw_copy-returns-clause-value t c =
+pub draw_kept-returns-clause-value : goal.draw_kept-returns-clause-value
+draw_kept-returns-clause-value t c =
     subst (DrawsMore {X = Unit {0}} c.draw_entered.result c.args.out.now c.draw_entered.new.out)
-    (copy_named c.args.outer.now c.args.copy c.args.unit c.args.number c.args.mark.now c.in-Ok.level c.as_slice.result.now c.slice_of.result
-    c.in-Ok.ensures.value (ap levels_behind c.as_slice.ensures ∙ c.in_ok-levels.ensures) (c.slice_of.ensures ∙ c.in_ok-cells.ensures))
+    (copy_named c.args.outer.now c.args.copy.now c.args.unit c.args.number c.args.mark.now c.requires.copy c.as_slice.result.now c.slice_of.result
+    c.requires.kept (ap levels_behind c.as_slice.ensures ∙ c.in_ok-levels.ensures) (c.slice_of.ensures ∙ c.in_ok-cells.ensures))
     c.draw_entered.ensures.value
 
-pub draw_copy-returns-clause-kept : goal.draw_copy-returns-clause-kept
-draw_copy-returns-clause-kept t c = c.draw_entered.ensures.kept
+pub draw_kept-returns-clause-kept : goal.draw_kept-returns-clause-kept
+draw_kept-returns-clause-kept t c = c.draw_entered.ensures.kept
 
 -- a copy whose names are known
 
@@ -332,7 +364,8 @@ draw_framed-draw_all-requires t c =
       (
         record {
           frame = moved_frame c.args.frame.now c.in-Ok.x c.in-Ok-place_from.y c.requires.frame.frame;
-          marks_stand = subst (MayStand (rows_in_frame c.args.frame.now)) (sym c.marks_in.ensures) c.requires.frame.marks_stand;
+          marks_stand =
+              subst (λ marks. HaveCopies c.args.frame.now.names.sources.now c.args.frame.now.names.levels.now marks c.args.made.now) (sym c.marks_in.ensures) c.requires.frame.marks_stand;
         },
         subst (λ n. AreFew c.args.unit n c.marks_in.result.now) (sym (add-one c.args.number))
             (subst (AreFew c.args.unit (suc c.args.number)) (sym c.marks_in.ensures)

@@ -1,4 +1,4 @@
-use Rattle.std.proofs.Common.{◌≡◌, ap, ◌∙◌, subst, flat_map}
+use Rattle.std.proofs.Common.{ap, ◌∙◌, subst, flat_map}
 use Rattle.expr_eval.specs.Answers.{Evaluates}
 use Rattle.vega_spec.specs.declared.spec.Group.{out-Group}
 use Rattle.vega_charts.specs.Outlines.{object_here}

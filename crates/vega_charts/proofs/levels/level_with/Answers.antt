@@ -1,4 +1,4 @@
-use Rattle.std.proofs.Common.{◌≡◌, Bool, true, false, Some, Err, map, refl, sym, ap, ◌∙◌, subst}
+use Rattle.std.proofs.Common.{true, false, Some, Err, map, sym, ap, ◌∙◌, subst}
 use Rattle.std.specs.Option.{option_map}
 use Rattle.std.specs.List.{list_any}
 use Rattle.cell_value.specs.State.{dataset_of}

@@ -1,4 +1,4 @@
-use Rattle.std.proofs.Common.{◌≡◌, sym, ◌∙◌}
+use Rattle.std.proofs.Common.{sym, ◌∙◌}
 use Rattle.vega_charts.proofs.OutlineLemmas.{grouped_alone}
 use Rattle.vega_charts.proofs.marks.+counting_groups.Goals as goal
 

@@ -12,7 +12,7 @@ use Rattle.vega_charts.proofs.PlotLemmas.{one_more, stands_behind}
 use Rattle.vega_charts.proofs.plots.draw_inside.Goals as goal
 
 pub draw_all-requires-clause-frame : goal.draw_all-requires-clause-frame
-draw_all-requires-clause-frame c = subst (MayDraw c.args.frame.now) (sym c.marks_in.ensures) c.requires.frame
+draw_all-requires-clause-frame c = subst (λ marks. MayDraw c.args.frame.now marks c.args.made.now) (sym c.marks_in.ensures) c.requires.frame
 
 pub draw_all-requires-clause-few : goal.draw_all-requires-clause-few
 draw_all-requires-clause-few c =

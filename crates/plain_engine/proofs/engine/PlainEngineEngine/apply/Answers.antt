@@ -1,4 +1,4 @@
-use Rattle.std.proofs.Common.{◌≡◌, ap, subst, ◌∙◌, IfOk}
+use Rattle.std.proofs.Common.{◌≡◌, subst, IfOk}
 use Rattle.cell_value.specs.State.{State, state_of}
 use Rattle.vega_meaning.specs.Semantics.{vega_semantics}
 use Rattle.play_script.specs.Meaning.{Meaning}

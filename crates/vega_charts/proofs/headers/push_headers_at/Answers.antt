@@ -1,6 +1,6 @@
 use Rattle.std.proofs.Common.{inl, inr}
-use Rattle.vega_charts.proofs.GridLemmas.{headers_ended}
-use Rattle.vega_charts.proofs.grids.push_headers_at.Goals as goal
+use Rattle.vega_charts.proofs.HeaderLemmas.{headers_ended}
+use Rattle.vega_charts.proofs.headers.push_headers_at.Goals as goal
 
 pub returns : goal.returns
 returns c =

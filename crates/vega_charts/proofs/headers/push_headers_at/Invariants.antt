@@ -1,6 +1,6 @@
 use Rattle.std.proofs.Common.{◌≡◌, ◌++◌, filter_map, zip}
 use Rattle.vega_charts.specs.Grids.{header_for}
-use Rattle.vega_charts.proofs.grids.push_headers_at.Given as goal
+use Rattle.vega_charts.proofs.headers.push_headers_at.Given as goal
 
 abbrev pub invariant-loop-drawn : goal.invariant-loop-drawn
 invariant-loop-drawn l =

@@ -1,0 +1,107 @@
+//! A table of whole charts: what is expected, a tab, and a Vega specification that has all of its rows. What is expected are the panels, the
+//! scales that are kept and the picture, or why nothing is drawn; or only that there is some picture. It writes each line of which something
+//! else is found, and how many lines there were. `bench/chart_table.py` writes the table.
+#![tactic(auto)]
+
+ghost use Rattle.std.specs.Prelude.{◌≡◌, true};
+ghost use Rattle.vega_lists.specs.Held.{AreSources};
+ghost use Rattle.vega_charts.specs.Tested.{is_chart};
+
+mod opening;
+mod shown;
+
+use cell_value::{Cell, Named};
+use json_exact::Json;
+use opening::{params_of, sources_of};
+use shown::said_of_drawing;
+use std::alloc::Global;
+use std::io;
+use text_kit::{OutOfMemory, Text};
+use vega_charts::{DrawError, charts_are_tested, drawing_of, is_chart};
+use vega_scenes::Drawing;
+use vega_spec::VgSpec;
+
+// What is drawn of a specification over these sources and parameters.
+fn drawn(
+    alloc: Global,
+    g: &VgSpec,
+    sources: &[Named],
+    params: &[(Text, Cell)],
+) -> Result<Drawing, DrawError>
+    requires chart { is_chart g.now ≡ true }
+    requires sources { AreSources sources.now }
+{
+    charts_are_tested();
+    drawing_of(alloc, g, sources, params)
+}
+
+// What is drawn, in words, or why nothing is.
+fn said(alloc: Global, drawn: Result<Drawing, DrawError>) -> Result<Text, OutOfMemory> {
+    match drawn {
+        Ok(drawing) => said_of_drawing(alloc, &drawing),
+        Err(DrawError::Overflow) => Text::of(alloc, "overflow"),
+        Err(DrawError::Panels(count)) => {
+            Text::of(alloc, format!(in alloc; "panels {count}")?.as_str())
+        }
+        Err(DrawError::Memory) => Err(OutOfMemory),
+    }
+}
+
+// What is found for a specification that has a chart, in words.
+fn found_of_chart(alloc: Global, g: &VgSpec) -> Result<Text, OutOfMemory>
+    requires { is_chart g.now ≡ true }
+{
+    let sources = sources_of(alloc, g)?;
+    let params = params_of(alloc, g)?;
+    said(
+        alloc,
+        drawn(alloc, g, sources.as_slice(), params.as_slice()),
+    )
+}
+
+// What is found for a specification, in words.
+fn found_of(alloc: Global, g: &VgSpec) -> Result<Text, OutOfMemory> {
+    if is_chart(alloc, g)? {
+        found_of_chart(alloc, g)
+    } else {
+        Text::of(alloc, "no chart")
+    }
+}
+
+// What is found for a tree, in words.
+fn found_of_tree(alloc: Global, tree: &Json) -> Result<Text, OutOfMemory> {
+    match vega_model::read(alloc, tree) {
+        Ok(g) => found_of(alloc, &g),
+        Err(_) => Text::of(alloc, "refused"),
+    }
+}
+
+// What is found for a text, in words.
+fn found(alloc: Global, spec: &str) -> Result<Text, OutOfMemory> {
+    match json_exact::read(alloc, spec.as_bytes()) {
+        Ok(tree) => found_of_tree(alloc, &tree),
+        Err(_) => Text::of(alloc, "no JSON"),
+    }
+}
+
+// Whether an answer is what is expected, which may be any picture.
+fn is_expected(answer: &str, expected: &str) -> bool {
+    answer == expected || expected == "drawn" && answer.ends_with("</svg>||")
+}
+
+fn main(rt: HostRuntime) -> io::Result<()> {
+    let alloc = rt.alloc();
+    let mut count: u64 = 0;
+    for line in rt.lines(alloc) {
+        let line = line?;
+        count = count.saturating_add(1);
+        if let Some((expected, spec)) = line.as_str().split_once('\t') {
+            match found(alloc, spec) {
+                Ok(answer) if is_expected(answer.as_str(), expected) => {}
+                Ok(answer) => println!(rt; "{} at {line}", answer.as_str())?,
+                Err(_) => println!(rt; "no memory at {line}")?,
+            }
+        }
+    }
+    println!(rt; "{count} lines")
+}
