@@ -5,7 +5,8 @@ Usage: bench/mark_table.py > crates/mark_tests/stdin
 
 Each line is the items, a tab, and the type of the mark, its enter set, its update set and its sort between tabs. A set has channels with
 blanks between them, a channel values with `|` between them, and a value members like `f:amount` with `,` between them. A sort has fields
-with blanks between them, each with `-` before it where it falls. The plot is 200 by 80. A line of `group-` and a channel has the number that a group encodes in it.
+with blanks between them, each with `-` before it where it falls. The plot is 200 by 80. A line of `group-` and a channel has the
+number that a group encodes in it, one of `inner-` that of a group in an object whose own scale x is what count is in the chart.
 """
 from fractions import Fraction as F
 from math import floor, isqrt
@@ -502,7 +503,11 @@ GROUP_VALUES = NUMBERS + ("f:other", "s:x,f:a", "s:y,null:-", "null:-", "t:word"
                           "f:a|n:3", "if:datum.a=='A',g:1000000000000000+1|n:5", "if:datum.a=='B',g:1000000000000000+1|n:5")
 
 
-def group_line(channel, enter, update=""):
+# values over the scales of an object with an own scale x, inside the chart
+INNER_VALUES = ("s:x,f:a", "s:x,t:A", "s:x,b:0.5", "s:y,f:amount", "s:count,f:a", "s:other,n:3")
+
+
+def group_line(channel, enter, update="", kind="group-"):
     """The number that a group encodes in a channel, 0 where it encodes none."""
     sets = {}
     for words in (enter, update):
@@ -512,7 +517,16 @@ def group_line(channel, enter, update=""):
         answer = spelled([found if is_number(found) else F(0)])
     except OverflowError:
         answer = "overflow"
-    return "\t".join((answer, "group-" + channel, enter, update, ""))
+    return "\t".join((answer, kind + channel, enter, update, ""))
+
+
+def inner_line(channel, enter):
+    """The same in the object that has an own scale x."""
+    hidden = SCALES["x"]
+    SCALES["x"] = SCALES["count"]
+    found = group_line(channel, enter, kind="inner-")
+    SCALES["x"] = hidden
+    return found
 
 
 def lines():
@@ -521,6 +535,8 @@ def lines():
             yield group_line(channel, f"{channel}={words}")
         yield group_line(channel, "fill=t:blue")
         yield group_line(channel, f"{channel}=n:1", f"{channel}=n:2")
+    for words in INNER_VALUES:
+        yield inner_line("x", f"x={words}")
     for type_, (base, channels) in TYPES.items():
         yield line(type_, base)
         for numbers, texts in UNREAD:

@@ -25,9 +25,9 @@ use Rattle.vega_spec.specs.Names.{signals_of, kind_of, parameter_of}
 use Rattle.param_flow.specs.Settings.{is_settable}
 use Rattle.vega_meaning.specs.States.{IsStateOf, settable_names}
 use Rattle.chart_opening.specs.declared.refusal.Refusal.{Refusal}
-use Rattle.chart_opening.specs.declared.sources.Given.{Given}
 use Rattle.chart_opening.specs.declared.refusal.Refusal.TheVariants as refusal
 use Rattle.chart_opening.specs.Laws.{OpeningsAreStates}
+use Rattle.chart_opening.specs.inner.Rows.{state_read}
 use Rattle.chart_opening.specs.Sources.{source_sets, given_by, rows_by, all_of}
 use Rattle.chart_opening.specs.Opening.{keyed_rows, sources_from, values_of, count_rows, state_with, state_within, state_given}
 use Rattle.chart_opening.proofs.NameLemmas.{source_names}
@@ -179,15 +179,14 @@ few_enough g rows state within =
       same : ◌≡◌ {A = Result ChartState Refusal} (Ok (state_with g rows)) (Ok state) → state_with g rows ≡ state
       same e = cc
 
--- the state of a specification for whose sources this is given
-pub given_is_state : (g : VgSpec) (given : List Given) (state : ChartState) → length given ≡ length (source_sets g) → state_given g given ≡ Ok state
-    → IsStateOf g (state_of state)
-given_is_state g given state many opens =
+-- the state of a specification of whose sources this is read
+pub read_is_state : (g : VgSpec) (read : List (Result (List Cells) Refusal)) (state : ChartState) → length read ≡ length (source_sets g)
+    → state_read g read ≡ Ok state → IsStateOf g (state_of state)
+read_is_state g read state many opens =
     let sets : List DataSet = source_sets g in
-    let second = bind_ok (all_of (map rows_by (zip sets given))) (state_within g) state opens in
+    let second = bind_ok (all_of read) (state_within g) state opens in
     let few = few_enough g second.0 state second.2 in
-    let same : length second.0 ≡ length sets =
-    all_length (map rows_by (zip sets given)) second.0 second.1 ∙ length-map (zip sets given) rows_by ∙ zipped sets given many in
+    let same : length second.0 ≡ length sets = all_length read second.0 second.1 ∙ many in
     let of : ChartState → Type 0 = λ st. IsStateOf g (state_of st) in
     subst of few.1 (record {
       is = is_state g second.0 same few.0;
@@ -201,4 +200,4 @@ is_state_of reading files g state opens =
     let sets : List DataSet = source_sets g in
     let first = bind_ok (all_of (map (given_by reading files) sets)) (state_given g) state opens in
     let many : length first.0 ≡ length sets = all_length (map (given_by reading files) sets) first.0 first.1 ∙ length-map sets (given_by reading files) in
-    given_is_state g first.0 state many first.2
+    read_is_state g (map rows_by (zip sets first.0)) state (length-map (zip sets first.0) rows_by ∙ zipped sets first.0 many) first.2

@@ -3,3 +3,4 @@ pub mod Reading
 pub mod Stops
 pub mod Folders
 pub mod Files
+pub mod Rows

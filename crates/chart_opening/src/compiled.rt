@@ -16,9 +16,9 @@ use json_exact::Json;
 use std::alloc::Global;
 
 // The specification to which a tree is compiled, with its opening state.
-fn compiled_tree<F: Folder>(alloc: Global, folder: &mut F, tree: &Json) -> Result<Opened, OpenStop>
+fn compiled_tree<F: Folder>(alloc: Global, folder: &mut F, tree: Json) -> Result<Opened, OpenStop>
     ensures { IsRead (F.faults folder.old) (F.faults folder.new) (F.files folder.old) (F.files folder.new) result
-        (λ files. compiled_tree the_reading files tree.now) }
+        (λ files. compiled_tree the_reading files tree) }
 {
     let spec = compiled_of(alloc, tree)?;
     opened_with(alloc, folder, spec)
@@ -30,7 +30,7 @@ fn compiled_in<F: Folder>(alloc: Global, name: &str, folder: &mut F) -> Result<O
         (λ files. compiled_by the_reading files name.now) }
 {
     match tree_of_file(alloc, folder, name) {
-        Ok(tree) => compiled_tree(alloc, folder, &tree),
+        Ok(tree) => compiled_tree(alloc, folder, tree),
         Err(why) => Err(why),
     }
 }

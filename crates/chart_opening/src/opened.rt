@@ -47,9 +47,9 @@ pub fn opened_with<F: Folder>(
 }
 
 // The specification that a tree says, with its opening state.
-fn opened_tree<F: Folder>(alloc: Global, folder: &mut F, tree: &Json) -> Result<Opened, OpenStop>
+fn opened_tree<F: Folder>(alloc: Global, folder: &mut F, tree: Json) -> Result<Opened, OpenStop>
     ensures read { IsRead (F.faults folder.old) (F.faults folder.new) (F.files folder.old) (F.files folder.new) result
-        (λ files. opened_tree the_reading files tree.now) }
+        (λ files. opened_tree the_reading files tree) }
     ensures ready { IfOk result IsReady }
 {
     let spec = spec_of(alloc, tree)?;
@@ -63,7 +63,7 @@ fn opened_in<F: Folder>(alloc: Global, name: &str, folder: &mut F) -> Result<Ope
     ensures ready { IfOk result IsReady }
 {
     match tree_of_file(alloc, folder, name) {
-        Ok(tree) => opened_tree(alloc, folder, &tree),
+        Ok(tree) => opened_tree(alloc, folder, tree),
         Err(why) => Err(why),
     }
 }

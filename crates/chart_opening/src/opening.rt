@@ -3,14 +3,15 @@ ghost use Rattle.std.specs.Prelude.{◌≡◌, length, map, IfOk};
 ghost use Rattle.cell_value.specs.State.{state_of};
 ghost use Rattle.vega_meaning.specs.States.{IsStateOf};
 ghost use Rattle.chart_opening.specs.Sources.{source_sets};
-ghost use Rattle.chart_opening.specs.Opening.{state_within, state_given, opening_by};
+ghost use Rattle.chart_opening.specs.Opening.{state_within, opening_by};
 ghost use Rattle.chart_opening.specs.inner.Folders.{IsRead};
 ghost use Rattle.chart_opening.specs.inner.Reading.{the_reading};
+ghost use Rattle.chart_opening.specs.inner.Rows.{state_read};
 ghost use Rattle.chart_opening.specs.inner.Stops.{Gives};
 
 use crate::refusal::{OpenStop, Refusal, Stop};
-use crate::rows::{all_rows, count_rows};
-use crate::sources::{Given, all_given, source_sets};
+use crate::rows::{all_read, all_rows, count_rows};
+use crate::sources::source_sets;
 use crate::states::state_with;
 use cell_value::{ChartState, Row};
 use chart_io::Folder;
@@ -35,18 +36,18 @@ fn state_within(
     }
 }
 
-// The state of a specification for whose sources this is given.
-fn state_given(
+// The state of a specification of whose sources this is read.
+fn state_read(
     alloc: Global,
     g: &VgSpec,
     sets: &[&DataSet],
-    given: &[Given],
+    read: Seq<Result<Seq<Row>, Refusal>>,
 ) -> Result<ChartState, Stop>
     requires sets { map (λ s. s.now) sets.now ≡ source_sets g.now }
-    requires number { length sets.now ≡ length given.now }
-    ensures { Gives result (state_given g.now given.now) }
+    requires number { length read ≡ length sets.now }
+    ensures { Gives result (state_read g.now read) }
 {
-    match all_rows(alloc, sets, given) {
+    match all_rows(alloc, read) {
         Ok(rows) => state_within(alloc, g, sets, rows),
         Err(why) => Err(why),
     }
@@ -61,9 +62,9 @@ pub fn opening<F: Folder>(alloc: Global, folder: &mut F, g: &VgSpec) -> Result<C
 {
     let all = source_sets(alloc, g)?;
     let sets = all.as_slice();
-    let given = match all_given(alloc, folder, sets) {
-        Ok(given) => given,
+    let read = match all_read(alloc, folder, sets) {
+        Ok(read) => read,
         Err(why) => return Err(why),
     };
-    Ok(state_given(alloc, g, sets, given.as_slice())?)
+    Ok(state_read(alloc, g, sets, read)?)
 }

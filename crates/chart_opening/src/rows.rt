@@ -1,14 +1,18 @@
 //! The rows of sources.
-ghost use Rattle.std.specs.Prelude.{◌≡◌, length, map, zip, nat_le, Some, None, if◌then◌else◌, IfOk};
+ghost use Rattle.std.specs.Prelude.{◌≡◌, length, map, nat_le, Some, None, if◌then◌else◌, IfOk};
 ghost use Rattle.data_rows.specs.Outcome.{GivesRows};
 ghost use Rattle.cell_value.specs.State.{most_rows};
 ghost use Rattle.chart_opening.specs.Sources.{kind_of, kinds_in, parse_of, rows_given, rows_by, all_of};
 ghost use Rattle.chart_opening.specs.Opening.{count_rows};
+ghost use Rattle.chart_opening.specs.inner.Folders.{IsRead};
+ghost use Rattle.chart_opening.specs.inner.Reading.{the_reading};
+ghost use Rattle.chart_opening.specs.inner.Rows.{read_by};
 ghost use Rattle.chart_opening.specs.inner.Stops.{Gives};
 
-use crate::refusal::{Refusal, Stop};
-use crate::sources::Given;
+use crate::refusal::{OpenStop, Refusal, Stop};
+use crate::sources::{Given, given_by};
 use cell_value::Row;
+use chart_io::Folder;
 use data_rows::{ParseKind, RowError, rows_of_csv, rows_of_json};
 use std::alloc::Global;
 use text_kit::{OutOfMemory, Seq, Text};
@@ -75,33 +79,68 @@ fn rows_given(
     }
 }
 
-// The rows of a source, or its first row that is bad.
-fn rows_by(alloc: Global, set: &DataSet, given: &Given) -> Result<Seq<Row>, Stop>
-    ensures { Gives result (rows_by (set.now, given.now)) }
+// The rows of a source, or the refusal of its first row that is bad.
+fn rows_by(
+    alloc: Global,
+    set: &DataSet,
+    given: &Given,
+) -> Result<Result<Seq<Row>, Refusal>, OutOfMemory>
+    ensures { IfOk result (λ rows. rows ≡ rows_by (set.now, given.now)) }
 {
     let kinds = parse_of(alloc, set)?;
     match rows_given(alloc, &kinds, set, given) {
-        Ok(rows) => Ok(rows),
-        Err(RowError::Fault { row, field }) => Err(Stop::Refused(Refusal::Row(
-            set.name.copy()?,
-            row,
-            field,
-        ))),
-        Err(RowError::Memory) => Err(Stop::Memory),
+        Ok(rows) => Ok(Ok(rows)),
+        Err(RowError::Fault { row, field }) => Ok(Err(Refusal::Row(set.name.copy()?, row, field))),
+        Err(RowError::Memory) => Err(OutOfMemory),
     }
 }
 
-/// The rows of the sources in their order, or the first of them that is bad.
-pub fn all_rows(alloc: Global, sets: &[&DataSet], given: &[Given]) -> Result<Seq<Seq<Row>>, Stop>
-    requires { length sets.now ≡ length given.now }
-    ensures rows { Gives result (all_of (map rows_by (zip (map (λ s. s.now) sets.now) given.now))) }
-    ensures number { IfOk result (λ rows. length rows ≡ length sets.now) }
+// The rows of a source, or the refusal of its first row that is bad, once its file is read. What the file gives is let go.
+fn read_by<F: Folder>(
+    alloc: Global,
+    folder: &mut F,
+    set: &DataSet,
+) -> Result<Result<Seq<Row>, Refusal>, OpenStop>
+    ensures { IsRead (F.faults folder.old) (F.faults folder.new) (F.files folder.old) (F.files folder.new) result
+        (λ files. read_by the_reading files set.now) }
+{
+    match given_by(alloc, folder, set) {
+        Ok(given) => Ok(rows_by(alloc, set, &given)?),
+        Err(why) => Err(why),
+    }
+}
+
+/// The rows of each source, or the refusal of its first row that is bad, in the order of the sources; or the first cause for which a
+/// file is refused. What a file gives is let go before the next one is read.
+pub fn all_read<F: Folder>(
+    alloc: Global,
+    folder: &mut F,
+    sets: &[&DataSet],
+) -> Result<Seq<Result<Seq<Row>, Refusal>>, OpenStop>
+    ensures read { IsRead (F.faults folder.old) (F.faults folder.new) (F.files folder.old) (F.files folder.new) result
+        (λ files. all_of (map (read_by the_reading files) (map (λ s. s.now) sets.now))) }
+    ensures number { IfOk result (λ read. length read ≡ length sets.now) }
+{
+    let mut read = Seq::new(alloc);
+    for set in sets {
+        match read_by(alloc, folder, set) {
+            Ok(one) => read.push(one)?,
+            Err(why) => return Err(why),
+        }
+    }
+    Ok(read)
+}
+
+/// The rows of all sources, or the first refusal among them.
+pub fn all_rows(alloc: Global, read: Seq<Result<Seq<Row>, Refusal>>) -> Result<Seq<Seq<Row>>, Stop>
+    ensures rows { Gives result (all_of read) }
+    ensures number { IfOk result (λ rows. length rows ≡ length read) }
 {
     let mut rows = Seq::new(alloc);
-    for (index, set) in sets.iter().enumerate() {
-        match rows_by(alloc, set, &given[index]) {
-            Ok(one) => rows.push(one)?,
-            Err(why) => return Err(why),
+    for one in read.into_vec() {
+        match one {
+            Ok(of_source) => rows.push(of_source)?,
+            Err(why) => return Err(Stop::Refused(why)),
         }
     }
     Ok(rows)

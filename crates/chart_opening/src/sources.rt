@@ -1,6 +1,6 @@
 //! The sources of a specification, and what their files give.
-ghost use Rattle.std.specs.Prelude.{◌≡◌, ◌++◌, flat_map, length, map, IfOk, OnOk};
-ghost use Rattle.chart_opening.specs.Sources.{own_set, own_sets, sets_in, mark_sets, source_sets, is_csv, given_by_file, given_by, all_of};
+ghost use Rattle.std.specs.Prelude.{◌≡◌, ◌++◌, flat_map, map, IfOk, OnOk};
+ghost use Rattle.chart_opening.specs.Sources.{own_set, own_sets, sets_in, mark_sets, source_sets, is_csv, given_by_file, given_by};
 ghost use Rattle.chart_opening.specs.inner.Folders.{IsRead};
 ghost use Rattle.chart_opening.specs.inner.Reading.{the_reading};
 
@@ -112,8 +112,9 @@ fn given_by_file<F: Folder>(
     }
 }
 
-// What the file of a source gives: nothing where the specification has its rows, or it names no file.
-fn given_by<F: Folder>(alloc: Global, folder: &mut F, set: &DataSet) -> Result<Given, OpenStop>
+/// What the file of a source gives, or the cause for which it is refused: nothing where the specification has its rows, or it names no
+/// file.
+pub fn given_by<F: Folder>(alloc: Global, folder: &mut F, set: &DataSet) -> Result<Given, OpenStop>
     ensures { IsRead (F.faults folder.old) (F.faults folder.new) (F.files folder.old) (F.files folder.new) result
         (λ files. given_by the_reading files set.now) }
 {
@@ -124,24 +125,4 @@ fn given_by<F: Folder>(alloc: Global, folder: &mut F, set: &DataSet) -> Result<G
             None => Ok(Given::Nothing),
         },
     }
-}
-
-/// What the files of the sources give, in the order of the sources, or the first cause for which a file is refused.
-pub fn all_given<F: Folder>(
-    alloc: Global,
-    folder: &mut F,
-    sets: &[&DataSet],
-) -> Result<Seq<Given>, OpenStop>
-    ensures read { IsRead (F.faults folder.old) (F.faults folder.new) (F.files folder.old) (F.files folder.new) result
-        (λ files. all_of (map (given_by the_reading files) (map (λ s. s.now) sets.now))) }
-    ensures number { IfOk result (λ given. length given ≡ length sets.now) }
-{
-    let mut given = Seq::new(alloc);
-    for set in sets {
-        match given_by(alloc, folder, set) {
-            Ok(one) => given.push(one)?,
-            Err(why) => return Err(why),
-        }
-    }
-    Ok(given)
 }

@@ -57,14 +57,14 @@ fn form_read(alloc: Global, tree: &Json) -> Result<VgSpec, Stop>
     }
 }
 
-/// The Vega specification of a tree: its own where it says that it is one, else that of a chart of the first form.
-pub fn spec_of(alloc: Global, tree: &Json) -> Result<VgSpec, Stop>
-    ensures { Gives result (spec_of tree.now) }
+/// The Vega specification of a tree: its own where it says that it is one, else that of a chart of the first form. The tree is let go.
+pub fn spec_of(alloc: Global, tree: Json) -> Result<VgSpec, Stop>
+    ensures { Gives result (spec_of tree) }
 {
-    if is_vega(tree) {
-        vega_read(alloc, tree)
+    if is_vega(&tree) {
+        vega_read(alloc, &tree)
     } else {
-        form_read(alloc, tree)
+        form_read(alloc, &tree)
     }
 }
 
@@ -76,13 +76,13 @@ fn not_compiled(alloc: Global) -> Result<VgSpec, Stop>
     Err(Stop::Refused(Refusal::Spec(SpecKind::Wrong, path)))
 }
 
-/// The Vega specification to which a tree is compiled. A Vega specification isn't compiled, whatever else it holds.
-pub fn compiled_of(alloc: Global, tree: &Json) -> Result<VgSpec, Stop>
-    ensures { Gives result (compiled_of tree.now) }
+/// The Vega specification to which a tree is compiled. A Vega specification isn't compiled, whatever else it holds. The tree is let go.
+pub fn compiled_of(alloc: Global, tree: Json) -> Result<VgSpec, Stop>
+    ensures { Gives result (compiled_of tree) }
 {
-    if is_vega(tree) {
+    if is_vega(&tree) {
         not_compiled(alloc)
     } else {
-        form_read(alloc, tree)
+        form_read(alloc, &tree)
     }
 }

@@ -6,3 +6,4 @@ mod PathLemmas
 mod ShapeLemmas
 mod TextLemmas
 mod GroupLemmas
+mod ScaleLemmas

@@ -1,5 +1,6 @@
 -- Words that only private contracts and proofs cite.
 pub mod Scaled
+pub mod Scales
 pub mod Shapes
 pub mod Begun
 pub mod PathParts

@@ -1,11 +1,11 @@
 // What a mark encodes in its channels.
-ghost use Rattle.std.specs.Prelude.{◌≡◌, IfOk, IfSome, option_copied, []};
+ghost use Rattle.std.specs.Prelude.{◌≡◌, IfOk, option_copied, []};
 ghost use Rattle.std.specs.Option.{option_map_or};
-ghost use Rattle.scale_kit.specs.Scale.{IsScale, AreScales};
-ghost use Rattle.mark_encode.specs.Channels.{channel_named, channel_in, encoded, values_in, scale_named, scale_for, with_scale, channel_values};
+ghost use Rattle.mark_encode.specs.Channels.{channel_named, channel_in, encoded, values_in, scale_for, with_scale, channel_values};
 ghost use Rattle.mark_encode.specs.inner.Scaled.{scaled_of, scaled_all};
 
-use scale_kit::{Indexed, Scale, ScaleSet};
+use crate::scales::IndexedSet;
+use scale_kit::Indexed;
 use std::alloc::Global;
 use text_kit::{OutOfMemory, Seq, Text};
 use vega_spec::{Channel, ChannelValue, Channels, Encode};
@@ -39,7 +39,7 @@ pub enum ChannelName {
 #[derive(Drop)]
 pub struct Scaled<'a> {
     pub value: &'a ChannelValue,
-    pub scale: Option<Indexed<'a>>,
+    pub scale: Option<&'a Indexed<'a>>,
 }
 
 // The channel of a name in an encode set.
@@ -93,49 +93,24 @@ fn encoded(sets: &Option<Encode>, name: ChannelName) -> Option<&Channel>
     }
 }
 
-// The first scale of a name.
-fn scale_named<'a>(set: &'a ScaleSet, name: &str) -> Option<&'a Scale>
-    requires { AreScales set.now }
-    ensures value { option_copied result ≡ scale_named set.now name.now }
-    ensures asked { IfSome result (λ s. IsScale s.now) }
+// The first scale of a name, if one is given.
+fn scale_for<'a>(set: &'a IndexedSet<'a>, name: &Option<Text>) -> Option<&'a Indexed<'a>>
+    ensures { option_copied result ≡ scale_for set.now name.now }
 {
-    for scale in set.scales.as_slice() {
-        if scale.name.as_str() == name {
-            return Some(&scale.scale);
-        }
-    }
-    None
-}
-
-// The first scale of a name, if one is given, with an index of its domain.
-fn indexed_scale<'a>(
-    alloc: Global,
-    set: &'a ScaleSet,
-    name: &Option<Text>,
-) -> Result<Option<Indexed<'a>>, OutOfMemory>
-    requires { AreScales set.now }
-    ensures { IfOk result (λ scale. scale ≡ scale_for set.now name.now) }
-{
-    let Some(name) = name else {
-        return Ok(None);
-    };
-    match scale_named(set, name.as_str()) {
-        Some(scale) => Ok(Some(Indexed::of(alloc, scale)?)),
-        None => Ok(None),
+    match name {
+        Some(name) => set.named(name.as_str()),
+        None => None,
     }
 }
 
 // A value with the scale that it names.
-fn with_scale<'a>(
-    alloc: Global,
-    set: &'a ScaleSet,
-    value: &'a ChannelValue,
-) -> Result<Scaled<'a>, OutOfMemory>
-    requires { AreScales set.now }
-    ensures { IfOk result (λ scaled. scaled_of scaled ≡ with_scale set.now value.now) }
+fn with_scale<'a>(set: &'a IndexedSet<'a>, value: &'a ChannelValue) -> Scaled<'a>
+    ensures { scaled_of result ≡ with_scale set.now value.now }
 {
-    let scale = indexed_scale(alloc, set, &value.scale)?;
-    Ok(Scaled { value, scale })
+    Scaled {
+        value,
+        scale: scale_for(set, &value.scale),
+    }
 }
 
 // The values of a channel, in order; none of no channel.
@@ -152,17 +127,16 @@ fn values_in(channel: Option<&Channel>) -> &[ChannelValue]
 /// The values that a mark encodes in a channel, in order, each with its scale.
 pub fn channel_values<'a>(
     alloc: Global,
-    set: &'a ScaleSet,
+    set: &'a IndexedSet<'a>,
     sets: &'a Option<Encode>,
     name: ChannelName,
 ) -> Result<Seq<Scaled<'a>>, OutOfMemory>
-    requires { AreScales set.now }
     ensures { IfOk result (λ values. scaled_all values ≡ channel_values set.now sets.now name) }
 {
     let values = values_in(encoded(sets, name));
     let mut out = Seq::with_capacity(alloc, values.len())?;
     for value in values {
-        out.push(with_scale(alloc, set, value)?)?;
+        out.push(with_scale(set, value))?;
     }
     Ok(out)
 }

@@ -1,5 +1,5 @@
 // The colours that channels show.
-ghost use Rattle.std.specs.Prelude.{◌≡◌, ◌≤◌, IfOk};
+ghost use Rattle.std.specs.Prelude.{◌≡◌, option_copied, ◌≤◌, IfOk};
 ghost use Rattle.cell_value.specs.Datum.{cell_at};
 ghost use Rattle.cell_value.specs.State.{greatest_id};
 ghost use Rattle.expr_eval.specs.Answers.{Evaluates};
@@ -45,11 +45,11 @@ fn text_of_cell(cell: Option<Cell>) -> Option<Text>
 // The colour of a value with this cell: on its scale, or the cell's own.
 fn color_at(
     alloc: Global,
-    scale: &Option<Indexed>,
+    scale: Option<&Indexed>,
     band: Option<Num>,
     cell: Option<Cell>,
 ) -> Result<Option<Text>, OutOfMemory>
-    ensures { IfOk result (λ color. color ≡ color_at scale.now band cell) }
+    ensures { IfOk result (λ color. color ≡ color_at (option_copied scale.entry) band cell) }
 {
     match scale {
         Some(s) => color_on(alloc, s, &cell, band),
@@ -68,7 +68,7 @@ fn color_for<P: ParamReader>(
     ensures { Evaluates result (color_for (cell_at row.now) (P.values params.now) (scaled_of scaled.now)) }
 {
     let cell = cell_for(alloc, scaled.value, row, params)?;
-    Ok(color_at(alloc, &scaled.scale, scaled.value.band, cell)?)
+    Ok(color_at(alloc, scaled.scale, scaled.value.band, cell)?)
 }
 
 /// The colour that a channel shows of a row.

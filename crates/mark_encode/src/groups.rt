@@ -2,16 +2,15 @@
 ghost use Rattle.std.specs.Prelude.{◌≡◌, option_copied, IfOk};
 ghost use Rattle.std.specs.Str.{bytes_eq};
 ghost use Rattle.expr_eval.specs.Answers.{Evaluates, RisesBy};
-ghost use Rattle.scale_kit.specs.Scale.{AreScales};
 ghost use Rattle.mark_encode.specs.Groups.{last_named, facet_row, number_or_zero, number_encoded};
 
 use crate::channels::{ChannelName, channel_values};
 use crate::numbers::{number_over, zero};
+use crate::scales::IndexedSet;
 use crate::shown::Shown;
 use cell_value::{Cell, Steps};
 use expr_eval::{EvalError, ParamReader, RowReader};
 use fixed_num::Num;
-use scale_kit::ScaleSet;
 use std::alloc::Global;
 use std::sync::ledger::Ledger;
 use text_kit::{OutOfMemory, Text};
@@ -81,13 +80,12 @@ fn number_or_zero(number: Shown<Num>) -> Num
 /// counts in it gives no number. A scale is the first of its name. `Overflow` comes exactly where a number is out of range.
 pub fn number_encoded<P: ParamReader>(
     alloc: Global,
-    scales: &ScaleSet,
+    scales: &IndexedSet,
     encode: &Option<Encode>,
     channel: ChannelName,
     cells: &[(Text, Cell)],
     params: &P,
 ) -> Result<Num, EvalError>
-    requires { AreScales scales.now }
     ensures { Evaluates result (number_encoded scales.now encode.now channel cells.now (P.values params.now)) }
 {
     let values = channel_values(alloc, scales, encode, channel)?;

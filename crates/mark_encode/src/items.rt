@@ -17,6 +17,7 @@ ghost use Rattle.mark_encode.specs.inner.Shapes.{shape_by, row_item};
 use crate::looks::{Look, LookChannels, default_stroke_width, look_for, looks_of};
 use crate::orders::{all_rows, rows_by_sort};
 use crate::paths::path_items;
+use crate::scales::IndexedSet;
 use crate::shapes::{ShapeChannels, shape_channels, shape_for};
 use cell_value::{Key, Keyed, Rows};
 use expr_eval::{EvalError, ParamReader};
@@ -39,12 +40,11 @@ pub struct MarkChannels<'a> {
 fn mark_channels<'a>(
     alloc: Global,
     type_: MarkType,
-    set: &'a ScaleSet,
+    set: &'a IndexedSet<'a>,
     sets: &'a Option<Encode>,
     width: Num,
     height: Num,
 ) -> Result<MarkChannels<'a>, OutOfMemory>
-    requires { AreScales set.now }
     ensures type_is { IfOk result (λ m. m.type_ ≡ type_) }
     ensures shape { IfOk result (λ m. shape_by m.shape ≡ shape_for type_ width height (channel_values set.now sets.now)) }
     ensures looks { IfOk result (λ m. look_values m.looks ≡ looks_of (channel_values set.now sets.now)) }
@@ -148,13 +148,12 @@ fn items_for<P: ParamReader>(
     sets: &Option<Encode>,
     unit: u32,
     rows: &[&Keyed],
-    scales: &ScaleSet,
+    scales: &IndexedSet,
     width: Num,
     height: Num,
     params: &P,
 ) -> Result<Seq<Item>, EvalError>
-    requires rows { HaveIds rows.now }
-    requires scales { AreScales scales.now }
+    requires { HaveIds rows.now }
     ensures { Evaluates result (items_for type_ unit width height (channel_values scales.now sets.now) (P.values params.now)
         (data_of rows.now)) }
 {
@@ -184,13 +183,12 @@ fn items_over<P: ParamReader>(
     sets: &Option<Encode>,
     unit: u32,
     rows: &[&Keyed],
-    scales: &ScaleSet,
+    scales: &IndexedSet,
     width: Num,
     height: Num,
     params: &P,
 ) -> Result<Seq<Item>, EvalError>
-    requires rows { HaveIds rows.now }
-    requires scales { AreScales scales.now }
+    requires { HaveIds rows.now }
     ensures { Evaluates result (items_over type_ unit width height (channel_values scales.now sets.now) (P.values params.now)
         (data_of rows.now)) }
 {
@@ -211,13 +209,12 @@ fn items_by_sort<P: ParamReader>(
     sort: &Sort,
     unit: u32,
     rows: &[&Keyed],
-    scales: &ScaleSet,
+    scales: &IndexedSet,
     width: Num,
     height: Num,
     params: &P,
 ) -> Result<Seq<Item>, EvalError>
-    requires rows { AreListed (data_of rows.now) }
-    requires scales { AreScales scales.now }
+    requires { AreListed (data_of rows.now) }
     ensures { Evaluates result (items_in_order type_ encode.now (Some sort.now) unit scales.now width height (P.values params.now)
         (data_of rows.now)) }
 {
@@ -246,13 +243,12 @@ pub fn items_over_rows<P: ParamReader>(
     sort: &Option<Sort>,
     unit: u32,
     rows: &[&Keyed],
-    scales: &ScaleSet,
+    scales: &IndexedSet,
     width: Num,
     height: Num,
     params: &P,
 ) -> Result<Seq<Item>, EvalError>
-    requires rows { AreListed (data_of rows.now) }
-    requires scales { AreScales scales.now }
+    requires { AreListed (data_of rows.now) }
     ensures { Evaluates result (items_in_order type_ encode.now sort.now unit scales.now width height (P.values params.now) (data_of rows.now)) }
 {
     match sort {
@@ -269,18 +265,17 @@ pub fn items_over_rows<P: ParamReader>(
 /// most 1,600,000. They are in the order of the mark's sort, or else of the rows: an item for each row that has its places, numbers and
 /// colours, of lines and areas one path. A scale is the first of its name. The plot's size is in pixels, from 0 to 10^11. `Overflow` comes
 /// exactly where a number is out of range at one of the rows.
-pub fn items_of<P: ParamReader>(
+pub fn items_on<P: ParamReader>(
     alloc: Global,
     mark: &VgMark,
     unit: u32,
     rows: &Rows,
-    scales: &ScaleSet,
+    scales: &IndexedSet,
     width: Num,
     height: Num,
     params: &P,
 ) -> Result<Seq<Item>, EvalError>
     requires rows { AreRows rows.now }
-    requires scales { AreScales scales.now }
     requires width { IsPixel width }
     requires height { IsPixel height }
     ensures { Evaluates result (items_of mark.now unit scales.now width height (P.values params.now) (map datum_of rows.now)) }
@@ -298,4 +293,25 @@ pub fn items_of<P: ParamReader>(
         height,
         params,
     )
+}
+
+/// The items of a mark, as `items_on` gives them, on scales that are indexed for this mark alone.
+pub fn items_of<P: ParamReader>(
+    alloc: Global,
+    mark: &VgMark,
+    unit: u32,
+    rows: &Rows,
+    scales: &ScaleSet,
+    width: Num,
+    height: Num,
+    params: &P,
+) -> Result<Seq<Item>, EvalError>
+    requires rows { AreRows rows.now }
+    requires scales { AreScales scales.now }
+    requires width { IsPixel width }
+    requires height { IsPixel height }
+    ensures { Evaluates result (items_of mark.now unit scales.now width height (P.values params.now) (map datum_of rows.now)) }
+{
+    let scales = IndexedSet::of(alloc, scales)?;
+    items_on(alloc, mark, unit, rows, &scales, width, height, params)
 }

@@ -14,6 +14,7 @@ mod places;
 mod rects;
 mod rules;
 mod runs;
+mod scales;
 mod shapes;
 mod shown;
 mod spans;
@@ -23,4 +24,5 @@ mod values;
 
 pub use channels::ChannelName;
 pub use groups::number_encoded;
-pub use items::{items_of, items_over_rows};
+pub use items::{items_of, items_on, items_over_rows};
+pub use scales::IndexedSet;

@@ -4,7 +4,6 @@ ghost use Rattle.fixed_num.specs.Number.{million};
 ghost use Rattle.cell_value.specs.Datum.{cell_at};
 ghost use Rattle.cell_value.specs.State.{greatest_id};
 ghost use Rattle.expr_eval.specs.Answers.{Evaluates};
-ghost use Rattle.scale_kit.specs.Scale.{AreScales};
 ghost use Rattle.mark_encode.specs.Channels.{channel_values};
 ghost use Rattle.mark_encode.specs.Looks.{color_or_none, default_stroke_width, look_of, look_for, looks_of};
 ghost use Rattle.mark_encode.specs.inner.Scaled.{look_values};
@@ -12,11 +11,11 @@ ghost use Rattle.mark_encode.specs.inner.Scaled.{look_values};
 use crate::channels::{ChannelName, Scaled, channel_values};
 use crate::colors::color_shown;
 use crate::numbers::number_shown;
+use crate::scales::IndexedSet;
 use crate::shown::{Shown, or_default};
 use cell_value::Keyed;
 use expr_eval::{EvalError, ParamReader};
 use fixed_num::Num;
-use scale_kit::ScaleSet;
 use std::alloc::Global;
 use text_kit::{OutOfMemory, Seq, Text};
 use vega_spec::{Encode, MarkType};
@@ -46,10 +45,9 @@ pub struct LookChannels<'a> {
 /// The values in the channels that say how items are painted.
 pub fn looks_of<'a>(
     alloc: Global,
-    set: &'a ScaleSet,
+    set: &'a IndexedSet<'a>,
     sets: &'a Option<Encode>,
 ) -> Result<LookChannels<'a>, OutOfMemory>
-    requires { AreScales set.now }
     ensures { IfOk result (λ looks. look_values looks ≡ looks_of (channel_values set.now sets.now)) }
 {
     Ok(LookChannels {

@@ -1,5 +1,5 @@
 // The numbers that channels show.
-ghost use Rattle.std.specs.Prelude.{◌≡◌, ◌≤◌, pos, ◌+ℤ◌, ◌*ℤ◌};
+ghost use Rattle.std.specs.Prelude.{◌≡◌, option_copied, ◌≤◌, pos, ◌+ℤ◌, ◌*ℤ◌};
 ghost use Rattle.fixed_num.specs.Number.{million, rounded};
 ghost use Rattle.fixed_num.specs.Ranges.{in_range};
 ghost use Rattle.cell_value.specs.Datum.{cell_at};
@@ -168,11 +168,11 @@ fn number_of_cell(cell: &Option<Cell>) -> Option<Num>
 // The number of a value with this cell: on its scale, or the cell's own.
 fn number_at(
     far: bool,
-    scale: &Option<Indexed>,
+    scale: Option<&Indexed>,
     value: &ChannelValue,
     cell: &Option<Cell>,
 ) -> Option<Option<Num>>
-    ensures { result ≡ number_at far scale.now value.now cell.now }
+    ensures { result ≡ number_at far (option_copied scale.entry) value.now cell.now }
 {
     let Some(s) = scale else {
         return Some(number_of_cell(cell));
@@ -198,7 +198,7 @@ fn moved(offset: Option<Num>, number: Option<Num>) -> Option<Option<Num>>
 pub fn number_by(far: bool, scaled: &Scaled, cell: &Option<Cell>) -> Option<Option<Num>>
     ensures { result ≡ number_by far (scaled_of scaled.now) cell.now }
 {
-    let number = number_at(far, &scaled.scale, scaled.value, cell)?;
+    let number = number_at(far, scaled.scale, scaled.value, cell)?;
     moved(scaled.value.offset, number)
 }
 

@@ -4,7 +4,6 @@ ghost use Rattle.std.specs.Option.{option_to_list};
 ghost use Rattle.cell_value.specs.Datum.{cell_at, datum_of};
 ghost use Rattle.cell_value.specs.State.{greatest_id};
 ghost use Rattle.expr_eval.specs.Answers.{Evaluates};
-ghost use Rattle.scale_kit.specs.Scale.{AreScales};
 ghost use Rattle.mark_encode.specs.Channels.{channel_values};
 ghost use Rattle.mark_encode.specs.Orders.{data_of, HaveIds};
 ghost use Rattle.mark_encode.specs.Paths.{pass_of, stop_at, pass_for, stop_for, stops_for, given_or_absent, path_look, path_look_for};
@@ -19,11 +18,11 @@ use crate::looks::{Look, LookChannels, default_stroke_width, look_of, looks_of};
 use crate::numbers::number_shown;
 use crate::places::place_of;
 use crate::runs::{Pass, Stop, points_of};
+use crate::scales::IndexedSet;
 use crate::shown::{Shown, or_default};
 use cell_value::Keyed;
 use expr_eval::{EvalError, ParamReader};
 use fixed_num::Num;
-use scale_kit::ScaleSet;
 use scene_tree::{Item, Point, Shape};
 use std::alloc::Global;
 use text_kit::{OutOfMemory, Seq, Text};
@@ -66,11 +65,10 @@ fn is_closed(type_: MarkType) -> bool
 fn far_values<'a>(
     alloc: Global,
     closed: bool,
-    set: &'a ScaleSet,
+    set: &'a IndexedSet<'a>,
     sets: &'a Option<Encode>,
     far: ChannelName,
 ) -> Result<Seq<Scaled<'a>>, OutOfMemory>
-    requires { AreScales set.now }
     ensures { IfOk result (λ values. scaled_all values ≡ far_values closed (channel_values set.now sets.now) far) }
 {
     if closed {
@@ -84,13 +82,12 @@ fn far_values<'a>(
 fn passes_of<'a>(
     alloc: Global,
     closed: bool,
-    set: &'a ScaleSet,
+    set: &'a IndexedSet<'a>,
     sets: &'a Option<Encode>,
     near: ChannelName,
     middle: ChannelName,
     far: ChannelName,
 ) -> Result<PassChannels<'a>, OutOfMemory>
-    requires { AreScales set.now }
     ensures { IfOk result (λ along. pass_values along ≡ passes_of closed (channel_values set.now sets.now) near middle far) }
 {
     Ok(PassChannels {
@@ -104,10 +101,9 @@ fn passes_of<'a>(
 fn path_channels<'a>(
     alloc: Global,
     closed: bool,
-    set: &'a ScaleSet,
+    set: &'a IndexedSet<'a>,
     sets: &'a Option<Encode>,
 ) -> Result<PathChannels<'a>, OutOfMemory>
-    requires { AreScales set.now }
     ensures { IfOk result (λ path. path_values path ≡ path_values_of closed (channel_values set.now sets.now)) }
 {
     use ChannelName::{X, X2, Xc, Y, Y2, Yc};
@@ -322,11 +318,10 @@ pub fn path_items<P: ParamReader>(
     sets: &Option<Encode>,
     unit: u32,
     rows: &[&Keyed],
-    scales: &ScaleSet,
+    scales: &IndexedSet,
     params: &P,
 ) -> Result<Seq<Item>, EvalError>
-    requires rows { HaveIds rows.now }
-    requires scales { AreScales scales.now }
+    requires { HaveIds rows.now }
     ensures { Evaluates result (path_items_of type_ unit (channel_values scales.now sets.now) (P.values params.now) (data_of rows.now)) }
 {
     let path = path_channels(alloc, is_closed(type_), scales, sets)?;

@@ -3,18 +3,17 @@ ghost use Rattle.std.specs.Prelude.{◌≡◌, ◌≤◌, IfOk};
 ghost use Rattle.cell_value.specs.Datum.{cell_at};
 ghost use Rattle.cell_value.specs.State.{greatest_id};
 ghost use Rattle.expr_eval.specs.Answers.{Evaluates};
-ghost use Rattle.scale_kit.specs.Scale.{AreScales};
 ghost use Rattle.mark_encode.specs.Channels.{channel_values};
 ghost use Rattle.mark_encode.specs.Places.{place_of, places_named, place_for};
 ghost use Rattle.mark_encode.specs.inner.Scaled.{place_values};
 
 use crate::channels::{ChannelName, Scaled, channel_values};
 use crate::numbers::{number_shown, zero};
+use crate::scales::IndexedSet;
 use crate::shown::{Shown, or_default};
 use cell_value::Keyed;
 use expr_eval::{EvalError, ParamReader};
 use fixed_num::Num;
-use scale_kit::ScaleSet;
 use std::alloc::Global;
 use text_kit::{OutOfMemory, Seq};
 use vega_spec::Encode;
@@ -29,12 +28,11 @@ pub struct PlaceChannels<'a> {
 /// The values in the channels of these names.
 pub fn places_named<'a>(
     alloc: Global,
-    set: &'a ScaleSet,
+    set: &'a IndexedSet<'a>,
     sets: &'a Option<Encode>,
     near: ChannelName,
     middle: ChannelName,
 ) -> Result<PlaceChannels<'a>, OutOfMemory>
-    requires { AreScales set.now }
     ensures { IfOk result (λ place. place_values place ≡ places_named (channel_values set.now sets.now) near middle) }
 {
     Ok(PlaceChannels {

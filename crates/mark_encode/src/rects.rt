@@ -3,16 +3,15 @@ ghost use Rattle.std.specs.Prelude.{◌≡◌, ◌≤◌, IfOk};
 ghost use Rattle.cell_value.specs.Datum.{cell_at};
 ghost use Rattle.cell_value.specs.State.{greatest_id};
 ghost use Rattle.expr_eval.specs.Answers.{Evaluates};
-ghost use Rattle.scale_kit.specs.Scale.{AreScales};
 ghost use Rattle.mark_encode.specs.Channels.{channel_values};
 ghost use Rattle.mark_encode.specs.Rects.{along_named, across_of, down_of, rect_over, rect_for};
 ghost use Rattle.mark_encode.specs.inner.Scaled.{along_values};
 
 use crate::channels::{ChannelName, channel_values};
+use crate::scales::IndexedSet;
 use crate::spans::{Along, Span, span_for};
 use cell_value::Keyed;
 use expr_eval::{EvalError, ParamReader};
-use scale_kit::ScaleSet;
 use scene_tree::Shape;
 use std::alloc::Global;
 use text_kit::OutOfMemory;
@@ -28,14 +27,13 @@ pub struct RectChannels<'a> {
 // The values in the channels of these names, as those of one direction.
 fn along_named<'a>(
     alloc: Global,
-    set: &'a ScaleSet,
+    set: &'a IndexedSet<'a>,
     sets: &'a Option<Encode>,
     near: ChannelName,
     far: ChannelName,
     middle: ChannelName,
     size: ChannelName,
 ) -> Result<Along<'a>, OutOfMemory>
-    requires { AreScales set.now }
     ensures { IfOk result (λ along. along_values along ≡ along_named (channel_values set.now sets.now) near far middle size) }
 {
     Ok(Along {
@@ -49,10 +47,9 @@ fn along_named<'a>(
 /// The values in the channels of a rect.
 pub fn rect_channels<'a>(
     alloc: Global,
-    set: &'a ScaleSet,
+    set: &'a IndexedSet<'a>,
     sets: &'a Option<Encode>,
 ) -> Result<RectChannels<'a>, OutOfMemory>
-    requires { AreScales set.now }
     ensures across { IfOk result (λ rect. along_values rect.across ≡ across_of (channel_values set.now sets.now)) }
     ensures down { IfOk result (λ rect. along_values rect.down ≡ down_of (channel_values set.now sets.now)) }
 {

@@ -3,18 +3,17 @@ ghost use Rattle.std.specs.Prelude.{◌≡◌, ◌≤◌, IfOk};
 ghost use Rattle.cell_value.specs.Datum.{cell_at};
 ghost use Rattle.cell_value.specs.State.{greatest_id};
 ghost use Rattle.expr_eval.specs.Answers.{Evaluates};
-ghost use Rattle.scale_kit.specs.Scale.{AreScales};
 ghost use Rattle.mark_encode.specs.Channels.{channel_values};
 ghost use Rattle.mark_encode.specs.Rules.{ends_from, ends_to, ends_of, ends_named, ends_for, rule_values_of, line_between, rule_for};
 ghost use Rattle.mark_encode.specs.inner.Scaled.{end_values, rule_values};
 
 use crate::channels::{ChannelName, Scaled, channel_values};
 use crate::numbers::{number_shown, zero};
+use crate::scales::IndexedSet;
 use crate::shown::{Shown, or_default};
 use cell_value::Keyed;
 use expr_eval::{EvalError, ParamReader};
 use fixed_num::Num;
-use scale_kit::ScaleSet;
 use scene_tree::Shape;
 use std::alloc::Global;
 use text_kit::{OutOfMemory, Seq};
@@ -47,13 +46,12 @@ pub struct RuleChannels<'a> {
 // The values in the channels of these names.
 fn ends_named<'a>(
     alloc: Global,
-    set: &'a ScaleSet,
+    set: &'a IndexedSet<'a>,
     sets: &'a Option<Encode>,
     near: ChannelName,
     far: ChannelName,
     whole: Num,
 ) -> Result<EndChannels<'a>, OutOfMemory>
-    requires { AreScales set.now }
     ensures { IfOk result (λ ends. end_values ends ≡ ends_named (channel_values set.now sets.now) near far whole) }
 {
     Ok(EndChannels {
@@ -66,12 +64,11 @@ fn ends_named<'a>(
 /// The values in the channels of a rule in a plot of this size.
 pub fn rule_channels<'a>(
     alloc: Global,
-    set: &'a ScaleSet,
+    set: &'a IndexedSet<'a>,
     sets: &'a Option<Encode>,
     width: Num,
     height: Num,
 ) -> Result<RuleChannels<'a>, OutOfMemory>
-    requires { AreScales set.now }
     ensures { IfOk result (λ rule. rule_values rule ≡ rule_values_of width height (channel_values set.now sets.now)) }
 {
     Ok(RuleChannels {

@@ -3,19 +3,18 @@ ghost use Rattle.std.specs.Prelude.{◌≡◌, ◌≤◌, IfOk};
 ghost use Rattle.cell_value.specs.Datum.{cell_at};
 ghost use Rattle.cell_value.specs.State.{greatest_id};
 ghost use Rattle.expr_eval.specs.Answers.{Evaluates};
-ghost use Rattle.scale_kit.specs.Scale.{AreScales};
 ghost use Rattle.mark_encode.specs.Channels.{channel_values};
 ghost use Rattle.mark_encode.specs.Items.{rect_shape, symbol_shape, rule_shape, text_shape, shape_for};
 ghost use Rattle.mark_encode.specs.inner.Shapes.{shape_by};
 
 use crate::rects::{RectChannels, rect_channels, rect_for};
 use crate::rules::{RuleChannels, rule_channels, rule_for};
+use crate::scales::IndexedSet;
 use crate::symbols::{SymbolChannels, symbol_channels, symbol_for};
 use crate::texts::{TextChannels, text_channels, text_for};
 use cell_value::Keyed;
 use expr_eval::{EvalError, ParamReader};
 use fixed_num::Num;
-use scale_kit::ScaleSet;
 use scene_tree::Shape;
 use std::alloc::Global;
 use text_kit::OutOfMemory;
@@ -39,10 +38,9 @@ pub enum ShapeChannels<'a> {
 // The values in the channels of a rect.
 fn of_rect<'a>(
     alloc: Global,
-    set: &'a ScaleSet,
+    set: &'a IndexedSet<'a>,
     sets: &'a Option<Encode>,
 ) -> Result<ShapeChannels<'a>, OutOfMemory>
-    requires { AreScales set.now }
     ensures { IfOk result (λ shape. shape_by shape ≡ rect_shape (channel_values set.now sets.now)) }
 {
     let rect = rect_channels(alloc, set, sets)?;
@@ -52,10 +50,9 @@ fn of_rect<'a>(
 // The values in the channels of a symbol.
 fn of_symbol<'a>(
     alloc: Global,
-    set: &'a ScaleSet,
+    set: &'a IndexedSet<'a>,
     sets: &'a Option<Encode>,
 ) -> Result<ShapeChannels<'a>, OutOfMemory>
-    requires { AreScales set.now }
     ensures { IfOk result (λ shape. shape_by shape ≡ symbol_shape (channel_values set.now sets.now)) }
 {
     let symbol = symbol_channels(alloc, set, sets)?;
@@ -65,12 +62,11 @@ fn of_symbol<'a>(
 // The values in the channels of a rule, in a plot of this size.
 fn of_rule<'a>(
     alloc: Global,
-    set: &'a ScaleSet,
+    set: &'a IndexedSet<'a>,
     sets: &'a Option<Encode>,
     width: Num,
     height: Num,
 ) -> Result<ShapeChannels<'a>, OutOfMemory>
-    requires { AreScales set.now }
     ensures { IfOk result (λ shape. shape_by shape ≡ rule_shape width height (channel_values set.now sets.now)) }
 {
     let rule = rule_channels(alloc, set, sets, width, height)?;
@@ -80,10 +76,9 @@ fn of_rule<'a>(
 // The values in the channels of a text.
 fn of_text<'a>(
     alloc: Global,
-    set: &'a ScaleSet,
+    set: &'a IndexedSet<'a>,
     sets: &'a Option<Encode>,
 ) -> Result<ShapeChannels<'a>, OutOfMemory>
-    requires { AreScales set.now }
     ensures { IfOk result (λ shape. shape_by shape ≡ text_shape (channel_values set.now sets.now)) }
 {
     let text = text_channels(alloc, set, sets)?;
@@ -94,12 +89,11 @@ fn of_text<'a>(
 pub fn shape_channels<'a>(
     alloc: Global,
     type_: MarkType,
-    set: &'a ScaleSet,
+    set: &'a IndexedSet<'a>,
     sets: &'a Option<Encode>,
     width: Num,
     height: Num,
 ) -> Result<ShapeChannels<'a>, OutOfMemory>
-    requires { AreScales set.now }
     ensures { IfOk result (λ shape. shape_by shape ≡ shape_for type_ width height (channel_values set.now sets.now)) }
 {
     match type_ {

@@ -5,7 +5,6 @@ ghost use Rattle.fixed_num.specs.Ranges.{in_range};
 ghost use Rattle.cell_value.specs.Datum.{cell_at};
 ghost use Rattle.cell_value.specs.State.{greatest_id};
 ghost use Rattle.expr_eval.specs.Answers.{Evaluates};
-ghost use Rattle.scale_kit.specs.Scale.{AreScales};
 ghost use Rattle.mark_encode.specs.Channels.{channel_values};
 ghost use Rattle.mark_encode.specs.Symbols.{symbol_named, symbol_of, side_of, side_shown, rise_of, reach_at, reach_of, place_before, circle_at, square_at};
 ghost use Rattle.mark_encode.specs.Symbols.{symbol_path, diamond_over, triangle_over, square_about, diamond_about, triangle_about, symbol_about};
@@ -17,12 +16,12 @@ use crate::colors::color_shown;
 use crate::looks::pixels;
 use crate::numbers::{number_shown, sum_of, times};
 use crate::places::{PlaceChannels, place_for, places_named};
+use crate::scales::IndexedSet;
 use crate::shown::{Shown, or_default};
 use crate::spans::{difference, half};
 use cell_value::Keyed;
 use expr_eval::{EvalError, ParamReader};
 use fixed_num::Num;
-use scale_kit::ScaleSet;
 use scene_tree::{Point, Shape};
 use std::alloc::Global;
 use text_kit::{OutOfMemory, Seq, Text};
@@ -67,10 +66,9 @@ pub struct SymbolChannels<'a> {
 /// The values in the channels of a symbol.
 pub fn symbol_channels<'a>(
     alloc: Global,
-    set: &'a ScaleSet,
+    set: &'a IndexedSet<'a>,
     sets: &'a Option<Encode>,
 ) -> Result<SymbolChannels<'a>, OutOfMemory>
-    requires { AreScales set.now }
     ensures { IfOk result (λ symbol. symbol_values symbol ≡ symbol_values_of (channel_values set.now sets.now)) }
 {
     Ok(SymbolChannels {

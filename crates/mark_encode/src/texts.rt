@@ -1,12 +1,11 @@
 // Texts.
-ghost use Rattle.std.specs.Prelude.{◌≡◌, ◌≤◌, ◌*◌, pos, ◌+ℤ◌, IfOk};
+ghost use Rattle.std.specs.Prelude.{◌≡◌, option_copied, ◌≤◌, ◌*◌, pos, ◌+ℤ◌, IfOk};
 ghost use Rattle.std.specs.Str.{bytes_eq};
 ghost use Rattle.fixed_num.specs.Number.{million};
 ghost use Rattle.fixed_num.specs.Ranges.{in_range};
 ghost use Rattle.cell_value.specs.Datum.{cell_at};
 ghost use Rattle.cell_value.specs.State.{greatest_id};
 ghost use Rattle.expr_eval.specs.Answers.{Evaluates};
-ghost use Rattle.scale_kit.specs.Scale.{AreScales};
 ghost use Rattle.mark_encode.specs.Channels.{channel_values};
 ghost use Rattle.mark_encode.specs.Texts.{anchor_named, anchor_of, is_font_size, whole_size, font_size_of, middle_below, below_named, below_of};
 ghost use Rattle.mark_encode.specs.Texts.{text_cell, cell_on, cell_by, words_of_cell, words_for, words_shown, words_or_none, place_moved, line_of_words, style_of, text_with, text_by};
@@ -17,13 +16,14 @@ use crate::channels::{ChannelName, Scaled, channel_values};
 use crate::colors::{color_on, color_shown};
 use crate::numbers::{number_by, number_shown, zero};
 use crate::places::{PlaceChannels, place_for, places_named};
+use crate::scales::IndexedSet;
 use crate::shown::{Shown, or_default, shown_color};
 use crate::values::{cell_for, first_met};
 use cell_value::{Cell, Keyed};
 use expr_eval::{EvalError, ParamReader};
 use fixed_num::Num;
 use guide_text::{Shows, label_of};
-use scale_kit::{Indexed, ScaleSet};
+use scale_kit::Indexed;
 use scene_tree::{Anchor, Shape};
 use std::alloc::Global;
 use text_kit::{OutOfMemory, Seq, Text};
@@ -65,10 +65,9 @@ pub struct TextChannels<'a> {
 // The values in the channels that say how a text is set.
 fn style_channels<'a>(
     alloc: Global,
-    set: &'a ScaleSet,
+    set: &'a IndexedSet<'a>,
     sets: &'a Option<Encode>,
 ) -> Result<StyleChannels<'a>, OutOfMemory>
-    requires { AreScales set.now }
     ensures { IfOk result (λ style. style_values style ≡ style_values_of (channel_values set.now sets.now)) }
 {
     Ok(StyleChannels {
@@ -81,10 +80,9 @@ fn style_channels<'a>(
 /// The values in the channels of a text.
 pub fn text_channels<'a>(
     alloc: Global,
-    set: &'a ScaleSet,
+    set: &'a IndexedSet<'a>,
     sets: &'a Option<Encode>,
 ) -> Result<TextChannels<'a>, OutOfMemory>
-    requires { AreScales set.now }
     ensures { IfOk result (λ text. text_values text ≡ text_values_of (channel_values set.now sets.now)) }
 {
     Ok(TextChannels {
@@ -218,11 +216,11 @@ fn text_cell(text: Option<Text>) -> Option<Cell>
 // The text on the scale that a value names, or else its cell.
 fn cell_on(
     alloc: Global,
-    scale: &Option<Indexed>,
+    scale: Option<&Indexed>,
     band: Option<Num>,
     own: Option<Cell>,
 ) -> Result<Option<Cell>, OutOfMemory>
-    ensures { IfOk result (λ cell. cell ≡ cell_on scale.now band own) }
+    ensures { IfOk result (λ cell. cell ≡ cell_on (option_copied scale.entry) band own) }
 {
     match scale {
         Some(s) => Ok(text_cell(color_on(alloc, s, &own, band)?)),
@@ -236,7 +234,7 @@ fn cell_by(alloc: Global, scaled: &Scaled, own: Option<Cell>) -> Result<Option<C
 {
     match number_by(false, scaled, &own) {
         Some(Some(number)) => Ok(Some(Cell::Number(number))),
-        Some(None) => Ok(cell_on(alloc, &scaled.scale, scaled.value.band, own)?),
+        Some(None) => Ok(cell_on(alloc, scaled.scale, scaled.value.band, own)?),
         None => Err(EvalError::Overflow),
     }
 }

@@ -1,6 +1,7 @@
 //! A table of marks over three rows, A with 28, B with 55 and C with a text, each with its items: the items, a tab, and the type of the
 //! mark, its enter set, its update set and its sort between tabs. A line of `group-` and a channel has the number that a group encodes in it
-//! where the facets round it have A, and then B and 28. It writes each line of which something else is found, and how many lines there were.
+//! where the facets round it have A, and then B and 28; one of `inner-` that of a group in an object whose own scale `x` is what `count` is in
+//! the chart. It writes each line of which something else is found, and how many lines there were.
 //! `bench/mark_table.py` writes the table.
 #![tactic(auto)]
 
@@ -12,7 +13,7 @@ mod shown;
 use building::{Stop, mark_of};
 use expr_eval::NoParams;
 use fixed_num::Num;
-use groups::number_of;
+use groups::{inner_number_of, number_of};
 use mark_encode::items_of;
 use scene_tree::Item;
 use settings::{count, rows, scales};
@@ -77,6 +78,10 @@ fn said_of_number(alloc: Global, number: Result<Num, Stop>) -> Result<Text, OutO
 
 // What is found for a line, in words.
 fn found(alloc: Global, line: &Line) -> Result<Text, OutOfMemory> {
+    if let Some(channel) = line.type_.strip_prefix("inner-") {
+        let number = inner_number_of(alloc, channel, line.enter, line.update);
+        return said_of_number(alloc, number);
+    }
     match line.type_.strip_prefix("group-") {
         Some(channel) => said_of_number(alloc, number_of(alloc, channel, line.enter, line.update)),
         None => said(alloc, items(alloc, line)),

@@ -151,6 +151,15 @@ pub fn scales(alloc: Global) -> Result<ScaleSet, OutOfMemory>
     Ok(ScaleSet { scales })
 }
 
+/// The scale of an object inside the chart: its `x` is what `count` is in the chart.
+pub fn own_scales(alloc: Global) -> Result<ScaleSet, OutOfMemory>
+    ensures { IfOk result AreScales }
+{
+    let mut scales = Seq::new(alloc);
+    add(alloc, &mut scales, "x", counts(alloc)?)?;
+    Ok(ScaleSet { scales })
+}
+
 fn row(alloc: Global, id: u64, a: &str, word: &str, amount: Cell) -> Result<Keyed, OutOfMemory>
     ensures { IfOk result (λ keyed. keyed.key ≡ record { id = id; branch = 0 }) }
 {

@@ -124,7 +124,7 @@ module _ {X : Type 0} (order : X → X → Ordering) (total : IsTotalOrder order
 
 -- ---- the cells of a field
 
-by_beside_total : (descending : Bool) (beside : Cell → Cell) → IsTotalOrder (by_beside descending beside)
+pub by_beside_total : (descending : Bool) (beside : Cell → Cell) → IsTotalOrder (by_beside descending beside)
 by_beside_total true beside = then_total (back_total (on_total beside cell_cmp_total)) cell_cmp_total
 by_beside_total false beside = then_total (on_total beside cell_cmp_total) cell_cmp_total
 
@@ -179,7 +179,7 @@ fields_differ d rows =
     All-map Differ (λ (field : ℕ × List ℕ). cells_of_field rows (slice_get (unwrap_or d.sort []) field.0) field.1) (enumerate_from 0 d.fields)
     (λ k field within. field_differs rows (slice_get (unwrap_or d.sort []) (get_or (enumerate_from 0 d.fields) k field).0) (get_or (enumerate_from 0 d.fields) k field).1)
 
-by_places_total : (fields : List (List Cell)) → IsTotalOrder (by_places fields)
+pub by_places_total : (fields : List (List Cell)) → IsTotalOrder (by_places fields)
 by_places_total fields = then_total (on_total (places_among fields) nat_list_cmp_total) (lists_total cell_cmp_total)
 
 rows_differ : (d : DividedBy) (rows : List Datum) → Differ (cells_of_rows d rows)

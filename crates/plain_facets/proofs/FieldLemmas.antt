@@ -1,5 +1,6 @@
 -- Keys of one cell, and keys by where their cells stand.
-use Rattle.std.proofs.Common.{◌≡◌, ℕ, ◌+◌, Bool, true, false, cond, ◌||◌, List, [], ◌∷◌, ◌++◌, map, length, Some, unwrap_or}
+use Rattle.std.proofs.Common.{◌≡◌, ℕ, ◌+◌, Bool, true, false, cond, ◌||◌, List, [], ◌∷◌, ◌++◌, map, length, take, Option, Some, is_some, unwrap_or}
+use Rattle.std.specs.Borrow.{Bor}
 use Rattle.std.proofs.Common.{refl, sym, ap, ap₂, ◌∙◌, arith}
 use Rattle.std.specs.Prelude.{slice_get}
 use Rattle.std.specs.List.{enumerate_from, list_any, position_from}
@@ -10,11 +11,16 @@ use Rattle.std.proofs.lemmas.List.{append_assoc, length-append, length-map}
 use Rattle.cell_value.specs.declared.cell.Cell.{Cell}
 use Rattle.cell_value.specs.declared.cell.Cell.TheVariants.{Null}
 use Rattle.cell_value.specs.Cell.{cell_cmp, same_cells}
-use Rattle.cell_value.specs.Datum.{Datum}
+use Rattle.cell_value.specs.declared.state.Keyed.{Keyed}
+use Rattle.cell_value.specs.Datum.{Datum, cell_at}
 use Rattle.tick_kit.specs.Domains.{ascending}
 use Rattle.plain_groups.specs.Groups.{firsts, firsts_behind}
 use Rattle.plain_groups.proofs.PlaceLemmas.{lone_keys}
-use Rattle.plain_facets.specs.Facets.{key_of, is_key, distinct_keys, cells_in, home_among, place_among, places_among, by_places}
+use Rattle.plain_facets.specs.Rows.{data_of}
+use Rattle.plain_facets.specs.inner.Besides.{alike_pairs, pair_shown}
+use Rattle.plain_facets.specs.inner.Places.{first_place, key_shown, keys_shown}
+use Rattle.plain_facets.proofs.ListLemmas.{key_seen}
+use Rattle.plain_facets.specs.Facets.{key_of, is_key, distinct_keys, cells_in, pairs_in, home_among, place_among, places_among, by_places}
 use Rattle.plain_facets.specs.inner.Ranks.{cell_of_key, column_of, row_of, ranked}
 use Rattle.plain_facets.proofs.OrderLemmas.{ascending_alike, map_after, map_itself}
 
@@ -107,3 +113,21 @@ module _ (fields : List (List Cell)) where
         ∙ sym (ascending_alike (by_places fields) order behind (λ a b. refl) keys))
         ∙ map_after behind (λ (pair : List ℕ × List Cell). pair.1) (ascending (by_places fields) keys)
         ∙ map_itself (ascending (by_places fields) keys)
+
+-- the cells of rows behind references in two fields are those of the rows as they are read
+pub pairs_are_shown : (field other : List ℕ) (rows : List (Bor Keyed)) → map (pair_shown field other) rows ≡ pairs_in field other (data_of rows)
+pairs_are_shown field other [] = refl
+pairs_are_shown field other (row ∷ rows) = ap (λ l. pair_shown field other row ∷ l) (pairs_are_shown field other rows)
+
+any_pair : (field other : List ℕ) (row : Bor Keyed) (rows : List (Bor Keyed))
+    → list_any (λ key. is_key key (key_shown (field ∷ []) row)) (keys_shown (field ∷ []) rows)
+    ≡ list_any (λ pair. alike_pairs pair (pair_shown field other row)) (map (pair_shown field other) rows)
+any_pair field other row [] = refl
+any_pair field other row (r ∷ rs) = ap₂ (λ a b. a || b) (lone_keys (cell_at r.now field) (cell_at row.now field)) (any_pair field other row rs)
+
+-- a key of one field that had a place is that of a pair before it
+pub pair_seen : (field other : List ℕ) (rows : List (Bor Keyed)) (i : ℕ) (row : Bor Keyed) (key : List Cell) (had : Option ℕ) → key ≡ key_shown (field ∷ []) row
+    → had ≡ first_place (keys_shown (field ∷ []) (take i rows)) key
+    → is_some had ≡ list_any (λ pair. alike_pairs pair (pair_shown field other row)) (map (pair_shown field other) (take i rows))
+pair_seen field other rows i row key had is had_is =
+    key_seen (keys_shown (field ∷ []) (take i rows)) key (key_shown (field ∷ []) row) had is had_is ∙ any_pair field other row (take i rows)

@@ -3,5 +3,6 @@ mod ListLemmas
 mod OrderLemmas
 mod FieldLemmas
 pub mod DifferentLemmas
+mod RepeatLemmas
 pub mod PartLaw
 pub mod PartLemmas

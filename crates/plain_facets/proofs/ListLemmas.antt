@@ -5,16 +5,16 @@ use Rattle.std.specs.Borrow.{Bor}
 use Rattle.std.specs.Option.{option_or}
 use Rattle.std.specs.List.{list_any, position_from, enumerate_from}
 use Rattle.std.proofs.lemmas.Bool.{eqb-true, eqb-false}
-use Rattle.std.proofs.lemmas.List.{append_assoc, append-nil, drop_all, drop_more, length-take, get_or-set_same, get_or-set_other}
+use Rattle.std.proofs.lemmas.List.{append_assoc, append-nil, drop_all, drop_more, map-append, length-take, get_or-set_same, get_or-set_other}
 use Rattle.std.proofs.Math.Seq.{take-suc}
 use Rattle.cell_value.specs.declared.cell.Cell.{Cell}
 use Rattle.cell_value.specs.declared.state.Keyed.{Keyed}
 use Rattle.cell_value.specs.State.{greatest_id}
 use Rattle.plain_groups.specs.Groups.{firsts_behind}
-use Rattle.plain_groups.proofs.PlaceLemmas.{by_cases, position_more, one_taken}
-use Rattle.plain_facets.specs.Facets.{is_key, members_from, choices}
-use Rattle.plain_facets.specs.Rows.{HaveIds}
-use Rattle.plain_facets.specs.inner.Places.{first_place}
+use Rattle.plain_groups.proofs.PlaceLemmas.{by_cases, position_more, left_there, one_taken}
+use Rattle.plain_facets.specs.Facets.{key_of, is_key, members_from, choices}
+use Rattle.plain_facets.specs.Rows.{data_of, HaveIds}
+use Rattle.plain_facets.specs.inner.Places.{first_place, key_shown, keys_shown}
 
 -- the id of each row is one that a row may have
 pub id_there : (rows : List (Bor Keyed)) (i : ℕ) (row : Bor Keyed) → HaveIds rows → i < length rows → row ≡ get_or rows i row
@@ -60,26 +60,40 @@ kept : {X : Type 0} (seen : Bool) (x : X) (found later : List X)
 kept true x found later = refl
 kept false x found later = append_assoc found (x ∷ []) later
 
--- one key more was taken or left
-pub distinct_more : (keys : List (List Cell)) (i : ℕ) (x key : List Cell) (had : Option ℕ) (found now whole : List (List Cell)) → i < length keys
-    → x ≡ get_or keys i x → key ≡ x → had ≡ first_place (take i keys) key → now ≡ cond (is_some had) found (found ++ x ∷ [])
-    → found ++ firsts_behind is_key (take i keys) (drop i keys) ≡ whole → now ++ firsts_behind is_key (take (i + 1) keys) (drop (i + 1) keys) ≡ whole
-distinct_more keys i x key had found now whole within at is had_is now_is so_far =
-    let rest : drop i keys ≡ x ∷ drop (i + 1) keys = drop_more keys i x within ∙ ap (λ z. z ∷ drop (i + 1) keys) (sym at) in
-    let later = firsts_behind is_key (take i keys ++ x ∷ []) (drop (i + 1) keys) in
-    let seen : is_some had ≡ list_any (λ other. is_key other x) (take i keys) =
-    ap is_some had_is ∙ found_any (λ other. is_key other key) 0 (take i keys) ∙ ap (λ k. list_any (λ other. is_key other k) (take i keys)) is in
-    ap₂ (λ n f. n ++ firsts_behind is_key f (drop (i + 1) keys)) now_is (one_taken keys i x within at)
-    ∙ kept (is_some had) x found later
-    ∙ ap (λ b. found ++ cond b later (x ∷ later)) seen
-    ∙ ap (λ d. found ++ firsts_behind is_key (take i keys) d) (sym rest)
-    ∙ so_far
+-- elements that are taken where they are like none before them
+module _ {X Y : Type 0} (g : X → Y) (alike : Y → Y → Bool) (xs : List X) (i : ℕ) where
+  -- one element more was taken or left
+  pub firsts_more : (x : X) (seen : Bool) (found now whole : List Y) → i < length xs → x ≡ get_or xs i x
+      → seen ≡ list_any (λ y. alike y (g x)) (map g (take i xs)) → now ≡ cond seen found (found ++ g x ∷ [])
+      → found ++ firsts_behind alike (map g (take i xs)) (map g (drop i xs)) ≡ whole
+      → now ++ firsts_behind alike (map g (take (i + 1) xs)) (map g (drop (i + 1) xs)) ≡ whole
+  firsts_more x seen found now whole within at tells now_is so_far =
+      let before : List Y = map g (take i xs) in
+      let rest : map g (drop i xs) ≡ g x ∷ map g (drop (i + 1) xs) = ap (map g) (left_there xs i x within at) in
+      let taken : map g (take (i + 1) xs) ≡ before ++ g x ∷ [] = ap (map g) (one_taken xs i x within at) ∙ map-append g (take i xs) (x ∷ []) in
+      let later : List Y = firsts_behind alike (before ++ g x ∷ []) (map g (drop (i + 1) xs)) in
+      ap₂ (λ n b. n ++ firsts_behind alike b (map g (drop (i + 1) xs))) now_is taken
+      ∙ kept seen (g x) found later
+      ∙ ap (λ b. found ++ cond b later (g x ∷ later)) tells
+      ∙ ap (λ d. found ++ firsts_behind alike before d) (sym rest)
+      ∙ so_far
 
--- at the end all keys were taken or left
-pub distinct_all : (keys : List (List Cell)) (i : ℕ) (found whole : List (List Cell)) → length keys ≤ i
-    → found ++ firsts_behind is_key (take i keys) (drop i keys) ≡ whole → found ≡ whole
-distinct_all keys i found whole past so_far =
-    sym (append-nil found) ∙ ap (λ d. found ++ firsts_behind is_key (take i keys) d) (sym (drop_all i keys past)) ∙ so_far
+  -- at the end all were taken or left
+  pub firsts_all : (found whole : List Y) → length xs ≤ i
+      → found ++ firsts_behind alike (map g (take i xs)) (map g (drop i xs)) ≡ whole → found ≡ whole
+  firsts_all found whole past so_far =
+      sym (append-nil found) ∙ ap (λ d. found ++ firsts_behind alike (map g (take i xs)) (map g d)) (sym (drop_all i xs past)) ∙ so_far
+
+-- a key that had a place is among those before it
+pub key_seen : (before : List (List Cell)) (key whole : List Cell) (had : Option ℕ) → key ≡ whole → had ≡ first_place before key
+    → is_some had ≡ list_any (λ other. is_key other whole) before
+key_seen before key whole had is had_is =
+    ap is_some had_is ∙ found_any (λ other. is_key other key) 0 before ∙ ap (λ k. list_any (λ other. is_key other k) before) is
+
+-- the cells of rows behind references are those of the rows as they are read
+pub keys_are_shown : (fields : List (List ℕ)) (rows : List (Bor Keyed)) → keys_shown fields rows ≡ map (key_of fields) (data_of rows)
+keys_are_shown fields [] = refl
+keys_are_shown fields (row ∷ rows) = ap (λ l. key_shown fields row ∷ l) (keys_are_shown fields rows)
 
 -- a list to which a place was added
 pub list_added : (old new : List (List ℕ)) (home place : ℕ) → home < length old → new ≡ set old home (get_or old home [] ++ place ∷ [])

@@ -63,19 +63,14 @@ module _ (fields : List (List ℕ)) (rows : List (Bor Keyed)) (copies : List (Li
       (λ row. at_home fields copies k (get_or copies k []) there (each_is_at_home copies k (get_or copies k []) different there) (datum_of row.now)) rows
 
   -- so are those of all copies
-  pub parts_there : (keys : List (List Cell)) (homes : List ℕ) (lists : List (List ℕ)) (out : List (List (Bor Keyed))) → AreDifferent copies
-      → keys ≡ map (key_of fields) (data_of rows) → homes ≡ map (home_among copies) keys → length lists ≡ length copies
+  pub parts_there : (homes : List ℕ) (lists : List (List ℕ)) (out : List (List (Bor Keyed))) → AreDifferent copies
+      → homes ≡ map home rows → length lists ≡ length copies
       → ((k : ℕ) → k < length copies → get_or lists k [] ≡ members_from k 0 homes) → out ≡ map (filter_map (slice_get rows)) lists
       → out ≡ map (λ key. part_shown fields key rows) copies
-  parts_there keys homes lists out different keyed at_homes long members is =
+  parts_there homes lists out different at_homes long members is =
       is
       ∙ alike_at_places (filter_map (slice_get rows)) (λ key. part_shown fields key rows) lists copies [] [] long
-      (λ k below. ap (filter_map (slice_get rows)) (members k below ∙ ap (members_from k 0) homes_are) ∙ part_there different k below)
-    where
-      homes_are : homes ≡ map home rows
-      homes_are =
-          at_homes ∙ ap (map (home_among copies)) (keyed ∙ map_after (λ (row : Bor Keyed). datum_of row.now) (key_of fields) rows)
-          ∙ map_after (λ (row : Bor Keyed). key_of fields (datum_of row.now)) (home_among copies) rows
+      (λ k below. ap (filter_map (slice_get rows)) (members k below ∙ ap (members_from k 0) at_homes) ∙ part_there different k below)
 
 module _ (fields : List (List ℕ)) where
   -- what is read of a part

@@ -1,12 +1,12 @@
 // The cells of the copies of a facet.
-ghost use Rattle.std.specs.Prelude.{◌≡◌, [], unwrap_or, IfOk};
-ghost use Rattle.plain_facets.specs.Facets.{choices, cells_of_fields, cells_of_rows, cells_of_copies, AreDifferent};
+ghost use Rattle.std.specs.Prelude.{◌≡◌, [], map, unwrap_or, IfOk};
+ghost use Rattle.tick_kit.specs.Domains.{ascending};
+ghost use Rattle.plain_facets.specs.Facets.{key_of, by_places, choices, cells_of_fields, cells_of_rows, cells_of_copies, AreDifferent};
 ghost use Rattle.plain_facets.specs.Rows.{data_of, HaveIds};
 
 use crate::crossed;
 use crate::distinct::distinct_keys;
 use crate::fields::cells_by_entries;
-use crate::keys::keys_of;
 use crate::ranks::in_places;
 use cell_value::{Cell, Keyed};
 use plain_rows::SortBy;
@@ -48,6 +48,21 @@ pub fn cells_of_fields(
     Ok(cells_by_entries(alloc, rows, entries(d), fields)?)
 }
 
+// The different cells that rows have in all fields, by where they stand among those of their fields.
+fn rows_in_order(
+    alloc: Global,
+    d: &DividedBy,
+    rows: &[&Keyed],
+) -> Result<Seq<Seq<Cell>>, OutOfMemory>
+    requires { HaveIds rows.now }
+    ensures { IfOk result (λ cells. cells
+        ≡ ascending (by_places (cells_of_fields d.now (data_of rows.now))) (map (key_of d.now.fields) (data_of rows.now))) }
+{
+    let keys = distinct_keys(alloc, rows, d.fields.as_slice())?;
+    let fields = cells_of_fields(alloc, d, rows)?;
+    Ok(in_places(alloc, fields.as_slice(), keys.as_slice())?)
+}
+
 // The different cells that rows have in all fields, in their order.
 fn cells_of_rows(
     alloc: Global,
@@ -57,13 +72,9 @@ fn cells_of_rows(
     requires { HaveIds rows.now }
     ensures { IfOk result (λ cells. cells ≡ cells_of_rows d.now (data_of rows.now)) }
 {
-    let keys = keys_of(alloc, rows, d.fields.as_slice())?;
     match &d.sort {
-        None => distinct_keys(alloc, keys.as_slice()),
-        Some(_) => {
-            let fields = cells_of_fields(alloc, d, rows)?;
-            in_places(alloc, fields.as_slice(), keys.as_slice())
-        }
+        None => distinct_keys(alloc, rows, d.fields.as_slice()),
+        Some(_) => rows_in_order(alloc, d, rows),
     }
 }
 

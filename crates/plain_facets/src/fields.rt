@@ -1,15 +1,17 @@
 // The cells of the fields of a facet.
-ghost use Rattle.std.specs.Prelude.{◌≡◌, ◌≤◌, Some, None, map, slice_get, unwrap_or, IfOk};
+ghost use Rattle.std.specs.Prelude.{◌≡◌, ◌≤◌, ◌++◌, [], ◌∷◌, Some, None, map, slice_get, is_some, unwrap_or, IfOk, OnOk, if◌then◌else◌};
 ghost use Rattle.std.specs.List.{enumerate_from};
 ghost use Rattle.cell_value.specs.declared.cell.Cell.TheVariants.{Null};
 ghost use Rattle.cell_value.specs.State.{greatest_id};
 ghost use Rattle.cell_value.specs.Datum.{cell_at};
 ghost use Rattle.plain_facets.specs.Facets.{pairs_in, cells_of_field};
 ghost use Rattle.plain_facets.specs.Rows.{data_of, HaveIds};
+ghost use Rattle.plain_facets.specs.inner.Besides.{alike_pairs};
+ghost use Rattle.plain_groups.specs.Groups.{firsts};
 
 use crate::distinct::distinct_keys;
-use crate::keys::keys_of;
 use crate::ordered::by_firsts;
+use crate::places::{no_places, note};
 use cell_value::{Cell, Keyed};
 use plain_rows::{SortBy, cell_of};
 use std::alloc::Global;
@@ -23,19 +25,51 @@ fn pair_of(row: &Keyed, field: &str, other: &str) -> Result<(Cell, Cell), OutOfM
     Ok((cell_of(row, field)?, cell_of(row, other)?))
 }
 
-// The cells of rows in two fields.
-fn pairs_of(
+// Puts the cell of a row in a field into a key, in place of what it holds.
+fn fill_lone(key: &mut Vec<Cell>, row: &Keyed, field: &Text) -> Result<(), OutOfMemory>
+    requires { row.now.key.id ≤ greatest_id }
+    ensures { OnOk result (key.new.items ≡ cell_at row.now field.now ∷ []) }
+{
+    key.clear();
+    key.push(cell_of(row, field.as_str())?)?;
+    Ok(())
+}
+
+// Adds the cells of a row in two fields, unless its key had a place already.
+fn push_new(
+    pairs: &mut Seq<(Cell, Cell)>,
+    row: &Keyed,
+    field: &Text,
+    other: &str,
+    had: Option<usize>,
+) -> Result<(), OutOfMemory>
+    requires { row.now.key.id ≤ greatest_id }
+    ensures { OnOk result (pairs.new
+        ≡ (if is_some had then pairs.old else pairs.old ++ (cell_at row.now field.now, cell_at row.now other.now) ∷ [])) }
+{
+    if had.is_some() {
+        return Ok(());
+    }
+    pairs.push(pair_of(row, field.as_str(), other)?)
+}
+
+// The cells of rows in two fields, those of the first row with each cell in the first field.
+fn first_pairs(
     alloc: Global,
     rows: &[&Keyed],
-    field: &str,
+    field: &Text,
     other: &str,
 ) -> Result<Seq<(Cell, Cell)>, OutOfMemory>
     requires { HaveIds rows.now }
-    ensures { IfOk result (λ pairs. pairs ≡ pairs_in field.now other.now (data_of rows.now)) }
+    ensures { IfOk result (λ pairs. pairs ≡ firsts alike_pairs (pairs_in field.now other.now (data_of rows.now))) }
 {
-    let mut pairs = Seq::with_capacity(alloc, rows.len())?;
-    for row in rows {
-        pairs.push(pair_of(row, field, other)?)?;
+    let mut places = no_places(alloc);
+    let mut pairs = Seq::new(alloc);
+    let mut key = Vec::with_capacity(alloc, 1)?;
+    for (at, row) in rows.iter().enumerate() {
+        fill_lone(&mut key, row, field)?;
+        let had = note(&mut places, alloc, &key, at)?;
+        push_new(&mut pairs, row, field, other, had)?;
     }
     Ok(pairs)
 }
@@ -67,8 +101,7 @@ fn by_first_rows(alloc: Global, rows: &[&Keyed], field: &Text) -> Result<Seq<Cel
     requires { HaveIds rows.now }
     ensures { IfOk result (λ cells. cells ≡ cells_of_field (data_of rows.now) None field.now) }
 {
-    let keys = keys_of(alloc, rows, std::slice::from_ref(field))?;
-    let found = distinct_keys(alloc, keys.as_slice())?;
+    let found = distinct_keys(alloc, rows, std::slice::from_ref(field))?;
     Ok(first_cells(alloc, found.as_slice())?)
 }
 
@@ -82,8 +115,8 @@ fn by_another(
     requires { HaveIds rows.now }
     ensures { IfOk result (λ cells. cells ≡ cells_of_field (data_of rows.now) (Some by.now) field.now) }
 {
-    let pairs = pairs_of(alloc, rows, field.as_str(), by.field.as_str())?;
-    by_firsts(alloc, by.descending, pairs.as_slice())
+    let pairs = first_pairs(alloc, rows, field, by.field.as_str())?;
+    Ok(by_firsts(alloc, by.descending, pairs.as_slice())?)
 }
 
 // The different cells of a field at a place, by the entry of an order there.

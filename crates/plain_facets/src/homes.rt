@@ -1,17 +1,19 @@
 // Which copy each row belongs to, and which rows each copy has.
 ghost use Rattle.std.specs.Prelude.{◌≡◌, ◌<◌, ◌++◌, [], ◌∷◌, ℕ, ◌==◌, map, length, slice_index_or, slice_set, IfOk, OnOk, if◌then◌else◌};
 ghost use Rattle.plain_facets.specs.Facets.{home_among, members_from};
-ghost use Rattle.plain_facets.specs.inner.Places.{home_at};
+ghost use Rattle.plain_facets.specs.Rows.{HaveIds};
+ghost use Rattle.plain_facets.specs.inner.Places.{home_at, home_shown};
 
+use crate::keys::fill_key;
 use crate::places::{Places, index_of, own_key, place_at};
-use cell_value::Cell;
+use cell_value::{Cell, Keyed};
 use plain_groups::empty_lists;
 use std::alloc::Global;
-use text_kit::{OutOfMemory, Seq};
+use text_kit::{OutOfMemory, Seq, Text};
 
 // The place of a key; past so many copies where it has none.
-fn home_of(places: &Places, key: Vec<Cell>, copies: usize) -> usize
-    ensures { result ≡ home_at places.now copies key.items }
+fn home_of(places: &Places, key: &Vec<Cell>, copies: usize) -> usize
+    ensures { result ≡ home_at places.now copies key.now.items }
 {
     place_at(places, key.as_slice()).unwrap_or(copies)
 }
@@ -27,7 +29,28 @@ pub fn homes_of(
     let places = index_of(alloc, copies)?;
     let mut homes = Seq::with_capacity(alloc, keys.len())?;
     for key in keys {
-        homes.push(home_of(&places, own_key(alloc, key)?, copies.len()))?;
+        let own = own_key(alloc, key)?;
+        homes.push(home_of(&places, &own, copies.len()))?;
+    }
+    Ok(homes)
+}
+
+/// For each row the place of its cells in some fields among those of copies; past them all where they aren't there.
+pub(crate) fn homes_in(
+    alloc: Global,
+    copies: &[Seq<Cell>],
+    fields: &[Text],
+    rows: &[&Keyed],
+) -> Result<Seq<usize>, OutOfMemory>
+    requires { HaveIds rows.now }
+    ensures { IfOk result (λ homes. homes ≡ map (home_shown copies.now fields.now) rows.now) }
+{
+    let places = index_of(alloc, copies)?;
+    let mut homes = Seq::with_capacity(alloc, rows.len())?;
+    let mut key = Vec::with_capacity(alloc, fields.len())?;
+    for row in rows {
+        fill_key(&mut key, row, fields)?;
+        homes.push(home_of(&places, &key, copies.len()))?;
     }
     Ok(homes)
 }

@@ -18,6 +18,5 @@ mod sets;
 pub use copies::{DividedBy, cells_of_copies, cells_of_fields};
 pub use crossed::choices;
 pub use homes::{homes_of, members_of};
-pub use keys::keys_of;
 pub use laws::laws_of_facets;
 pub use parts::parts_of;

@@ -3,8 +3,7 @@ ghost use Rattle.std.specs.Prelude.{◌≡◌, ◌++◌, map, filter_map, slice_
 ghost use Rattle.plain_facets.specs.Facets.{part_of, AreDifferent};
 ghost use Rattle.plain_facets.specs.Rows.{data_of, HaveIds, part_shown};
 
-use crate::homes::{homes_of, members_of};
-use crate::keys::keys_of;
+use crate::homes::{homes_in, members_of};
 use cell_value::{Cell, Keyed};
 use std::alloc::Global;
 use text_kit::{OutOfMemory, Seq, Text};
@@ -64,8 +63,7 @@ fn parts_shown<'a>(
     requires ids { HaveIds rows.now }
     ensures { IfOk result (λ parts. parts ≡ map (λ key. part_shown fields.now key rows.now) copies.now) }
 {
-    let keys = keys_of(alloc, rows, fields)?;
-    let homes = homes_of(alloc, copies, keys.as_slice())?;
+    let homes = homes_in(alloc, copies, fields, rows)?;
     let members = members_of(alloc, copies.len(), homes.as_slice())?;
     Ok(all_rows_at(alloc, rows, members.as_slice())?)
 }

@@ -37,30 +37,38 @@ fn put(places: &mut Places, key: Vec<Cell>, at: usize) -> Result<(), OutOfMemory
     Ok(())
 }
 
-/// Puts a place under a key, unless it has one, and tells the one that it had.
-pub(crate) fn note(
-    places: &mut Places,
-    key: Vec<Cell>,
-    at: usize,
-) -> Result<Option<usize>, OutOfMemory>
-    ensures had { IfOk result (λ had. had ≡ place_at places.old key.items) }
-    ensures places { OnOk result ((q : Vec CellValue GlobalHeap) → place_at places.new q.items
-        ≡ option_or (place_at places.old q.items) (cond (is_key key.items q.items) (Some at) None)) }
-{
-    match place_at(places, key.as_slice()) {
-        Some(place) => Ok(Some(place)),
-        None => {
-            put(places, key, at)?;
-            Ok(None)
-        }
-    }
-}
-
 /// A copy of a key, as it stands in a map.
 pub(crate) fn own_key(alloc: Global, key: &Seq<Cell>) -> Result<Vec<Cell>, OutOfMemory>
     ensures { IfOk result (λ own. own.items ≡ key.now) }
 {
     Ok(copy_list(alloc, key.as_slice())?.into_vec())
+}
+
+// A copy of a key once more.
+fn copied(alloc: Global, key: &Vec<Cell>) -> Result<Vec<Cell>, OutOfMemory>
+    ensures { IfOk result (λ own. own.items ≡ key.now.items) }
+{
+    Ok(copy_list(alloc, key.as_slice())?.into_vec())
+}
+
+/// Puts a place under a copy of a key, unless it has one, and tells the one that it had.
+pub(crate) fn note(
+    places: &mut Places,
+    alloc: Global,
+    key: &Vec<Cell>,
+    at: usize,
+) -> Result<Option<usize>, OutOfMemory>
+    ensures had { IfOk result (λ had. had ≡ place_at places.old key.now.items) }
+    ensures places { OnOk result ((q : Vec CellValue GlobalHeap) → place_at places.new q.items
+        ≡ option_or (place_at places.old q.items) (cond (is_key key.now.items q.items) (Some at) None)) }
+{
+    match place_at(places, key.as_slice()) {
+        Some(place) => Ok(Some(place)),
+        None => {
+            put(places, copied(alloc, key)?, at)?;
+            Ok(None)
+        }
+    }
 }
 
 /// Each key with the first place at which it stands.
@@ -69,7 +77,8 @@ pub(crate) fn index_of(alloc: Global, keys: &[Seq<Cell>]) -> Result<Places, OutO
 {
     let mut places = no_places(alloc);
     for (at, key) in keys.iter().enumerate() {
-        note(&mut places, own_key(alloc, key)?, at)?;
+        let own = own_key(alloc, key)?;
+        note(&mut places, alloc, &own, at)?;
     }
     Ok(places)
 }

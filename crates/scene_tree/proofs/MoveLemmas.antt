@@ -1,18 +1,37 @@
--- Items that are moved by nothing.
-use Rattle.std.proofs.Common.{◌≡◌, ℤ, pos, ◌+ℤ◌, List, [], ◌∷◌, Option, Some, refl, ap, ap₂, ◌∙◌, arith}
+-- Items that are moved.
+use Rattle.std.proofs.Common.{◌≡◌, ℕ, ◌+◌, ◌<◌, length, take, drop, get_or, set, ℤ, pos, ◌+ℤ◌, List, [], ◌∷◌, Option, Some, None, refl, sym, ap, ◌∙◌, arith}
 use Rattle.std.specs.Prelude.{map, All}
 use Rattle.std.specs.Option.{option_map}
 use Rattle.std.proofs.lemmas.Int.{ints}
+use Rattle.std.proofs.lemmas.List.{drop_more, take_more_set, drop-set-lt}
 use Rattle.std.proofs.lemmas.List.Elements.{All-head, All-tail}
 use Rattle.fixed_num.specs.Number.{IsNumber}
 use Rattle.fixed_num.specs.Ranges.{◌>>=◌, all_found, in_range}
 use Rattle.fixed_num.proofs.RangeLemmas.{in_range_at_number}
-use Rattle.scene_tree.specs.declared.scene.Item.{Item}
+use Rattle.fixed_num.proofs.FoundLemmas.{after, one_more}
 use Rattle.scene_tree.specs.declared.shape.Point.{Point}
 use Rattle.scene_tree.specs.declared.shape.Point.TheVariants as point
 use Rattle.scene_tree.specs.declared.shape.Shape.{Shape}
 use Rattle.scene_tree.specs.declared.shape.Shape.TheVariants.{Rect, Circle, Path, Line, Words}
-use Rattle.scene_tree.specs.Moves.{moved_to, moved_place, moved_point, moved_shape, moved_item, IsPointInRange, HasPlacesInRange, StaysInPlace}
+use Rattle.scene_tree.specs.Moves.{moved_to, moved_place, moved_point, moved_shape, IsPointInRange, HasPlacesInRange, StaysInPlace}
+
+-- an element is moved where it stands
+pub one_moved : {X : Type 0} (f : X → Option X) (xs : List X) (i : ℕ) (x y : X) (all : Option (List X)) → i < length xs → Some y ≡ f (get_or xs i x)
+    → after (take i xs) (all_found (map f (drop i xs))) ≡ all
+    → after (take (i + 1) (set xs i y)) (all_found (map f (drop (i + 1) (set xs i y)))) ≡ all
+one_moved f xs i x y all below moves so_far =
+    let later : i < i + 1 = omega arith in
+    (λ j. after (take_more_set xs i y below j) (all_found (map f (drop-set-lt (i + 1) xs i y later j))))
+    ∙ one_more (take i xs) y (all_found (map f (drop (i + 1) xs)))
+    ∙ ap (λ o. after (take i xs) (o >>= λ v. all_found (map f (drop (i + 1) xs)) >>= λ vs. Some (v ∷ vs))) moves
+    ∙ ap (λ vs. after (take i xs) (all_found (map f vs))) (sym (drop_more xs i x below)) ∙ so_far
+
+-- an element can't be moved
+pub none_moved : {X : Type 0} (f : X → Option X) (xs : List X) (i : ℕ) (x : X) (all : Option (List X)) → i < length xs → None ≡ f (get_or xs i x)
+    → after (take i xs) (all_found (map f (drop i xs))) ≡ all → None ≡ all
+none_moved f xs i x all below stops so_far =
+    ap (λ o. after (take i xs) (o >>= λ v. all_found (map f (drop (i + 1) xs)) >>= λ vs. Some (v ∷ vs))) stops
+    ∙ ap (λ vs. after (take i xs) (all_found (map f vs))) (sym (drop_more xs i x below)) ∙ so_far
 
 number_stays : (x : ℤ) → IsNumber x → moved_to (pos 0) x ≡ Some x
 number_stays x in_reach = let same : x +ℤ pos 0 ≡ x = omega (arith, ints) in ap in_range same ∙ in_range_at_number x in_reach

@@ -1,5 +1,5 @@
 // A page of text, on its way to a sink.
-ghost use Rattle.std.specs.Prelude.{◌≡◌, [], ◌++◌, ◌-◌, ◌<◌, ◌≤◌, length, nat_le, min, take, OnOk};
+ghost use Rattle.std.specs.Prelude.{◌≡◌, [], ◌++◌, ◌+◌, ◌-◌, ◌<◌, ◌≤◌, ◌↔◌, length, nat_le, min, take, IsTrue, OnOk};
 ghost use Rattle.svg_text.specs.inner.Printing.{Prints};
 ghost use Rattle.svg_text.specs.declared.page.TheConstants.{PAGE_SIZE};
 
@@ -58,6 +58,23 @@ impl Page {
         self.filled = 0;
     }
 
+    // Whether it has room for so many bytes more.
+    fn has_room(&self, count: usize) -> bool
+        ensures { IsTrue result ↔ (length self.now + count ≤ PAGE_SIZE) }
+    {
+        count <= PAGE_SIZE - self.filled
+    }
+
+    // Takes the bytes.
+    fn add(&mut self, bytes: &[u8])
+        requires { length self.old + length bytes.now ≤ PAGE_SIZE }
+        ensures { self.new ≡ self.old ++ bytes.now }
+    {
+        let end = self.filled + bytes.len();
+        self.bytes[self.filled..end].copy_from_slice(bytes);
+        self.filled = end;
+    }
+
     // Takes as many of the bytes as it has room for, and says how many.
     fn fill(&mut self, bytes: &[u8]) -> usize
         ensures count { result ≡ min (length bytes.now) (PAGE_SIZE - length self.old) }
@@ -92,8 +109,9 @@ fn make_room<K: Sink>(out: &mut K, page: &mut Page) -> Result<(), WriteFault>
     hand_on(out, page)
 }
 
-// Prints the bytes by way of the page, and hands it on each time it is full.
-pub fn put<K: Sink>(out: &mut K, page: &mut Page, bytes: &[u8]) -> Result<(), WriteFault>
+// Prints the bytes by way of the page, and hands it on each time it is full. Few calls of `put` come here.
+#[inline(never)]
+fn put_parts<K: Sink>(out: &mut K, page: &mut Page, bytes: &[u8]) -> Result<(), WriteFault>
     ensures { Prints K.faults K.held out.old page.old out.new page.new result bytes.now }
 {
     let mut at = 0;
@@ -102,4 +120,15 @@ pub fn put<K: Sink>(out: &mut K, page: &mut Page, bytes: &[u8]) -> Result<(), Wr
         at += page.fill(&bytes[at..]);
     }
     Ok(())
+}
+
+// Prints the bytes by way of the page, and hands it on where it is full.
+pub fn put<K: Sink>(out: &mut K, page: &mut Page, bytes: &[u8]) -> Result<(), WriteFault>
+    ensures { Prints K.faults K.held out.old page.old out.new page.new result bytes.now }
+{
+    if page.has_room(bytes.len()) {
+        page.add(bytes);
+        return Ok(());
+    }
+    put_parts(out, page, bytes)
 }

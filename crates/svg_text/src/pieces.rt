@@ -1,8 +1,8 @@
 // Texts in pieces, printed by way of a page.
 ghost use Rattle.std.specs.Prelude.{◌≡◌, encode_utf8};
-ghost use Rattle.std.specs.List.{flat_map};
+ghost use Rattle.std.specs.List.{flat_map, list_all};
 ghost use Rattle.fixed_num.specs.Decimal.{spelling};
-ghost use Rattle.svg_text.specs.inner.Pieces.{piece_text, attribute_text};
+ghost use Rattle.svg_text.specs.inner.Pieces.{piece_text, is_plain};
 ghost use Rattle.svg_text.specs.inner.Printing.{Prints};
 ghost use Rattle.svg_text.specs.SceneText.{xml_char, xml_text};
 
@@ -22,26 +22,6 @@ pub enum Piece<'a> {
     Escaped(&'a Text),
 }
 
-// An attribute of an element.
-#[derive(Drop)]
-pub struct Attribute<'a> {
-    // Its name.
-    pub name: &'a str,
-    // Its value.
-    pub value: Piece<'a>,
-}
-
-// An attribute with a number.
-pub fn numeric(name: &str, number: Num) -> Attribute<'_>
-    ensures name { result.name.now ≡ name.now }
-    ensures value { piece_text result.value ≡ spelling number }
-{
-    Attribute {
-        name,
-        value: Piece::Number(number),
-    }
-}
-
 // The text as it stands.
 pub fn put_text<K: Sink>(out: &mut K, page: &mut Page, text: &str) -> Result<(), WriteFault>
     ensures { Prints K.faults K.held out.old page.old out.new page.new result text.now }
@@ -53,7 +33,9 @@ pub fn put_text<K: Sink>(out: &mut K, page: &mut Page, text: &str) -> Result<(),
 fn put_number<K: Sink>(out: &mut K, page: &mut Page, number: Num) -> Result<(), WriteFault>
     ensures { Prints K.faults K.held out.old page.old out.new page.new result (spelling number) }
 {
-    put_text(out, page, number.decimal().as_str())
+    let mut buf = [0; 32];
+    let len = number.write_decimal(&mut buf);
+    put(out, page, &buf[..len])
 }
 
 // The character as it stands.
@@ -81,14 +63,51 @@ fn put_escape<K: Sink>(out: &mut K, page: &mut Page, c: char) -> Result<(), Writ
     }
 }
 
-// The text in XML.
-pub fn put_escaped<K: Sink>(out: &mut K, page: &mut Page, text: &Text) -> Result<(), WriteFault>
+// The text in XML, one character after another.
+#[inline(never)]
+fn put_escapes<K: Sink>(out: &mut K, page: &mut Page, text: &Text) -> Result<(), WriteFault>
     ensures { Prints K.faults K.held out.old page.old out.new page.new result (xml_text text.now) }
 {
     for c in text.as_str().chars() {
         put_escape(out, page, c)?;
     }
     Ok(())
+}
+
+// Whether a byte is one of a character that stands in a text of XML as it is, whatever else the character has: no markup, no control but
+// a tab, a line feed and a carriage return, and not the first byte of U+0080 to U+00BF or of U+F000 to U+FFFF.
+fn is_plain(byte: u8) -> bool
+    ensures { result ≡ is_plain byte }
+{
+    match byte {
+        b'\t' | b'\n' | b'\r' => true,
+        0..=0x1f | b'"' | b'&' | b'<' | b'>' | 0x7f | 0xc2 | 0xef => false,
+        _ => true,
+    }
+}
+
+// Whether all bytes are such.
+fn are_plain(bytes: &[u8]) -> bool
+    ensures { result ≡ list_all is_plain bytes.now }
+{
+    bytes.iter().all(|byte| is_plain(*byte))
+}
+
+// Whether all bytes of the text are such.
+fn is_plain_text(text: &Text) -> bool
+    ensures { result ≡ list_all is_plain text.now }
+{
+    are_plain(text.as_str().as_bytes())
+}
+
+// The text in XML.
+fn put_escaped<K: Sink>(out: &mut K, page: &mut Page, text: &Text) -> Result<(), WriteFault>
+    ensures { Prints K.faults K.held out.old page.old out.new page.new result (xml_text text.now) }
+{
+    if is_plain_text(text) {
+        return put_text(out, page, text.as_str());
+    }
+    put_escapes(out, page, text)
 }
 
 // The piece.
@@ -112,38 +131,6 @@ pub fn put_pieces<K: Sink>(
 {
     for piece in pieces {
         put_piece(out, page, piece)?;
-    }
-    Ok(())
-}
-
-// The attribute, with a space before it.
-fn put_attribute<K: Sink>(
-    out: &mut K,
-    page: &mut Page,
-    attribute: &Attribute<'_>,
-) -> Result<(), WriteFault>
-    ensures { Prints K.faults K.held out.old page.old out.new page.new result (attribute_text attribute.now) }
-{
-    let name = [
-        Piece::Plain(" "),
-        Piece::Plain(attribute.name),
-        Piece::Plain("=\""),
-    ];
-    put_pieces(out, page, &name)?;
-    put_piece(out, page, &attribute.value)?;
-    put_text(out, page, "\"")
-}
-
-// The attributes, one after another.
-pub fn put_attributes<K: Sink>(
-    out: &mut K,
-    page: &mut Page,
-    attributes: &[Attribute<'_>],
-) -> Result<(), WriteFault>
-    ensures { Prints K.faults K.held out.old page.old out.new page.new result (flat_map attribute_text attributes.now) }
-{
-    for attribute in attributes {
-        put_attribute(out, page, attribute)?;
     }
     Ok(())
 }

@@ -2,39 +2,38 @@
 ghost use Rattle.std.specs.Prelude.{◌≡◌, ◌++◌, ◌≤◌, codes, OnOk, OnErr};
 ghost use Rattle.std.specs.List.{flat_map};
 ghost use Rattle.chart_io.specs.Outside.{Rose, Appended, AppendedPrefix};
-ghost use Rattle.svg_text.specs.inner.Pieces.{piece_text};
 ghost use Rattle.svg_text.specs.inner.Printing.{Prints};
-ghost use Rattle.svg_text.specs.SceneText.{xml_text, attribute, shape_text, fill_text, outline_text, stroke_text, opacity_text, paint_text};
+ghost use Rattle.svg_text.specs.SceneText.{xml_text, attribute, fill_text, outline_text, stroke_text, opacity_text, paint_text};
 ghost use Rattle.svg_text.specs.SceneText.{end_text, item_text, origin_text, panel_text, head_text, svg_of};
 
 use crate::page::{Page, hand_on};
-use crate::pieces::{Attribute, Piece, numeric, put_attributes, put_pieces, put_text};
+use crate::pieces::{Piece, put_pieces, put_text};
 use crate::shapes::put_shape;
 use chart_io::{Sink, WriteFault};
 use fixed_num::Num;
 use scene_tree::{Item, Panel, Scene, Shape};
 use text_kit::Text;
 
-// An attribute with this text.
-fn worded<'a>(name: &'a str, text: &'a Text) -> Attribute<'a>
-    ensures name { result.name.now ≡ name.now }
-    ensures value { piece_text result.value ≡ xml_text text.now }
+// A fill.
+fn put_filled<K: Sink>(out: &mut K, page: &mut Page, fill: &Text) -> Result<(), WriteFault>
+    ensures { Prints K.faults K.held out.old page.old out.new page.new result (attribute (codes "fill") (xml_text fill.now)) }
 {
-    Attribute {
-        name,
-        value: Piece::Escaped(text),
-    }
+    put_pieces(
+        out,
+        page,
+        &[
+            Piece::Plain(" fill=\""),
+            Piece::Escaped(fill),
+            Piece::Plain("\""),
+        ],
+    )
 }
 
-// A fill by a word that needs no escape.
-fn put_no_fill<K: Sink>(out: &mut K, page: &mut Page, none: &str) -> Result<(), WriteFault>
-    ensures { Prints K.faults K.held out.old page.old out.new page.new result (attribute (codes "fill") none.now) }
+// No fill.
+fn put_unfilled<K: Sink>(out: &mut K, page: &mut Page) -> Result<(), WriteFault>
+    ensures { Prints K.faults K.held out.old page.old out.new page.new result (attribute (codes "fill") (codes "none")) }
 {
-    let fill = Attribute {
-        name: "fill",
-        value: Piece::Plain(none),
-    };
-    put_attributes(out, page, &[fill])
+    put_text(out, page, " fill=\"none\"")
 }
 
 // The fill of the item.
@@ -43,8 +42,8 @@ fn put_fill<K: Sink>(out: &mut K, page: &mut Page, item: &Item) -> Result<(), Wr
 {
     match (&item.shape, &item.fill, &item.stroke) {
         (Shape::Line { .. }, _, _) => Ok(()),
-        (_, Some(fill), _) => put_attributes(out, page, &[worded("fill", fill)]),
-        (_, None, Some(_)) => put_no_fill(out, page, "none"),
+        (_, Some(fill), _) => put_filled(out, page, fill),
+        (_, None, Some(_)) => put_unfilled(out, page),
         (_, None, None) => Ok(()),
     }
 }
@@ -88,7 +87,15 @@ fn put_opacity<K: Sink>(out: &mut K, page: &mut Page, opacity: Num) -> Result<()
     if opacity.millionths() == 1_000_000 {
         return Ok(());
     }
-    put_attributes(out, page, &[numeric("opacity", opacity)])
+    put_pieces(
+        out,
+        page,
+        &[
+            Piece::Plain(" opacity=\""),
+            Piece::Number(opacity),
+            Piece::Plain("\""),
+        ],
+    )
 }
 
 // The colours of the item.
@@ -120,19 +127,11 @@ fn put_end<K: Sink>(out: &mut K, page: &mut Page, shape: &Shape) -> Result<(), W
     }
 }
 
-// The beginning of an element.
-fn put_element<K: Sink>(out: &mut K, page: &mut Page, shape: &Shape) -> Result<(), WriteFault>
-    ensures { Prints K.faults K.held out.old page.old out.new page.new result (codes "<" ++ shape_text shape.now) }
-{
-    put_text(out, page, "<")?;
-    put_shape(out, page, shape)
-}
-
 // The item, as a line.
 fn put_item<K: Sink>(out: &mut K, page: &mut Page, item: &Item) -> Result<(), WriteFault>
     ensures { Prints K.faults K.held out.old page.old out.new page.new result (item_text item.now) }
 {
-    put_element(out, page, &item.shape)?;
+    put_shape(out, page, &item.shape)?;
     put_paint(out, page, item)?;
     put_end(out, page, &item.shape)
 }

@@ -1,14 +1,14 @@
 // Shapes, printed by way of a page.
-ghost use Rattle.std.specs.Prelude.{◌≡◌, ◌*◌, ◌++◌, pos, codes};
+ghost use Rattle.std.specs.Prelude.{◌≡◌, ◌*◌, ◌++◌, pos, codes, false};
 ghost use Rattle.std.specs.List.{flat_map};
 ghost use Rattle.fixed_num.specs.Number.{million};
-ghost use Rattle.svg_text.specs.inner.Pieces.{attribute_text};
+ghost use Rattle.scene_tree.specs.declared.shape.Shape.TheVariants.{Rect, Line};
 ghost use Rattle.svg_text.specs.inner.Printing.{Prints};
-ghost use Rattle.svg_text.specs.SceneText.{point_text, path_text, path_element, turned_text, place_text, anchor_text, font_text};
+ghost use Rattle.svg_text.specs.SceneText.{pair_text, point_text, path_text, path_element, turned_text, place_text, anchor_text, font_text};
 ghost use Rattle.svg_text.specs.SceneText.{weight_text, letters_text, words_text, circle_text, shape_text};
 
 use crate::page::Page;
-use crate::pieces::{Attribute, Piece, numeric, put_attributes, put_pieces, put_text};
+use crate::pieces::{Piece, put_pieces, put_text};
 use chart_io::{Sink, WriteFault};
 use fixed_num::Num;
 use scene_tree::{Anchor, Point, Shape};
@@ -34,17 +34,107 @@ fn pixels(count: u32) -> Num
     size
 }
 
-// An element's name and its attributes.
-fn put_element<K: Sink>(
+// A rect, without its colours and its end.
+fn put_rect<K: Sink>(
     out: &mut K,
     page: &mut Page,
-    name: &str,
-    attributes: &[Attribute<'_>],
+    x: Num,
+    y: Num,
+    width: Num,
+    height: Num,
 ) -> Result<(), WriteFault>
-    ensures { Prints K.faults K.held out.old page.old out.new page.new result (name.now ++ flat_map attribute_text attributes.now) }
+    ensures { Prints K.faults K.held out.old page.old out.new page.new result (codes "<" ++ shape_text (Rect x y width height)) }
 {
-    put_text(out, page, name)?;
-    put_attributes(out, page, attributes)
+    put_pieces(
+        out,
+        page,
+        &[
+            Piece::Plain("<rect x=\""),
+            Piece::Number(x),
+            Piece::Plain("\" y=\""),
+            Piece::Number(y),
+            Piece::Plain("\" width=\""),
+            Piece::Number(width),
+            Piece::Plain("\" height=\""),
+            Piece::Number(height),
+            Piece::Plain("\""),
+        ],
+    )
+}
+
+// A circle, without its colours and its end.
+fn put_circle<K: Sink>(
+    out: &mut K,
+    page: &mut Page,
+    x: Num,
+    y: Num,
+    r: Num,
+) -> Result<(), WriteFault>
+    ensures { Prints K.faults K.held out.old page.old out.new page.new result (codes "<" ++ circle_text x y r) }
+{
+    put_pieces(
+        out,
+        page,
+        &[
+            Piece::Plain("<circle cx=\""),
+            Piece::Number(x),
+            Piece::Plain("\" cy=\""),
+            Piece::Number(y),
+            Piece::Plain("\" r=\""),
+            Piece::Number(r),
+            Piece::Plain("\""),
+        ],
+    )
+}
+
+// A line, without its colours and its end.
+fn put_line<K: Sink>(
+    out: &mut K,
+    page: &mut Page,
+    x1: Num,
+    y1: Num,
+    x2: Num,
+    y2: Num,
+) -> Result<(), WriteFault>
+    ensures { Prints K.faults K.held out.old page.old out.new page.new result (codes "<" ++ shape_text (Line x1 y1 x2 y2)) }
+{
+    put_pieces(
+        out,
+        page,
+        &[
+            Piece::Plain("<line x1=\""),
+            Piece::Number(x1),
+            Piece::Plain("\" y1=\""),
+            Piece::Number(y1),
+            Piece::Plain("\" x2=\""),
+            Piece::Number(x2),
+            Piece::Plain("\" y2=\""),
+            Piece::Number(y2),
+            Piece::Plain("\""),
+        ],
+    )
+}
+
+// Two numbers with a comma between them, after a text.
+fn put_pair<K: Sink>(
+    out: &mut K,
+    page: &mut Page,
+    before: &str,
+    x: Num,
+    y: Num,
+) -> Result<(), WriteFault>
+    ensures { Prints K.faults K.held out.old page.old out.new page.new result (before.now ++ pair_text x y) }
+{
+    put_pieces(
+        out,
+        page,
+        &[
+            Piece::Plain(before),
+            Piece::Number(x),
+            Piece::Plain(","),
+            Piece::Number(y),
+        ],
+    )
 }
 
 // The step of a path.
@@ -52,26 +142,8 @@ fn put_point<K: Sink>(out: &mut K, page: &mut Page, point: &Point) -> Result<(),
     ensures { Prints K.faults K.held out.old page.old out.new page.new result (point_text point.now) }
 {
     match point {
-        Point::Move(x, y) => put_pieces(
-            out,
-            page,
-            &[
-                Piece::Plain("M"),
-                Piece::Number(*x),
-                Piece::Plain(","),
-                Piece::Number(*y),
-            ],
-        ),
-        Point::Line(x, y) => put_pieces(
-            out,
-            page,
-            &[
-                Piece::Plain("L"),
-                Piece::Number(*x),
-                Piece::Plain(","),
-                Piece::Number(*y),
-            ],
-        ),
+        Point::Move(x, y) => put_pair(out, page, "M", *x, *y),
+        Point::Line(x, y) => put_pair(out, page, "L", *x, *y),
         Point::Close => put_text(out, page, "Z"),
     }
 }
@@ -80,8 +152,11 @@ fn put_point<K: Sink>(out: &mut K, page: &mut Page, point: &Point) -> Result<(),
 fn put_next_point<K: Sink>(out: &mut K, page: &mut Page, point: &Point) -> Result<(), WriteFault>
     ensures { Prints K.faults K.held out.old page.old out.new page.new result (codes " " ++ point_text point.now) }
 {
-    put_text(out, page, " ")?;
-    put_point(out, page, point)
+    match point {
+        Point::Move(x, y) => put_pair(out, page, " M", *x, *y),
+        Point::Line(x, y) => put_pair(out, page, " L", *x, *y),
+        Point::Close => put_text(out, page, " Z"),
+    }
 }
 
 // The steps of a path after its first.
@@ -109,24 +184,24 @@ fn put_points<K: Sink>(out: &mut K, page: &mut Page, points: &[Point]) -> Result
     put_next_points(out, page, others)
 }
 
-// A path.
+// A path, without its colours and its end.
 fn put_path<K: Sink>(out: &mut K, page: &mut Page, points: &[Point]) -> Result<(), WriteFault>
-    ensures { Prints K.faults K.held out.old page.old out.new page.new result (path_element points.now) }
+    ensures { Prints K.faults K.held out.old page.old out.new page.new result (codes "<" ++ path_element points.now) }
 {
-    put_text(out, page, "path d=\"")?;
+    put_text(out, page, "<path d=\"")?;
     put_points(out, page, points)?;
     put_text(out, page, "\"")
 }
 
-// Where a turned text stands.
+// The start of a turned text, with the way to its place.
 fn put_turned<K: Sink>(out: &mut K, page: &mut Page, x: Num, y: Num) -> Result<(), WriteFault>
-    ensures { Prints K.faults K.held out.old page.old out.new page.new result (turned_text x y) }
+    ensures { Prints K.faults K.held out.old page.old out.new page.new result (codes "<text" ++ turned_text x y) }
 {
     put_pieces(
         out,
         page,
         &[
-            Piece::Plain(" transform=\"translate("),
+            Piece::Plain("<text transform=\"translate("),
             Piece::Number(x),
             Piece::Plain(","),
             Piece::Number(y),
@@ -135,20 +210,37 @@ fn put_turned<K: Sink>(out: &mut K, page: &mut Page, x: Num, y: Num) -> Result<(
     )
 }
 
-// Where a text stands.
-fn put_place<K: Sink>(
+// The start of a text that isn't turned, with its place.
+fn put_upright<K: Sink>(out: &mut K, page: &mut Page, x: Num, y: Num) -> Result<(), WriteFault>
+    ensures { Prints K.faults K.held out.old page.old out.new page.new result (codes "<text" ++ place_text false x y) }
+{
+    put_pieces(
+        out,
+        page,
+        &[
+            Piece::Plain("<text x=\""),
+            Piece::Number(x),
+            Piece::Plain("\" y=\""),
+            Piece::Number(y),
+            Piece::Plain("\""),
+        ],
+    )
+}
+
+// The start of a text, with its place.
+fn put_start<K: Sink>(
     out: &mut K,
     page: &mut Page,
-    turned: bool,
     x: Num,
     y: Num,
+    turned: bool,
 ) -> Result<(), WriteFault>
-    ensures { Prints K.faults K.held out.old page.old out.new page.new result (place_text turned x y) }
+    ensures { Prints K.faults K.held out.old page.old out.new page.new result (codes "<text" ++ place_text turned x y) }
 {
     if turned {
         put_turned(out, page, x, y)
     } else {
-        put_attributes(out, page, &[numeric("x", x), numeric("y", y)])
+        put_upright(out, page, x, y)
     }
 }
 
@@ -181,20 +273,6 @@ fn put_weight<K: Sink>(out: &mut K, page: &mut Page, bold: bool) -> Result<(), W
     put_text(out, page, if bold { " font-weight=\"bold\"" } else { "" })
 }
 
-// The start of a text, with its place.
-fn put_start<K: Sink>(
-    out: &mut K,
-    page: &mut Page,
-    x: Num,
-    y: Num,
-    turned: bool,
-) -> Result<(), WriteFault>
-    ensures { Prints K.faults K.held out.old page.old out.new page.new result (codes "text" ++ place_text turned x y) }
-{
-    put_text(out, page, "text")?;
-    put_place(out, page, turned, x, y)
-}
-
 // How a text is written.
 fn put_letters<K: Sink>(
     out: &mut K,
@@ -209,25 +287,7 @@ fn put_letters<K: Sink>(
     put_weight(out, page, bold)
 }
 
-// A circle.
-fn put_circle<K: Sink>(
-    out: &mut K,
-    page: &mut Page,
-    x: Num,
-    y: Num,
-    r: Num,
-) -> Result<(), WriteFault>
-    ensures { Prints K.faults K.held out.old page.old out.new page.new result (circle_text x y r) }
-{
-    put_element(
-        out,
-        page,
-        "circle",
-        &[numeric("cx", x), numeric("cy", y), numeric("r", r)],
-    )
-}
-
-// A text without its words.
+// A text without its colours and its words.
 fn put_words<K: Sink>(
     out: &mut K,
     page: &mut Page,
@@ -238,15 +298,15 @@ fn put_words<K: Sink>(
     size: u32,
     bold: bool,
 ) -> Result<(), WriteFault>
-    ensures { Prints K.faults K.held out.old page.old out.new page.new result (words_text x y turned anchor size bold) }
+    ensures { Prints K.faults K.held out.old page.old out.new page.new result (codes "<" ++ words_text x y turned anchor size bold) }
 {
     put_start(out, page, x, y, turned)?;
     put_letters(out, page, anchor, size, bold)
 }
 
-// The shape, as an element's name and the attributes of its place.
+// The beginning of an element: its name and the attributes of the shape's place.
 pub fn put_shape<K: Sink>(out: &mut K, page: &mut Page, shape: &Shape) -> Result<(), WriteFault>
-    ensures { Prints K.faults K.held out.old page.old out.new page.new result (shape_text shape.now) }
+    ensures { Prints K.faults K.held out.old page.old out.new page.new result (codes "<" ++ shape_text shape.now) }
 {
     match shape {
         Shape::Rect {
@@ -254,30 +314,10 @@ pub fn put_shape<K: Sink>(out: &mut K, page: &mut Page, shape: &Shape) -> Result
             y,
             width,
             height,
-        } => put_element(
-            out,
-            page,
-            "rect",
-            &[
-                numeric("x", *x),
-                numeric("y", *y),
-                numeric("width", *width),
-                numeric("height", *height),
-            ],
-        ),
+        } => put_rect(out, page, *x, *y, *width, *height),
         Shape::Circle { x, y, r } => put_circle(out, page, *x, *y, *r),
         Shape::Path { points, .. } => put_path(out, page, points.as_slice()),
-        Shape::Line { x1, y1, x2, y2 } => put_element(
-            out,
-            page,
-            "line",
-            &[
-                numeric("x1", *x1),
-                numeric("y1", *y1),
-                numeric("x2", *x2),
-                numeric("y2", *y2),
-            ],
-        ),
+        Shape::Line { x1, y1, x2, y2 } => put_line(out, page, *x1, *y1, *x2, *y2),
         Shape::Words {
             x,
             y,

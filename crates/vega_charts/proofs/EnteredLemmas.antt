@@ -16,11 +16,7 @@ use Rattle.vega_spec.specs.declared.spec.Group.{Group}
 use Rattle.vega_spec.specs.declared.spec.VgMark.{VgMark, VgMark-F, out-VgMark}
 use Rattle.vega_charts.specs.Outlines.{Object}
 use Rattle.vega_charts.specs.Scopes.{Names, keeps_signals}
-use Rattle.scale_kit.specs.Scale.{AreScales}
-use Rattle.scale_kit.specs.declared.scale.ScaleSet.{ScaleSet}
-use Rattle.vega_charts.specs.declared.scales.ScaleHere.{ScaleHere as HeldScale}
-use Rattle.vega_charts.specs.inner.Kept.{scale_seen, AreKeptScales}
-use Rattle.vega_charts.specs.Scales.{ScaleHere, own_scale, and_outer, set_of}
+use Rattle.vega_charts.specs.Scales.{ScaleHere, own_scale, and_outer}
 use Rattle.vega_charts.specs.Copies.{Frame, encoded_number, inside_of, with_scales, more_cells, of_no_chart, names_in_copy}
 use Rattle.vega_charts.specs.Plots.{Inside, and_inside, all_inside, nothing_inside, axes_over, own_axes, legends_in, with_guides}
 use Rattle.vega_charts.specs.declared.frames.Frame.{Frame as HeldFrame}
@@ -33,7 +29,7 @@ use Rattle.vega_charts.specs.inner.Drawn.{inside_seen, IsInside, DrawsMore, sour
 use Rattle.vega_charts.proofs.OutlineLemmas.{group_grouped}
 use Rattle.vega_charts.proofs.DrawnLemmas.{nothing_last, joined, and_rest, behind_both, none_behind, none_drawn}
 use Rattle.vega_charts.specs.declared.made.CopiesMade.{CopiesMade, out-CopiesMade}
-use Rattle.vega_charts.specs.declared.made.Made.{Made, out-Made}
+use Rattle.vega_charts.specs.declared.made.CopyMade.{CopyMade, out-CopyMade}
 use Rattle.vega_charts.specs.inner.Made.{levels_behind, names_under, made_seen, IsCopyMade, OneMade}
 use Rattle.vega_charts.proofs.MadeLemmas.{kept_in_made, names_entered_are, copies_are, each_copy_made}
 
@@ -93,13 +89,13 @@ module _ (sources : List Dataset) (outer : Frame) (unit number : ℕ) (m : VgMar
           ∙ ap (λ n. drawn_named sources (with_these n) unit number m) (same_Some here names e)
       by_kept false e = cc
 
-module _ (outer : HeldFrame) (copy : Made) (unit number : ℕ) (m : VgMark)
+module _ (outer : HeldFrame) (copy : CopyMade) (unit number : ℕ) (m : VgMark)
     (is : IsCopyMade outer.names.sources.now (levels_behind outer.names.levels.now) (out-VgMark m) copy) where
   abbrev here : Object
   here = group_object number (out-VgMark m)
 
   abbrev names_here : Names
-  names_here = names_under outer.names.sources.now ((out-Made copy).level ∷ levels_behind outer.names.levels.now)
+  names_here = names_under outer.names.sources.now ((out-CopyMade copy).level ∷ levels_behind outer.names.levels.now)
 
   abbrev drawn : Option Inside
   drawn = drawn_copy (sources_of outer) (frame_seen outer) unit number (out-VgMark m) (made_seen copy)
@@ -111,11 +107,11 @@ module _ (outer : HeldFrame) (copy : Made) (unit number : ℕ) (m : VgMark)
   kept_is = kept_in_made outer.names.sources.now outer.names.levels.now m copy is number
 
   pub copy_stops : keeps_signals names_here here ≡ false → drawn ≡ None
-  copy_stops lost = none_by (sources_of outer) (frame_seen outer) unit number (out-VgMark m) (out-Made copy).cells names_found (kept_is false lost)
+  copy_stops lost = none_by (sources_of outer) (frame_seen outer) unit number (out-VgMark m) (out-CopyMade copy).cells names_found (kept_is false lost)
 
   pub copy_named : (levels : List (Bor Level)) (cells : Option (Bor (List (List ℕ × Cell)))) → keeps_signals names_here here ≡ true
-      → levels_behind levels ≡ (out-Made copy).level ∷ levels_behind outer.names.levels.now
-      → cells_seen cells ≡ more_cells (cells_seen outer.cells) (out-Made copy).cells
+      → levels_behind levels ≡ (out-CopyMade copy).level ∷ levels_behind outer.names.levels.now
+      → cells_seen cells ≡ more_cells (cells_seen outer.cells) (out-CopyMade copy).cells
       → drawn_named (sources_of outer) (entered outer levels cells) unit number (out-VgMark m) ≡ drawn
   copy_named levels cells keeps inside both =
       (λ i. drawn_named (sources_of outer) (record (frame_seen outer) {
@@ -123,7 +119,7 @@ module _ (outer : HeldFrame) (copy : Made) (unit number : ℕ) (m : VgMark)
         cells = both i;
       })
       unit number (out-VgMark m))
-      ∙ sym (named_by (sources_of outer) (frame_seen outer) unit number (out-VgMark m) (out-Made copy).cells names_found names_here (kept_is true keeps))
+      ∙ sym (named_by (sources_of outer) (frame_seen outer) unit number (out-VgMark m) (out-CopyMade copy).cells names_found names_here (kept_is true keeps))
 
 -- a group has a number below the greatest
 pub group_fits : (unit number : ℕ) (m : VgMark) → is_group (out-VgMark m) ≡ true → AreFew unit number (m ∷ []) → number + 1 < 2 ^ 32
@@ -139,11 +135,6 @@ pub entered_frame : (outer : HeldFrame) (levels : Bor (List (Bor Level))) (cells
     → AreLevels outer.names.sources.now levels.now → IsFrame (record outer { names = record { sources = outer.names.sources; levels = levels }; cells = cells })
 entered_frame outer levels cells is names =
     record { names = names; scales = is.scales; set = is.set; sound = is.sound; width = is.width; height = is.height }
-
-pub scaled_frame : (named : HeldFrame) (scales : Bor (List HeldScale)) (set : Bor ScaleSet) → IsFrame named → AreKeptScales scales.now
-    → set.now ≡ set_of named.width named.height (map scale_seen scales.now) → AreScales set.now → IsFrame (record named { scales = scales; set = set })
-scaled_frame named scales set is kept value sound =
-    record { names = is.names; scales = kept; set = value; sound = sound; width = is.width; height = is.height }
 
 -- ---- a copy at the place that it encodes
 
@@ -237,7 +228,7 @@ module _ (sources : List Dataset) (named : Frame) (unit number : ℕ) (m : VgMar
 
 -- ---- copies that are left to be drawn, and what comes of them behind what there is
 
-pub record CopiesLeft (f : HeldFrame) (begun : HeldInside) (whole : Option Inside) (unit number : ℕ) (m : VgMark) (copies : List Made) (out : HeldInside) : Type 0 where
+pub record CopiesLeft (f : HeldFrame) (begun : HeldInside) (whole : Option Inside) (unit number : ℕ) (m : VgMark) (copies : List CopyMade) (out : HeldInside) : Type 0 where
   pub sound : All (IsCopyMade f.names.sources.now (levels_behind f.names.levels.now) (out-VgMark m)) copies
   pub draws : option_map (and_inside (inside_seen out))
       (option_map all_inside (all_found (map (drawn_copy (sources_of f) (frame_seen f) unit number (out-VgMark m)) (map made_seen copies)))) ≡ whole
@@ -250,15 +241,15 @@ one_and_rest (Some x) None = refl
 one_and_rest (Some x) (Some xs) = refl
 
 module _ (f : HeldFrame) (begun : HeldInside) (whole : Option Inside) (unit number : ℕ) (m : VgMark) where
-  abbrev all_drawn : List Made → Option Inside
+  abbrev all_drawn : List CopyMade → Option Inside
   all_drawn copies = option_map all_inside (all_found (map (drawn_copy (sources_of f) (frame_seen f) unit number (out-VgMark m)) (map made_seen copies)))
 
-  pub no_copies_left : (copies : List Made) (out : HeldInside) → copies ≡ [] → CopiesLeft f begun whole unit number m copies out
+  pub no_copies_left : (copies : List CopyMade) (out : HeldInside) → copies ≡ [] → CopiesLeft f begun whole unit number m copies out
       → whole ≡ Some (inside_seen out)
   no_copies_left copies out none left =
       sym left.draws ∙ ap (λ cs. option_map (and_inside (inside_seen out)) (all_drawn cs)) none ∙ ap Some (nothing_last (inside_seen out))
 
-  module _ (copies rest : List Made) (copy : Made) (out : HeldInside) (is : copies ≡ copy ∷ rest) (left : CopiesLeft f begun whole unit number m copies out) where
+  module _ (copies rest : List CopyMade) (copy : CopyMade) (out : HeldInside) (is : copies ≡ copy ∷ rest) (left : CopiesLeft f begun whole unit number m copies out) where
     next_left : CopiesLeft f begun whole unit number m (copy ∷ rest) out
     next_left = subst (λ cs. CopiesLeft f begun whole unit number m cs out) is left
 
@@ -289,7 +280,7 @@ module _ (f : HeldFrame) (begun : HeldInside) (whole : Option Inside) (unit numb
     copy_ends error.Memory after before new old all is none = tt
 
 -- the copies that were made
-pub copies_begun : (f : HeldFrame) (out : HeldInside) (unit number : ℕ) (m : VgMark) (found : CopiesMade) (items : List Made) → items ≡ (out-CopiesMade found).copies
+pub copies_begun : (f : HeldFrame) (out : HeldInside) (unit number : ℕ) (m : VgMark) (found : CopiesMade) (items : List CopyMade) → items ≡ (out-CopiesMade found).copies
     → is_group (out-VgMark m) ≡ true → OneMade f.names.sources.now (levels_behind f.names.levels.now) m found
     → CopiesLeft f out (option_map (and_inside (inside_seen out)) (drawn_group (sources_of f) (frame_seen f) unit number (out-VgMark m))) unit number m items out
 copies_begun f out unit number m found items is e one = record {

@@ -15,7 +15,7 @@ use Rattle.vega_scenes.specs.declared.headers.Header.{Header}
 use Rattle.vega_scenes.specs.declared.views.Placed.{Placed}
 use Rattle.vega_scenes.specs.Views.{HasLegends}
 use Rattle.vega_charts.specs.declared.made.CopiesMade.{CopiesMade, out-CopiesMade}
-use Rattle.vega_charts.specs.declared.made.Made.{Made}
+use Rattle.vega_charts.specs.declared.made.CopyMade.{CopyMade}
 use Rattle.vega_charts.specs.declared.grids.Place.{Place}
 use Rattle.vega_charts.specs.declared.names.NamesAt.{NamesAt}
 use Rattle.vega_charts.specs.declared.spots.Grid.{Grid}
@@ -82,7 +82,7 @@ no_views old (Some xs) e = absurd cc
 
 module _ (p : Place) (grid : Grid) (m : VgMark) (unit number index : ℕ) where
   -- those of a group are its copies
-  pub mark_of_group : (copies : List Made) → is_group (out-VgMark m) ≡ true
+  pub mark_of_group : (copies : List CopyMade) → is_group (out-VgMark m) ≡ true
       → map made_seen copies ≡ copies_of (scope_at p.frame.names) (group_object 0 (out-VgMark m))
       → all_found (map (cell_seen p grid unit number (out-VgMark m)) (enumerate_from index (map made_seen copies)))
       ≡ mark_seen p grid unit number m index
@@ -295,14 +295,14 @@ module _ (p : Place) (grid : Grid) (unit number index : ℕ) (m : VgMark-F Group
       ap (λ spot. view_at (place_past (group_object number m) spot (place_seen p)) p unit number m copy) is
       ∙ ap headed (headers_past (group_object number m) (spot_of grid.columns grid.cells index) (place_seen p))
 
-pub record CellsLeft (p : Place) (grid : Grid) (unit number : ℕ) (m : VgMark) (whole : Option (List Placed)) (all : ℕ) (copies : List Made)
+pub record CellsLeft (p : Place) (grid : Grid) (unit number : ℕ) (m : VgMark) (whole : Option (List Placed)) (all : ℕ) (copies : List CopyMade)
     (old cells : List Placed) : Type 0 where
   pub views : after cells (all_found (map (cell_seen p grid unit number (out-VgMark m)) (enumerate_from (length cells) (map made_seen copies)))) ≡ after old whole
   pub sound : All (IsCopyMade p.frame.names.sources.now (levels_behind p.frame.names.levels.now) (out-VgMark m)) copies
   pub count : length cells + length copies ≡ length old + all
   pub legends : All HasLegends old → All HasLegends cells
 
-pub cells_begin : (p : Place) (grid : Grid) (unit number : ℕ) (m : VgMark) (copies copies' : List Made) (old : List Placed) → copies' ≡ copies
+pub cells_begin : (p : Place) (grid : Grid) (unit number : ℕ) (m : VgMark) (copies copies' : List CopyMade) (old : List Placed) → copies' ≡ copies
     → All (IsCopyMade p.frame.names.sources.now (levels_behind p.frame.names.levels.now) (out-VgMark m)) copies
     → CellsLeft p grid unit number m (all_found (map (cell_seen p grid unit number (out-VgMark m)) (enumerate_from (length old) (map made_seen copies))))
     (length copies) copies' old old
@@ -311,16 +311,16 @@ cells_begin p grid unit number m copies copies' old told sound =
     (length copies) copies' old old) (sym told)
     (record { views = refl; sound = sound; count = refl; legends = λ all. all })
 
-module _ (p : Place) (grid : Grid) (unit number : ℕ) (m : VgMark) (whole : Option (List Placed)) (all : ℕ) (copies : List Made) (index : ℕ) (copy : Made)
+module _ (p : Place) (grid : Grid) (unit number : ℕ) (m : VgMark) (whole : Option (List Placed)) (all : ℕ) (copies : List CopyMade) (index : ℕ) (copy : CopyMade)
     (old cells : List Placed) (within : index < length copies) (one : copy ≡ get_or copies index copy)
     (left : CellsLeft p grid unit number m whole all (drop index copies) old cells) where
-  abbrev others_left : List Made
+  abbrev others_left : List CopyMade
   others_left = drop (index + 1) copies
 
   told_copy : drop index copies ≡ copy ∷ others_left
   told_copy = at_place copies index copy within one
 
-  abbrev Sound : Made → Type 0
+  abbrev Sound : CopyMade → Type 0
   Sound = IsCopyMade p.frame.names.sources.now (levels_behind p.frame.names.levels.now) (out-VgMark m)
 
   pub copy_here : IsCopyMade p.frame.names.sources.now (levels_behind p.frame.names.levels.now) (out-VgMark m) copy
@@ -365,7 +365,7 @@ module _ (p : Place) (grid : Grid) (unit number : ℕ) (m : VgMark) (whole : Opt
         (sym (cell_at_spot p grid unit number (length cells) (out-VgMark m) (made_seen copy) spot is) ∙ none))
     cells_stop new Memory none = tt
 
-module _ (p : Place) (grid : Grid) (unit number : ℕ) (m : VgMark) (whole : Option (List Placed)) (all : ℕ) (copies : List Made)
+module _ (p : Place) (grid : Grid) (unit number : ℕ) (m : VgMark) (whole : Option (List Placed)) (all : ℕ) (copies : List CopyMade)
     (old cells : List Placed) (told : copies ≡ []) (left : CellsLeft p grid unit number m whole all copies old cells) where
   pub cells_end : AddsViews {X = Unit {0}} (Ok tt) old cells whole
   cells_end =

@@ -9,6 +9,7 @@ pub mod NumberedPanels
 pub mod OutcomeLemmas
 pub mod OutlineLemmas
 pub mod SeenLemmas
+pub mod SetLemmas
 pub mod DrawnLemmas
 pub mod EnteredLemmas
 pub mod SizeLemmas

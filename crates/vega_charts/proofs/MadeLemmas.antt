@@ -15,7 +15,7 @@ use Rattle.vega_spec.specs.declared.spec.Group.{out-Group}
 use Rattle.vega_spec.specs.declared.spec.VgMark.{VgMark, out-VgMark}
 use Rattle.vega_charts.specs.declared.copies.CopyOf.{CopyOf}
 use Rattle.vega_charts.specs.declared.made.CopiesMade.{CopiesMade, CopiesMade-F, out-CopiesMade}
-use Rattle.vega_charts.specs.declared.made.Made.{Made, Made-F, out-Made}
+use Rattle.vega_charts.specs.declared.made.CopyMade.{CopyMade, CopyMade-F, out-CopyMade}
 use Rattle.vega_charts.specs.declared.names.Level.{Level}
 use Rattle.vega_charts.specs.declared.names.NamesAt.{NamesAt}
 use Rattle.vega_charts.specs.Outlines.{Marks, object_here}
@@ -156,7 +156,7 @@ none_left items e = nil_from_length items.rest.items (sym items.rest.ok.0 ∙ e)
 -- ---- the copies of a group, one after the other
 
 module _ (whole : List Copy) where
-  pub seen_next : (made new : List Made) (one : Made) (items rest : List CopyOf) (copy : CopyOf) → items ≡ copy ∷ rest → new ≡ made ++ one ∷ []
+  pub seen_next : (made new : List CopyMade) (one : CopyMade) (items rest : List CopyOf) (copy : CopyOf) → items ≡ copy ∷ rest → new ≡ made ++ one ∷ []
       → made_seen one ≡ copy_seen copy → map made_seen made ++ map copy_seen items ≡ whole → map made_seen new ++ map copy_seen rest ≡ whole
   seen_next made new one items rest copy told grown same are =
       ap (λ l. map made_seen l ++ map copy_seen rest) grown
@@ -166,11 +166,11 @@ module _ (whole : List Copy) where
       ∙ ap (λ l. map made_seen made ++ map copy_seen l) (sym told)
       ∙ are
 
-  pub seen_end : (made : List Made) (items : List CopyOf) → items ≡ [] → map made_seen made ++ map copy_seen items ≡ whole → map made_seen made ≡ whole
+  pub seen_end : (made : List CopyMade) (items : List CopyOf) → items ≡ [] → map made_seen made ++ map copy_seen items ≡ whole → map made_seen made ≡ whole
   seen_end made items none are = sym (append-nil (map made_seen made)) ∙ ap (λ l. map made_seen made ++ map copy_seen l) (sym none) ∙ are
 
 -- what is made of a group, from its copies
-pub group_made : (names : NamesAt) (m : VgMark) (found : CopiesMade) (parts : CopiesMade-F CopiesMade Made) → out-CopiesMade found ≡ parts
+pub group_made : (names : NamesAt) (m : VgMark) (found : CopiesMade) (parts : CopiesMade-F CopiesMade CopyMade) → out-CopiesMade found ≡ parts
     → is_group (out-VgMark m) ≡ true
     → map made_seen parts.copies ≡ copies_of (scope_read (rows_at names.sources.now names.levels.now)) (group_object 0 (out-VgMark m))
     → parts.across ≡ columns_across (scope_read (rows_at names.sources.now names.levels.now)) (group_object 0 (out-VgMark m))
@@ -180,13 +180,13 @@ group_made names m found parts are e copies across sound =
     group_is names.sources.now (levels_behind names.levels.now) m found e
     (record {
       copies =
-          ap (λ (p : CopiesMade-F CopiesMade Made). map made_seen p.copies) are ∙ copies
+          ap (λ (p : CopiesMade-F CopiesMade CopyMade). map made_seen p.copies) are ∙ copies
           ∙ ap (λ (rows : RowsByName). copies_of (scope_read rows) (group_object 0 (out-VgMark m))) (rows_are_under names.sources.now names.levels.now);
       across =
-          ap (λ (p : CopiesMade-F CopiesMade Made). p.across) are ∙ across
+          ap (λ (p : CopiesMade-F CopiesMade CopyMade). p.across) are ∙ across
           ∙ ap (λ (rows : RowsByName). columns_across (scope_read rows) (group_object 0 (out-VgMark m))) (rows_are_under names.sources.now names.levels.now);
       sound =
-          subst (λ (p : CopiesMade-F CopiesMade Made). All (IsCopyMade names.sources.now (levels_behind names.levels.now) (out-VgMark m)) p.copies)
+          subst (λ (p : CopiesMade-F CopiesMade CopyMade). All (IsCopyMade names.sources.now (levels_behind names.levels.now) (out-VgMark m)) p.copies)
           (sym are) sound;
     })
 
@@ -200,7 +200,7 @@ module _ (outer : NamesAt) (m : VgMark) (copy : CopyOf) where
   sources_read = map dataset_of outer.sources.now
 
   -- what names stand for in it
-  names_made : (made : Made) (level : Level)
+  names_made : (made : CopyMade) (level : Level)
       → names_in_object sources_read (names_over outer copy.parts) (object_here (out-Group (out-VgMark m).group)) ≡ Some (names_with_level outer level)
       → made_seen made ≡ copy_seen copy
       → names_in_copy sources_read (names_under outer.sources.now round) (group_object 0 (out-VgMark m)) (made_seen made)
@@ -212,7 +212,7 @@ module _ (outer : NamesAt) (m : VgMark) (copy : CopyOf) where
       ∙ ap Some (names_with_under outer level)
 
   -- what holds of it
-  pub copy_made : (made : Made) (parts : Made-F CopiesMade Made) → out-Made made ≡ parts
+  pub copy_made : (made : CopyMade) (parts : CopyMade-F CopiesMade CopyMade) → out-CopyMade made ≡ parts
       → names_in_object sources_read (names_over outer copy.parts) (object_here (out-Group (out-VgMark m).group)) ≡ Some (names_with_level outer parts.level)
       → record { cells = parts.cells; parts = map dataset_of parts.level.parts } ≡ copy_seen copy → AreAllRows (rows_with_level outer parts.level)
       → MayStand (rows_with_level outer parts.level) (marks_in (out-Group (out-VgMark m).group))
@@ -220,16 +220,16 @@ module _ (outer : NamesAt) (m : VgMark) (copy : CopyOf) where
       → IsCopyMade outer.sources.now round (out-VgMark m) made
   copy_made made parts are found seen rows stand each = record {
     names =
-        names_made made parts.level found (ap (λ (p : Made-F CopiesMade Made). record { cells = p.cells; parts = map dataset_of p.level.parts }) are ∙ seen)
-        ∙ ap (λ (p : Made-F CopiesMade Made). Some (names_under outer.sources.now (p.level ∷ round))) (sym are);
+        names_made made parts.level found (ap (λ (p : CopyMade-F CopiesMade CopyMade). record { cells = p.cells; parts = map dataset_of p.level.parts }) are ∙ seen)
+        ∙ ap (λ (p : CopyMade-F CopiesMade CopyMade). Some (names_under outer.sources.now (p.level ∷ round))) (sym are);
     rows =
-        subst (λ (p : Made-F CopiesMade Made). AreAllRows (rows_under outer.sources.now (p.level ∷ round))) (sym are)
+        subst (λ (p : CopyMade-F CopiesMade CopyMade). AreAllRows (rows_under outer.sources.now (p.level ∷ round))) (sym are)
         (subst AreAllRows (rows_with_under outer parts.level) rows);
     folds =
-        subst (λ (p : Made-F CopiesMade Made). MarksMayFold (rows_under outer.sources.now (p.level ∷ round)) (inside_of_mark m)) (sym are)
+        subst (λ (p : CopyMade-F CopiesMade CopyMade). MarksMayFold (rows_under outer.sources.now (p.level ∷ round)) (inside_of_mark m)) (sym are)
         (subst (λ rows. MarksMayFold rows (inside_of_mark m)) (rows_with_under outer parts.level) stand.folds);
     within =
-        subst (λ (p : Made-F CopiesMade Made). AreMade outer.sources.now (inside_of_mark m) (p.level ∷ round) p.inside) (sym are)
+        subst (λ (p : CopyMade-F CopiesMade CopyMade). AreMade outer.sources.now (inside_of_mark m) (p.level ∷ round) p.inside) (sym are)
         (all_made outer.sources.now (parts.level ∷ round) (marks_in (out-Group (out-VgMark m).group)) parts.inside each);
   }
 
@@ -247,38 +247,38 @@ made_with outer level levels marks found more each = subst (λ l. AllZip (OneMad
 
 -- ---- copies that are entered
 
-module _ (sources : List Named) (outer : List (Bor Level)) (m : VgMark) (made : Made) (is : IsCopyMade sources (levels_behind outer) (out-VgMark m) made) where
+module _ (sources : List Named) (outer : List (Bor Level)) (m : VgMark) (made : CopyMade) (is : IsCopyMade sources (levels_behind outer) (out-VgMark m) made) where
   -- what names stand for in a copy that was made
   pub names_in_made : (number : ℕ)
       → names_in_copy (map dataset_of sources) (names_at sources outer) (group_object number (out-VgMark m)) (made_seen made)
-      ≡ Some (names_under sources ((out-Made made).level ∷ levels_behind outer))
+      ≡ Some (names_under sources ((out-CopyMade made).level ∷ levels_behind outer))
   names_in_made number =
       ap (λ (names : Names). names_in_copy (map dataset_of sources) names (group_object number (out-VgMark m)) (made_seen made)) (names_are_under sources outer)
       ∙ is.names
 
   -- the same where none of its own signals is lost, or one is
   pub kept_in_made : (number : ℕ) (b : Bool)
-      → keeps_signals (names_under sources ((out-Made made).level ∷ levels_behind outer)) (group_object number (out-VgMark m)) ≡ b
+      → keeps_signals (names_under sources ((out-CopyMade made).level ∷ levels_behind outer)) (group_object number (out-VgMark m)) ≡ b
       → kept_names (group_object number (out-VgMark m))
       (names_in_copy (map dataset_of sources) (names_at sources outer) (group_object number (out-VgMark m)) (made_seen made))
-      ≡ cond b (Some (names_under sources ((out-Made made).level ∷ levels_behind outer))) None
+      ≡ cond b (Some (names_under sources ((out-CopyMade made).level ∷ levels_behind outer))) None
   kept_in_made number b keeps =
       ap (kept_names (group_object number (out-VgMark m))) (names_in_made number)
-      ∙ ap (λ b. cond b (Some (names_under sources ((out-Made made).level ∷ levels_behind outer))) None) keeps
+      ∙ ap (λ b. cond b (Some (names_under sources ((out-CopyMade made).level ∷ levels_behind outer))) None) keeps
 
-  module _ (levels : List (Bor Level)) (more : levels_behind levels ≡ (out-Made made).level ∷ levels_behind outer) where
+  module _ (levels : List (Bor Level)) (more : levels_behind levels ≡ (out-CopyMade made).level ∷ levels_behind outer) where
     -- the names where its level is the innermost
-    pub names_entered_are : names_under sources ((out-Made made).level ∷ levels_behind outer) ≡ names_at sources levels
+    pub names_entered_are : names_under sources ((out-CopyMade made).level ∷ levels_behind outer) ≡ names_at sources levels
     names_entered_are = ap (names_under sources) (sym more) ∙ sym (names_are_under sources levels)
 
-    rows_entered_are : rows_under sources ((out-Made made).level ∷ levels_behind outer) ≡ rows_at sources levels
+    rows_entered_are : rows_under sources ((out-CopyMade made).level ∷ levels_behind outer) ≡ rows_at sources levels
     rows_entered_are = ap (rows_under sources) (sym more) ∙ sym (rows_are_under sources levels)
 
     pub levels_in_made : AreLevels sources outer → AreLevels sources levels
     levels_in_made are = record { sources_are = are.sources_are; rows = subst AreAllRows rows_entered_are is.rows }
 
     -- the marks in it have their copies there
-    pub copies_in_made : (found : List CopiesMade) → found ≡ (out-Made made).inside → is_group (out-VgMark m) ≡ true → MayStand (rows_at sources outer) (m ∷ [])
+    pub copies_in_made : (found : List CopiesMade) → found ≡ (out-CopyMade made).inside → is_group (out-VgMark m) ≡ true → MayStand (rows_at sources outer) (m ∷ [])
         → HaveCopies sources levels (marks_in (out-Group (out-VgMark m).group)) found
     copies_in_made found there e stand = record {
       stand = record {
@@ -287,8 +287,8 @@ module _ (sources : List Named) (outer : List (Bor Level)) (m : VgMark) (made : 
       };
       made =
           subst (AllZip (OneMade sources (levels_behind levels)) (marks_in (out-Group (out-VgMark m).group))) (sym there)
-          (each_made sources (levels_behind levels) (marks_in (out-Group (out-VgMark m).group)) (out-Made made).inside
-          (subst (λ l. AreMade sources (inside_of_mark m) l (out-Made made).inside) (sym more) is.within));
+          (each_made sources (levels_behind levels) (marks_in (out-Group (out-VgMark m).group)) (out-CopyMade made).inside
+          (subst (λ l. AreMade sources (inside_of_mark m) l (out-CopyMade made).inside) (sym more) is.within));
     }
 
 -- the copies of a group where these are the levels

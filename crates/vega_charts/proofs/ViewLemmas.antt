@@ -12,7 +12,7 @@ use Rattle.mark_encode.specs.declared.channels.ChannelName.TheVariants as channe
 use Rattle.vega_scenes.specs.declared.headers.Header.{Header}
 use Rattle.vega_scenes.specs.declared.views.Placed.{Placed}
 use Rattle.vega_scenes.specs.Views.{placed_plot}
-use Rattle.vega_charts.specs.declared.made.Made.{Made, out-Made}
+use Rattle.vega_charts.specs.declared.made.CopyMade.{CopyMade, out-CopyMade}
 use Rattle.vega_charts.specs.declared.grids.Place.{Place}
 use Rattle.vega_charts.specs.declared.names.Level.{Level}
 use Rattle.vega_charts.specs.declared.scales.AxisHere.{AxisHere as HeldAxis}
@@ -85,12 +85,12 @@ bind_both : {X Y Z : Type 0} (o : Option X) (f : X → Option Y) (g : Y → Opti
 bind_both None f g = refl
 bind_both (Some x) f g = refl
 
-module _ (outer : Place) (unit number : ℕ) (mark : VgMark) (copy : Made)
+module _ (outer : Place) (unit number : ℕ) (mark : VgMark) (copy : CopyMade)
     (is : IsCopyMade outer.frame.names.sources.now (levels_behind outer.frame.names.levels.now) (out-VgMark mark) copy) where
   abbrev named_in_copy : Names → Frame
   named_in_copy names = record (place_seen outer) {
     names = names;
-    cells = more_cells (cells_seen outer.frame.cells) (out-Made copy).cells;
+    cells = more_cells (cells_seen outer.frame.cells) (out-CopyMade copy).cells;
     headers = headers_of (group_object number (out-VgMark mark)) (made_seen copy) ++ outer.headers.now;
   }
 
@@ -100,7 +100,7 @@ module _ (outer : Place) (unit number : ℕ) (mark : VgMark) (copy : Made)
       (names_in_copy (sources_of outer.frame) (place_seen outer).names (group_object number (out-VgMark mark)) (made_seen copy))
 
   abbrev names_here : Names
-  names_here = names_under outer.frame.names.sources.now ((out-Made copy).level ∷ levels_behind outer.frame.names.levels.now)
+  names_here = names_under outer.frame.names.sources.now ((out-CopyMade copy).level ∷ levels_behind outer.frame.names.levels.now)
 
   abbrev size : Frame → Option Placed
   size frame = with_size (group_object number (out-VgMark mark)) frame >>= view_inside outer unit number (out-VgMark mark)
@@ -110,13 +110,13 @@ module _ (outer : Place) (unit number : ℕ) (mark : VgMark) (copy : Made)
 
   scaled_first : (names : Names)
       → (scaled_in (group_object number (out-VgMark mark))
-      (record (place_seen outer) { names = names; cells = more_cells (cells_seen outer.frame.cells) (out-Made copy).cells })
+      (record (place_seen outer) { names = names; cells = more_cells (cells_seen outer.frame.cells) (out-CopyMade copy).cells })
       >>= next)
       ≡ view_named (named_in_copy names) outer unit number (out-VgMark mark)
   scaled_first names = by_own (all_found (map (own_scale of_no_chart names) (group_object number (out-VgMark mark)).scales))
     where
       by_own : (own : Option (List ScaleHere))
-          → (option_map (λ own. record (record (place_seen outer) { names = names; cells = more_cells (cells_seen outer.frame.cells) (out-Made copy).cells })
+          → (option_map (λ own. record (record (place_seen outer) { names = names; cells = more_cells (cells_seen outer.frame.cells) (out-CopyMade copy).cells })
           { scales = and_outer (place_seen outer).scales own }) own
           >>= next)
           ≡ (option_map (λ own. record (named_in_copy names) { scales = and_outer (place_seen outer).scales own }) own >>= size)
@@ -143,9 +143,9 @@ module _ (outer : Place) (unit number : ℕ) (mark : VgMark) (copy : Made)
 
   -- the same once the names are known
   pub copy_entered : (levels : List (Bor Level)) (cells : Option (Bor (List (List ℕ × Cell)))) (headers : List Header)
-      → levels_behind levels ≡ (out-Made copy).level ∷ levels_behind outer.frame.names.levels.now
+      → levels_behind levels ≡ (out-CopyMade copy).level ∷ levels_behind outer.frame.names.levels.now
       → keeps_signals names_here (group_object number (out-VgMark mark)) ≡ true
-      → cells_seen cells ≡ more_cells (cells_seen outer.frame.cells) (out-Made copy).cells
+      → cells_seen cells ≡ more_cells (cells_seen outer.frame.cells) (out-CopyMade copy).cells
       → headers ≡ headers_of (group_object number (out-VgMark mark)) (made_seen copy) ++ outer.headers.now
       → view_named (place_entered outer levels cells headers) outer unit number (out-VgMark mark)
       ≡ view_at (place_seen outer) outer unit number (out-VgMark mark) (made_seen copy)

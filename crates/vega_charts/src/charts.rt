@@ -43,7 +43,8 @@ use cell_value::{Cell, Named};
 use expr_eval::EvalError;
 use fixed_num::Num;
 use guide_kit::GuideError;
-use scale_kit::{ScaleIn, ScaleSet};
+use mark_encode::IndexedSet;
+use scale_kit::ScaleIn;
 use std::alloc::Global;
 use text_kit::{OutOfMemory, Seq, Text};
 use vega_scenes::{Drawing, Placed, drawing_with};
@@ -117,13 +118,13 @@ fn no_length() -> Num
 }
 
 // The top as the one copy of itself, with its size.
-fn top_frame<'s, 'x>(
+fn top_frame<'s, 'x, 'i>(
     names: NamesAt<'x>,
     scales: &'x [ScaleHere<'s, 'x>],
-    set: &'x ScaleSet,
+    set: &'x IndexedSet<'i>,
     width: Num,
     height: Num,
-) -> Frame<'s, 'x>
+) -> Frame<'s, 'x, 'i>
     ensures { result ≡ held_top names.entry scales.entry set.entry width height }
 {
     Frame {
@@ -139,13 +140,13 @@ fn top_frame<'s, 'x>(
 }
 
 // What is drawn of the top where it is a plot of this size.
-fn draw_sized<'s, 'x>(
+fn draw_sized<'s, 'x, 'i>(
     alloc: Global,
     g: &'s VgSpec,
     names: NamesAt<'x>,
     made: &[CopiesMade],
     scales: &'x [ScaleHere<'s, 'x>],
-    set: &'x ScaleSet,
+    set: &'x IndexedSet<'i>,
     width: Num,
     height: Num,
 ) -> Result<Drawing, EvalError>
@@ -188,13 +189,14 @@ fn draw_plot<'s>(
         Err(error) => return Err(error),
     };
     let set = set_of(alloc, width, height, sizing.scales)?;
+    let indexed = IndexedSet::of(alloc, &set)?;
     draw_sized(
         alloc,
         g,
         sizing.names,
         made,
         sizing.scales,
-        &set,
+        &indexed,
         width,
         height,
     )
@@ -243,14 +245,14 @@ fn plot_over(
 }
 
 // What is drawn of the top where it is a grid, with the axes in it.
-fn draw_axes<'s, 'x>(
+fn draw_axes<'s, 'x, 'i>(
     alloc: Global,
     g: &'s VgSpec,
     layout: &Layout,
     names: NamesAt<'x>,
     made: &[CopiesMade],
     scales: &'x [ScaleHere<'s, 'x>],
-    set: &'x ScaleSet,
+    set: &'x IndexedSet<'i>,
     axes: &'x [AxisHere<'s, 'x>],
     size: Num,
 ) -> Result<Drawing, EvalError>
@@ -290,6 +292,7 @@ fn draw_grid<'s>(
 {
     let size = no_length();
     let set = set_of(alloc, size, size, scales)?;
+    let indexed = IndexedSet::of(alloc, &set)?;
     let axes = and_axes(alloc, &[], scales, axes_in(&g.group))?;
     draw_axes(
         alloc,
@@ -297,8 +300,8 @@ fn draw_grid<'s>(
         layout,
         names,
         made,
-        scales,
-        &set,
+        &*scales,
+        &indexed,
         axes.as_slice(),
         size,
     )
@@ -485,8 +488,9 @@ fn drawing_at(
 /// What is drawn of a specification over sources of rows and values of the parameters that can be set: the picture with its panels, and
 /// the scales of its plots. `Overflow` comes exactly where a data set or a signal that one reads is out of range; else `Panels` exactly
 /// where more than 400 plots stand in facets, with their count up to the greatest number of 64 bits; else `Overflow` exactly where any other
-/// number is out of range. In each copy of an object its lists, its facets and the domains of its scales are made once. The time is near
-/// linear in what is drawn and, for each copy, in the rows that it reads and the domains of the scales that have names in it.
+/// number is out of range. Each list, scale and facet is made once in each copy of its object; the scales that have names in a plot are laid
+/// anew over its size. The time is near linear in what is drawn, for each copy in the rows that it reads and the domains of its own scales,
+/// for each plot in the domains of the scales that have names in it, and for each axis and legend in the domain of its scale.
 pub fn drawing_of(
     alloc: Global,
     g: &VgSpec,

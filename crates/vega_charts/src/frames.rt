@@ -14,8 +14,7 @@ use crate::scales::{ScaleHere, scale_named};
 use cell_value::{Cell, Steps};
 use expr_eval::{EvalError, ParamReader, RowReader};
 use fixed_num::Num;
-use mark_encode::{ChannelName, number_encoded};
-use scale_kit::ScaleSet;
+use mark_encode::{ChannelName, IndexedSet, number_encoded};
 use std::alloc::Global;
 use std::sync::ledger::Ledger;
 use text_kit::{OutOfMemory, Seq, Text, copy_list};
@@ -24,13 +23,13 @@ use vega_spec::VgMark;
 
 /// A copy of an object: the top, or a copy of a group.
 #[derive(Clone, Copy)]
-pub struct Frame<'s, 'a> {
+pub struct Frame<'s, 'a, 'i> {
     /// What names stand for in it.
     pub names: NamesAt<'a>,
     /// The scales that have names in it.
     pub scales: &'a [ScaleHere<'s, 'a>],
-    /// The same, by their names, in its plot.
-    pub set: &'a ScaleSet,
+    /// The same, by their names, in its plot, each indexed once.
+    pub set: &'a IndexedSet<'i>,
     /// The cells of the facets round it by their fields, the outer before the inner; None outside facets.
     pub cells: Option<&'a [(Text, Cell)]>,
     /// The width of its plot, in pixels; 0 where it is a grid, since grids stand in grids alone.

@@ -29,16 +29,18 @@ use crate::headers::headers_of;
 use crate::layouts::{grid_of, spacing_of};
 use crate::legends::push_legends;
 use crate::levels::{keeps_signals, with_level};
-use crate::made::{CopiesMade, Made};
+use crate::made::{CopiesMade, CopyMade};
 use crate::marks::{count_groups_of, count_marks_of, is_group, marks_in};
 use crate::names::{Level, NamesAt};
 use crate::plots::plot_of;
-use crate::scales::{AxisHere, OfChart, all_past, and_outer, own_scales, scales_in, set_of};
+use crate::scales::{
+    AxisHere, OfChart, all_past, and_outer, own_scales, own_set_of, scales_in, set_of,
+};
 use crate::sizes::size_cut;
 use crate::spots::{Grid, Spot, spot_of};
 use cell_value::Cell;
 use expr_eval::EvalError;
-use mark_encode::ChannelName;
+use mark_encode::{ChannelName, IndexedSet};
 use std::alloc::Global;
 use text_kit::{Copies, OutOfMemory, Seq, Text};
 use vega_scenes::{GridShown, Header, Placed, placed_grid, placed_plot};
@@ -46,9 +48,9 @@ use vega_spec::{Group, Layout, VgMark};
 
 /// A copy of an object that is a plot or a grid.
 #[derive(Clone, Copy)]
-pub struct Place<'s, 'a> {
+pub struct Place<'s, 'a, 'i> {
     /// The copy.
-    pub frame: Frame<'s, 'a>,
+    pub frame: Frame<'s, 'a, 'i>,
     /// The axes of the grids round it, the outer before the inner; those of a grid itself are among them.
     pub axes: &'a [AxisHere<'s, 'a>],
     /// The headers of the facets in whose grids it stands, the inner before the outer.
@@ -58,7 +60,7 @@ pub struct Place<'s, 'a> {
 /// The view of a plot whose groups have these copies.
 pub(crate) fn plot_view<'s>(
     alloc: Global,
-    place: &Place<'s, '_>,
+    place: &Place<'s, '_, '_>,
     group: &'s Group,
     made: &[CopiesMade],
     unit: u32,
@@ -120,7 +122,7 @@ fn grid_round(
 #[cycle(viewing)]
 pub(crate) fn grid_view<'s>(
     alloc: Global,
-    place: &Place<'s, '_>,
+    place: &Place<'s, '_, '_>,
     group: &'s Group,
     made: &[CopiesMade],
     layout: &Layout,
@@ -156,7 +158,7 @@ pub(crate) fn grid_view<'s>(
 #[cycle(viewing)]
 fn cells_of<'s>(
     alloc: Global,
-    place: &Place<'s, '_>,
+    place: &Place<'s, '_, '_>,
     grid: Grid,
     marks: &'s [VgMark],
     made: &[CopiesMade],
@@ -202,7 +204,7 @@ fn cells_of<'s>(
 #[cycle(viewing)]
 fn push_mark<'s>(
     alloc: Global,
-    place: &Place<'s, '_>,
+    place: &Place<'s, '_, '_>,
     grid: Grid,
     mark: &'s VgMark,
     copies: &CopiesMade,
@@ -240,10 +242,10 @@ fn push_mark<'s>(
 #[cycle(viewing)]
 fn push_cells<'s>(
     alloc: Global,
-    place: &Place<'s, '_>,
+    place: &Place<'s, '_, '_>,
     grid: Grid,
     mark: &'s VgMark,
-    copies: &[Made],
+    copies: &[CopyMade],
     unit: u32,
     number: u32,
     cells: &mut Seq<Placed>,
@@ -274,10 +276,10 @@ fn push_cells<'s>(
 #[cycle(viewing)]
 fn cell_view<'s>(
     alloc: Global,
-    outer: &Place<'s, '_>,
+    outer: &Place<'s, '_, '_>,
     spot: Spot,
     mark: &'s VgMark,
-    copy: &Made,
+    copy: &CopyMade,
     unit: u32,
     number: u32,
 ) -> Result<Placed, EvalError>
@@ -312,9 +314,9 @@ fn cell_view<'s>(
 #[cycle(viewing)]
 fn copy_view<'s>(
     alloc: Global,
-    outer: &Place<'s, '_>,
+    outer: &Place<'s, '_, '_>,
     mark: &'s VgMark,
-    copy: &Made,
+    copy: &CopyMade,
     unit: u32,
     number: u32,
 ) -> Result<Placed, EvalError>
@@ -337,9 +339,9 @@ fn copy_view<'s>(
 #[cycle(viewing)]
 fn kept_view<'s>(
     alloc: Global,
-    outer: &Place<'s, '_>,
+    outer: &Place<'s, '_, '_>,
     mark: &'s VgMark,
-    copy: &Made,
+    copy: &CopyMade,
     unit: u32,
     number: u32,
 ) -> Result<Placed, EvalError>
@@ -374,7 +376,7 @@ fn kept_view<'s>(
 #[cycle(viewing)]
 fn entered_view<'s, 'x>(
     alloc: Global,
-    outer: &Place<'s, 'x>,
+    outer: &Place<'s, 'x, 'x>,
     levels: &'x [&'x Level],
     cells: Option<&'x [(Text, Cell)]>,
     headers: &'x [Header],
@@ -411,7 +413,7 @@ fn entered_view<'s, 'x>(
 #[cycle(viewing)]
 fn named_view<'s>(
     alloc: Global,
-    named: &Place<'s, '_>,
+    named: &Place<'s, '_, '_>,
     mark: &'s VgMark,
     made: &[CopiesMade],
     unit: u32,
@@ -431,13 +433,18 @@ fn named_view<'s>(
         Ok(own) => own,
         Err(error) => return Err(error),
     };
-    let scales = and_outer(alloc, own.as_slice(), frame.scales)?;
+    if own.is_empty() {
+        return scaled_view(alloc, named, mark, made, unit, number);
+    }
+    let mine = own.as_slice();
+    let scales = and_outer(alloc, mine, frame.scales)?;
     let here = scales.as_slice();
-    let set = set_of(alloc, frame.width, frame.height, here)?;
+    let set = own_set_of(alloc, frame.width, frame.height, mine)?;
+    let indexed = IndexedSet::within(alloc, &set, frame.set)?;
     let scaled = Place {
         frame: Frame {
             scales: here,
-            set: &set,
+            set: &indexed,
             ..*frame
         },
         axes: named.axes,
@@ -450,7 +457,7 @@ fn named_view<'s>(
 #[cycle(viewing)]
 fn scaled_view<'s>(
     alloc: Global,
-    scaled: &Place<'s, '_>,
+    scaled: &Place<'s, '_, '_>,
     mark: &'s VgMark,
     made: &[CopiesMade],
     unit: u32,
@@ -475,7 +482,7 @@ fn scaled_view<'s>(
 #[cycle(viewing)]
 fn inner_grid_view<'s>(
     alloc: Global,
-    scaled: &Place<'s, '_>,
+    scaled: &Place<'s, '_, '_>,
     group: &'s Group,
     made: &[CopiesMade],
     layout: &Layout,
@@ -507,7 +514,7 @@ fn inner_grid_view<'s>(
 // The view of a copy of a group without a layout whose scales are known.
 fn inner_plot_view<'s>(
     alloc: Global,
-    scaled: &Place<'s, '_>,
+    scaled: &Place<'s, '_, '_>,
     mark: &'s VgMark,
     made: &[CopiesMade],
     unit: u32,
@@ -532,9 +539,10 @@ fn inner_plot_view<'s>(
         Err(error) => return Err(error),
     };
     let set = set_of(alloc, width, height, frame.scales)?;
+    let indexed = IndexedSet::of(alloc, &set)?;
     let sized = Place {
         frame: Frame {
-            set: &set,
+            set: &indexed,
             width,
             height,
             ..*frame

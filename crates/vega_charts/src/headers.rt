@@ -9,7 +9,7 @@ ghost use Rattle.vega_charts.specs.inner.Outlined.{group_object};
 ghost use Rattle.vega_charts.specs.inner.Placed.{header_places_of};
 
 use crate::copies::facet_in;
-use crate::made::Made;
+use crate::made::CopyMade;
 use crate::plots::headers_copied;
 use cell_value::Cell;
 use std::alloc::Global;
@@ -21,7 +21,7 @@ use vega_spec::{Facet, VgMark};
 pub(crate) fn headers_of(
     alloc: Global,
     mark: &VgMark,
-    copy: &Made,
+    copy: &CopyMade,
     outer: &[Header],
 ) -> Result<Seq<Header>, OutOfMemory>
     ensures { IfOk result (λ headers. headers ≡ headers_of (group_object 0 (out-VgMark mark.now)) (made_seen copy.now) ++ outer.now) }

@@ -1,5 +1,5 @@
 // What the marks in a copy of an object draw in the plot round them.
-ghost use Rattle.std.specs.Prelude.{◌≡◌, ◌∷◌, [], true, All, IfOk, OnOk};
+ghost use Rattle.std.specs.Prelude.{◌≡◌, ◌∷◌, ◌++◌, [], true, All, IfOk, OnOk};
 ghost use Rattle.std.specs.Option.{option_map};
 ghost use Rattle.expr_eval.specs.Answers.{Evaluates};
 ghost use Rattle.vega_spec.specs.declared.spec.Group.{out-Group};
@@ -23,14 +23,14 @@ use crate::axes::{axes_in, push_own_axes};
 use crate::frames::{Frame, encoded_number, more_cells, slice_of};
 use crate::legends::push_legends;
 use crate::levels::{keeps_signals, with_level};
-use crate::made::{CopiesMade, Made};
+use crate::made::{CopiesMade, CopyMade};
 use crate::marks::{count_groups_of, count_marks_of, is_group, marks_in};
 use crate::names::{Level, NamesAt};
-use crate::scales::{OfChart, and_outer, own_scales, scales_in, set_of};
+use crate::scales::{OfChart, and_outer, own_scales, own_set_of, scales_in};
 use cell_value::{Cell, Keyed};
 use expr_eval::EvalError;
 use fixed_num::Num;
-use mark_encode::{ChannelName, items_over_rows};
+use mark_encode::{ChannelName, IndexedSet, items_over_rows};
 use scene_tree::{Item, moved_items};
 use std::alloc::Global;
 use text_kit::{OutOfMemory, Seq, Text};
@@ -106,10 +106,21 @@ fn items_in_copy(
         Ok(items) => items,
         Err(error) => return Err(error),
     };
-    match moved_items(alloc, items, frame.x, frame.y)? {
+    match moved_items(alloc, items, frame.x, frame.y) {
         Some(items) => Ok(items),
         None => Err(EvalError::Overflow),
     }
+}
+
+// Adds items behind others. Where there are no others, the list that is added is kept.
+fn add_items(items: &mut Seq<Item>, more: Seq<Item>) -> Result<(), OutOfMemory>
+    ensures { OnOk result (items.new ≡ items.old ++ more) }
+{
+    if items.is_empty() {
+        *items = more;
+        return Ok(());
+    }
+    items.append(more)
 }
 
 // Adds the items of a mark.
@@ -128,7 +139,7 @@ fn draw_mark(
         Ok(items) => items,
         Err(error) => return Err(error),
     };
-    out.items.append(items)?;
+    add_items(&mut out.items, items)?;
     Ok(())
 }
 
@@ -243,12 +254,14 @@ fn draw_named<'s>(
     if own.is_empty() {
         return draw_framed(alloc, named, unit, number, mark, made, out);
     }
-    let scales = and_outer(alloc, own.as_slice(), named.scales)?;
+    let mine = own.as_slice();
+    let scales = and_outer(alloc, mine, named.scales)?;
     let here = scales.as_slice();
-    let set = set_of(alloc, named.width, named.height, here)?;
+    let set = own_set_of(alloc, named.width, named.height, mine)?;
+    let indexed = IndexedSet::within(alloc, &set, named.set)?;
     let frame = Frame {
         scales: here,
-        set: &set,
+        set: &indexed,
         ..*named
     };
     draw_framed(alloc, &frame, unit, number, mark, made, out)
@@ -258,7 +271,7 @@ fn draw_named<'s>(
 #[cycle(drawing)]
 fn draw_entered<'s, 'x>(
     alloc: Global,
-    outer: &Frame<'x, 'x>,
+    outer: &Frame<'x, 'x, 'x>,
     levels: &'x [&'x Level],
     cells: Option<&'x [(Text, Cell)]>,
     unit: u32,
@@ -296,7 +309,7 @@ fn draw_copy<'s>(
     unit: u32,
     number: u32,
     mark: &'s VgMark,
-    copy: &Made,
+    copy: &CopyMade,
     out: &mut Inside<'s>,
 ) -> Result<(), EvalError>
     requires frame { IsFrame outer.now }
@@ -323,7 +336,7 @@ fn draw_kept<'s>(
     unit: u32,
     number: u32,
     mark: &'s VgMark,
-    copy: &Made,
+    copy: &CopyMade,
     out: &mut Inside<'s>,
 ) -> Result<(), EvalError>
     requires frame { IsFrame outer.now }

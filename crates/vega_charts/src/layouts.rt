@@ -1,5 +1,5 @@
 // How the cells of a layout stand.
-ghost use Rattle.std.specs.Prelude.{◌≡◌, ◌<◌, IfSome};
+ghost use Rattle.std.specs.Prelude.{◌≡◌, ◌<◌, ◌≤◌, ◌^◌, None, IfSome};
 ghost use Rattle.vega_guides.specs.Shown.{IsCount};
 ghost use Rattle.vega_charts.specs.Grids.{columns_written};
 ghost use Rattle.vega_charts.specs.Plots.{spacing_of};
@@ -17,6 +17,7 @@ pub(crate) fn grid_of(layout: &Layout, found: &[CopiesMade]) -> Option<Grid>
     requires { IfSome layout.now.columns IsCount }
     ensures value { IfSome result (λ grid. grid ≡ grid_found layout.now found.now) }
     ensures columns { IfSome result (λ (grid : Grid). 0 < grid.columns) }
+    ensures none { result ≡ None → 2 ^ 64 ≤ count_found found.now }
 {
     let cells = count_copies(found)?;
     let columns = columns_asked(found).unwrap_or(columns_written(layout, cells));
@@ -28,7 +29,8 @@ pub(crate) fn grid_of(layout: &Layout, found: &[CopiesMade]) -> Option<Grid>
 
 // How many copies the groups of an object have; None where 64 bits don't hold the count, for which there is no memory.
 fn count_copies(found: &[CopiesMade]) -> Option<u64>
-    ensures { IfSome result (λ count. count ≡ count_found found.now) }
+    ensures value { IfSome result (λ count. count ≡ count_found found.now) }
+    ensures none { result ≡ None → 2 ^ 64 ≤ count_found found.now }
 {
     let mut count = 0u64;
     for copies in found {

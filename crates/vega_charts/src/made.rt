@@ -29,7 +29,7 @@ use vega_spec::VgMark;
 /// A copy of a group, with the copies in it.
 #[cycle(copies)]
 #[derive(Drop)]
-pub struct Made {
+pub struct CopyMade {
     /// The fields of its facet with their cells; None where the group has no facet.
     pub cells: Option<Seq<(Text, Cell)>>,
     /// The names that it gives itself.
@@ -43,7 +43,7 @@ pub struct Made {
 #[derive(Drop)]
 pub struct CopiesMade {
     /// The copies, in their order.
-    pub copies: Seq<Made>,
+    pub copies: Seq<CopyMade>,
     /// How many stand side by side, where the facet crosses two fields.
     pub across: Option<u64>,
 }
@@ -67,7 +67,7 @@ struct MarkCounted {
 // A copy, with the same count.
 #[derive(Drop)]
 struct CopyCounted {
-    made: Made,
+    made: CopyMade,
     plots: u64,
 }
 
@@ -231,7 +231,7 @@ fn made_copy(
             plots: found
                 .plots
                 .saturating_add(plot_itself(mark, in_facet, in_grid)),
-            made: Made {
+            made: CopyMade {
                 cells,
                 level,
                 inside: found.made,

@@ -296,6 +296,24 @@ pub(crate) fn set_of(
     Ok(ScaleSet { scales: made })
 }
 
+/// The same of an object's own scales alone.
+pub(crate) fn own_set_of(
+    alloc: Global,
+    width: Num,
+    height: Num,
+    own: &[ScaleKept],
+) -> Result<ScaleSet, OutOfMemory>
+    requires kept { All IsKeptScale own.now }
+    requires width { IsPixel width }
+    requires height { IsPixel height }
+    ensures value { IfOk result (λ set. set ≡ set_of width height (map kept_seen own.now)) }
+    ensures sound { IfOk result AreScales }
+{
+    let mut scales = Seq::with_capacity(alloc, own.len())?;
+    push_own(alloc, own, &mut scales)?;
+    set_of(alloc, width, height, scales.as_slice())
+}
+
 /// The scale of a name, if there is one.
 pub(crate) fn scale_named<'b, 's, 'a>(
     scales: &'b [ScaleHere<'s, 'a>],

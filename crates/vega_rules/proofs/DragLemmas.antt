@@ -15,7 +15,7 @@ use Rattle.vega_rules.specs.declared.fault.PlacedFault.{PlacedFault}
 use Rattle.vega_rules.specs.Faults.{sooner, earliest, fault_if, fault_at}
 use Rattle.vega_rules.specs.Places.{fronts, same_place}
 use Rattle.vega_rules.specs.Names.{number_of, is_given, given_by, given_names}
-use Rattle.vega_rules.specs.Resolved.{served, meant_in, first_found, resolved}
+use Rattle.vega_rules.specs.Resolved.{served, given_in, first_found, resolved}
 use Rattle.vega_rules.specs.Intervals.{inverts, names_in_plot, is_given_in_plot}
 use Rattle.vega_rules.specs.declared.keys.By.TheVariants as by
 use Rattle.vega_rules.specs.inner.Keyed.{number_at}
@@ -105,12 +105,13 @@ module _ (look : List ℕ → Option GivenName) (none : (x : ℕ) (xs : List ℕ
   top_alone (n ∷ ns) = skip n (fronts ns)
 
 module _ (parts : List Part) (scale : List ℕ) (none : list_any (is_inner_of scale) (given_names parts) ≡ false) where
-  look_inner : (x : ℕ) (xs : List ℕ) → meant_in parts used.Scale [] scale (x ∷ xs) ≡ None
-  look_inner x xs = ap (λ o. option_or (option_and_then (served used.Scale []) o) None) (none_there scale x xs (given_names parts) none)
+  look_inner : (x : ℕ) (xs : List ℕ) → given_in parts used.Scale scale (x ∷ xs) ≡ None
+  look_inner x xs = ap (λ o. option_or o None) (none_there scale x xs (given_names parts) none)
 
   same_everywhere : (object : List ℕ) → resolved parts used.Scale object [] scale ≡ resolved parts used.Scale [] [] scale
   same_everywhere object =
-      top_alone (meant_in parts used.Scale [] scale) look_inner object ∙ sym (top_alone (meant_in parts used.Scale [] scale) look_inner [])
+      let look = given_in parts used.Scale scale in
+      ap (option_and_then (served used.Scale [])) (top_alone look look_inner object ∙ sym (top_alone look look_inner []))
 
   pub inverts_everywhere : inverts (resolved parts used.Scale [] [] scale) ≡ true → (object : List ℕ)
       → inverts (resolved parts used.Scale object [] scale) ≡ true

@@ -46,6 +46,19 @@ fn push_words(
     push_headers(alloc, size, extents, headers, items)
 }
 
+// Some items and then others. The list of the others is kept, since a copy of many items takes as much memory again.
+fn put_before(first: Seq<Item>, others: Seq<Item>) -> Result<Seq<Item>, OutOfMemory>
+    ensures { IfOk result (λ items. items ≡ first ++ others) }
+{
+    let count = others.len();
+    let mut before = first.into_vec();
+    let mut items = others.into_vec();
+    items.reserve_exact(before.len())?;
+    items.append(&mut before)?;
+    items.rotate_left(count);
+    Ok(Seq::from_vec(items))
+}
+
 // The items of a plot in their order.
 fn items_of(
     alloc: Global,
@@ -63,12 +76,11 @@ fn items_of(
         items: own,
         extents,
     } = axes;
-    let mut items = Seq::new(alloc);
-    push_words(alloc, title, size, &extents, headers, &mut items)?;
-    items.append(grids)?;
-    items.append(own)?;
-    items.append(marks)?;
-    Ok(items)
+    let mut guides = Seq::new(alloc);
+    push_words(alloc, title, size, &extents, headers, &mut guides)?;
+    guides.append(grids)?;
+    guides.append(own)?;
+    put_before(guides, marks)
 }
 
 // The facet cells of a plot as a row.

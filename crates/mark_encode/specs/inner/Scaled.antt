@@ -1,6 +1,6 @@
 -- Values with their scales in the program.
 use Rattle.std.specs.Prelude.{Option, List, map, Result, Ok, Err}
-use Rattle.std.specs.Option.{option_map}
+use Rattle.std.specs.Option.{option_map, option_copied}
 use Rattle.std.specs.Borrow.{Bor}
 use Rattle.expr_eval.specs.declared.error.EvalError.{EvalError}
 use Rattle.mark_encode.specs.declared.channels.Scaled.{Scaled}
@@ -22,7 +22,7 @@ use Rattle.mark_encode.specs.Texts.{StyleValues, TextValues}
 
 -- a value with its scale
 abbrev pub scaled_of : Scaled → ScaledValue
-scaled_of s = record { value = s.value.now; scale = s.scale }
+scaled_of s = record { value = s.value.now; scale = option_copied s.scale }
 
 -- values with their scales
 abbrev pub scaled_all : List Scaled → List ScaledValue

@@ -1,10 +1,13 @@
 -- What stands beside cells, by a map.
-use Rattle.std.specs.Prelude.{Bool, Option, List, map, find, unwrap_or}
+use Rattle.std.specs.Prelude.{ℕ, Bool, Option, List, map, find, unwrap_or}
 use Rattle.std.specs.Option.{option_map}
+use Rattle.std.specs.Borrow.{Bor}
 use Rattle.std.specs.BTreeMap.{BTreeMap, get_by}
 use Rattle.cell_value.specs.declared.cell.Cell.{Cell}
 use Rattle.cell_value.specs.declared.cell.Cell.TheVariants.{Null}
+use Rattle.cell_value.specs.declared.state.Keyed.{Keyed}
 use Rattle.cell_value.specs.Cell.{cell_cmp, same_cells}
+use Rattle.cell_value.specs.Datum.{cell_at}
 use Rattle.tick_kit.specs.Domains.{ascending}
 use Rattle.plain_facets.specs.Facets.{by_beside}
 
@@ -27,3 +30,11 @@ behind_its_own besides pair = (beside_or_null besides pair.0, pair.0)
 -- the different first cells of pairs, by what stands beside them
 abbrev pub in_order_of : Bool → BTreeMap Cell Cell → List (Cell × Cell) → List Cell
 in_order_of descending besides pairs = ascending (by_beside descending (beside_or_null besides)) (map (λ (pair : Cell × Cell). pair.0) pairs)
+
+-- whether two pairs have the same first cell
+abbrev pub alike_pairs : Cell × Cell → Cell × Cell → Bool
+alike_pairs a b = same_cells a.0 b.0
+
+-- the cells of a row behind a reference in two fields
+abbrev pub pair_shown : List ℕ → List ℕ → Bor Keyed → Cell × Cell
+pair_shown field other row = (cell_at row.now field, cell_at row.now other)

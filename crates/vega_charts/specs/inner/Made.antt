@@ -14,7 +14,7 @@ use Rattle.vega_spec.specs.declared.signals.Signal.{Signal}
 use Rattle.vega_spec.specs.declared.spec.Group.{Group, out-Group}
 use Rattle.vega_spec.specs.declared.spec.VgMark.{VgMark, VgMark-F}
 use Rattle.vega_charts.specs.declared.made.CopiesMade.{CopiesMade, out-CopiesMade}
-use Rattle.vega_charts.specs.declared.made.Made.{Made, out-Made}
+use Rattle.vega_charts.specs.declared.made.CopyMade.{CopyMade, out-CopyMade}
 use Rattle.vega_charts.specs.declared.names.Level.{Level}
 use Rattle.vega_charts.specs.Outlines.{Object, Marks, NoMarks, AMark, AGroup}
 use Rattle.vega_charts.specs.Scopes.{Names}
@@ -47,18 +47,18 @@ names_under sources levels =
 
 -- ---- the tree
 
-abbrev pub made_seen : Made → Copy
-made_seen m = record { cells = (out-Made m).cells; parts = map dataset_of (out-Made m).level.parts }
+abbrev pub made_seen : CopyMade → Copy
+made_seen m = record { cells = (out-CopyMade m).cells; parts = map dataset_of (out-CopyMade m).level.parts }
 
 -- What holds of a copy of a group that was made where these are the levels round it, and what holds of the copies in it.
 pub record IsMade (sources : List Named) (o : Object) (inside : Marks) (Within : List Level → List CopiesMade → Type 0) (levels : List Level)
-    (m : Made) : Type 0 where
+    (m : CopyMade) : Type 0 where
   -- what names stand for in it
   pub names : names_in_copy (map dataset_of sources) (names_under sources levels) o (made_seen m)
-      ≡ Some (names_under sources ((out-Made m).level ∷ levels))
-  pub rows : AreAllRows (rows_under sources ((out-Made m).level ∷ levels))
-  pub folds : MarksMayFold (rows_under sources ((out-Made m).level ∷ levels)) inside
-  pub within : Within ((out-Made m).level ∷ levels) (out-Made m).inside
+      ≡ Some (names_under sources ((out-CopyMade m).level ∷ levels))
+  pub rows : AreAllRows (rows_under sources ((out-CopyMade m).level ∷ levels))
+  pub folds : MarksMayFold (rows_under sources ((out-CopyMade m).level ∷ levels)) inside
+  pub within : Within ((out-CopyMade m).level ∷ levels) (out-CopyMade m).inside
 
 -- What was made of a group: its copies.
 pub record IsGroupMade (sources : List Named) (o : Object) (inside : Marks) (Within : List Level → List CopiesMade → Type 0) (levels : List Level)
@@ -87,14 +87,14 @@ abbrev pub OneMade : List Named → List Level → VgMark → CopiesMade → Typ
 OneMade sources levels m found = AreMade sources (marks_of (m ∷ [])) levels (found ∷ [])
 
 -- a copy of a group that was made
-abbrev pub IsCopyMade : List Named → List Level → VgMark-F Group VgMark → Made → Type 0
+abbrev pub IsCopyMade : List Named → List Level → VgMark-F Group VgMark → CopyMade → Type 0
 IsCopyMade sources levels m made =
     let inside = marks_of (marks_in (out-Group m.group)) in
     IsMade sources (group_object 0 m) inside (AreMade sources inside) levels made
 
 -- no signal of a copy of a group itself is lost in it
-abbrev pub KeepsSignals : VgMark-F Group VgMark → Made → Type 0
-KeepsSignals m made = list_all (λ (s : Signal). not (is_among (out-Made made).level.lost s.name)) (group_object 0 m).signals ≡ true
+abbrev pub KeepsSignals : VgMark-F Group VgMark → CopyMade → Type 0
+KeepsSignals m made = list_all (λ (s : Signal). not (is_among (out-CopyMade made).level.lost s.name)) (group_object 0 m).signals ≡ true
 
 -- Marks that keep the rules, with what was made of each, where these are the levels of names.
 pub record HaveCopies (sources : List Named) (levels : List (Bor Level)) (marks : List VgMark) (found : List CopiesMade) : Type 0 where

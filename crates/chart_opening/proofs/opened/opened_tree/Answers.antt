@@ -7,15 +7,15 @@ use Rattle.chart_opening.proofs.opened.opened_tree.Goals as goal
 
 pub returns-in_err-spec-clause-read : goal.returns-in_err-spec-clause-read
 returns-in_err-spec-clause-read g c =
-    stopped_from _ _ (spec_of c.args.tree.now) (λ files. opened_with the_reading files) c.in_err-spec.field-0.0 c.from_residual.result
+    stopped_from _ _ (spec_of c.args.tree) (λ files. opened_with the_reading files) c.in_err-spec.field-0.0 c.from_residual.result
     c.from_residual.ensures.1 c.in_err-spec.ensures
 
 pub returns-clause-read : goal.returns-clause-read
 returns-clause-read g c =
-    then_read _ _ _ _ _ _ c.in_ok-spec.spec c.opened_with.result (λ files. spec_of c.args.tree.now) (λ files. opened_with the_reading files)
+    then_read _ _ _ _ _ _ c.in_ok-spec.spec c.opened_with.result (λ files. spec_of c.args.tree) (λ files. opened_with the_reading files)
     (quiet _ _ _ c.in_ok-spec.spec c.in_ok-spec.ensures) c.opened_with.ensures.read
 
 pub returns-clause-ready : goal.returns-clause-ready
 returns-clause-ready g c =
-    ready_of c.opened_with.result c.in_ok-spec.spec (said_chart c.args.tree.now c.in_ok-spec.spec c.in_ok-spec.ensures) c.opened_with.ensures.spec
+    ready_of c.opened_with.result c.in_ok-spec.spec (said_chart c.args.tree c.in_ok-spec.spec c.in_ok-spec.ensures) c.opened_with.ensures.spec
     c.opened_with.ensures.state

@@ -1,4 +1,4 @@
-use Rattle.std.proofs.Common.{◌≡◌, drop, map}
+use Rattle.std.proofs.Common.{◌≡◌, take, drop, map}
 use Rattle.fixed_num.specs.Ranges.{all_found}
 use Rattle.fixed_num.proofs.FoundLemmas.{after}
 use Rattle.scene_tree.specs.Moves.{moved_point}
@@ -6,4 +6,5 @@ use Rattle.scene_tree.proofs.moves.moved_points.Given as goal
 
 abbrev pub invariant-loop-point : goal.invariant-loop-point
 invariant-loop-point l =
-    after l.out (all_found (map (moved_point l.dx l.dy) (drop l.point-index l.points))) ≡ all_found (map (moved_point l.dx l.dy) l.points)
+    after (take l.point-index l.point-items) (all_found (map (moved_point l.dx l.dy) (drop l.point-index l.point-items)))
+    ≡ all_found (map (moved_point l.dx l.dy) l.fn.points)

@@ -8,7 +8,14 @@ use Rattle.vega_charts.specs.inner.Kept.{axis_seen, scale_seen, AreKeptAxes}
 use Rattle.vega_charts.specs.inner.Levels.{names_at}
 use Rattle.vega_charts.specs.inner.Topped.{drawn_grid, top_of, top_seen, with_axes}
 use Rattle.vega_charts.proofs.TopLemmas.{top_kept}
+use Rattle.scale_kit.specs.Scale.{AreScales}
 use Rattle.vega_charts.proofs.charts.draw_grid.Goals as goal
+
+pub draw_axes-requires-clause-set : goal.draw_axes-requires-clause-set
+draw_axes-requires-clause-set c = c.in_ok-indexed.ensures ∙ c.in_ok-set.ensures.value
+
+pub draw_axes-requires-clause-sound : goal.draw_axes-requires-clause-sound
+draw_axes-requires-clause-sound c = subst AreScales (sym c.in_ok-indexed.ensures) c.in_ok-set.ensures.sound
 
 pub and_axes-requires-clause-outer : goal.and_axes-requires-clause-outer
 and_axes-requires-clause-outer c = All-nil _

@@ -1,10 +1,17 @@
-use Rattle.std.proofs.Common.{map, sym, subst}
+use Rattle.std.proofs.Common.{map, sym, ◌∙◌, subst}
 use Rattle.cell_value.specs.State.{dataset_of}
 use Rattle.expr_eval.specs.Answers.{Evaluates}
 use Rattle.vega_charts.specs.inner.Kept.{scale_seen}
 use Rattle.vega_charts.specs.inner.Levels.{names_at}
 use Rattle.vega_charts.proofs.TopLemmas.{sized_is, no_width, no_height}
+use Rattle.scale_kit.specs.Scale.{AreScales}
 use Rattle.vega_charts.proofs.charts.draw_plot.Goals as goal
+
+pub draw_sized-requires-clause-set : goal.draw_sized-requires-clause-set
+draw_sized-requires-clause-set c = c.in_ok-indexed.ensures ∙ c.in_ok-set.ensures.value
+
+pub draw_sized-requires-clause-sound : goal.draw_sized-requires-clause-sound
+draw_sized-requires-clause-sound c = subst AreScales (sym c.in_ok-indexed.ensures) c.in_ok-set.ensures.sound
 
 pub returns : goal.returns
 returns c =

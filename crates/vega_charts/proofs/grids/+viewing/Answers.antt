@@ -1,4 +1,4 @@
-use Rattle.std.proofs.Common.{◌≡◌, ◌+◌, ◌<◌, ◌≤◌, suc, ◌∷◌, map, ap, sym, ◌∙◌, subst, add-one, refl, rules, arith}
+use Rattle.std.proofs.Common.{◌≡◌, ◌+◌, ◌<◌, ◌≤◌, suc, ◌∷◌, [], map, ap, sym, ◌∙◌, subst, add-one, refl, rules, arith}
 use Rattle.std.specs.Prelude.{All, OnOk, length}
 use Rattle.std.specs.List.{AllZip}
 use Rattle.std.proofs.lemmas.List.{drop_all}
@@ -9,14 +9,16 @@ use Rattle.vega_spec.specs.declared.spec.Group.{out-Group}
 use Rattle.vega_spec.specs.declared.spec.VgMark.{out-VgMark, size-VgMark}
 use Rattle.vega_charts.specs.Copies.{of_no_chart}
 use Rattle.vega_charts.specs.Scales.{own_scale, and_outer, spot_of}
-use Rattle.vega_charts.specs.declared.made.Made.{out-Made}
+use Rattle.vega_charts.specs.declared.made.CopyMade.{out-CopyMade}
 use Rattle.vega_charts.specs.inner.Made.{levels_behind, made_seen, IsCopyMade}
 use Rattle.vega_charts.specs.inner.Drawn.{rows_in_frame}
-use Rattle.vega_charts.specs.inner.Kept.{scale_seen, axis_seen, kept_seen, AreKeptScales, AreKeptAxes}
+use Rattle.vega_charts.specs.inner.Kept.{scale_seen, axis_seen, kept_seen, IsKeptScale, AreKeptScales, AreKeptAxes}
 use Rattle.vega_charts.specs.inner.Levels.{names_at}
 use Rattle.vega_charts.specs.inner.Outlined.{marks_in, group_object, object_numbered}
 use Rattle.vega_charts.specs.inner.Placed.{place_seen, IsFound, view_at, AddsViews}
 use Rattle.vega_charts.proofs.StandLemmas.{object_kept}
+use Rattle.vega_charts.proofs.SetLemmas.{within_frame}
+use Rattle.vega_charts.proofs.EnteredLemmas.{none_hidden}
 use Rattle.vega_charts.proofs.MadeLemmas.{levels_in_made, copies_in_made}
 use Rattle.vega_charts.proofs.LayoutLemmas.{no_copies, copies_found, are_found, grid_ends, grid_stops}
 use Rattle.vega_charts.proofs.GridLemmas.{marks_begin, mark_within, mark_here, marks_next, marks_stop, marks_end}
@@ -249,7 +251,7 @@ copy_view-returns-else-keeps_signals-clause-value t c =
 pub kept_view-entered_view-requires : goal.kept_view-entered_view-requires
 kept_view-entered_view-requires t c =
     let names = c.args.outer.now.frame.names in
-    let more : levels_behind c.as_slice-inside.result.now ≡ (out-Made c.args.copy.now).level ∷ levels_behind names.levels.now =
+    let more : levels_behind c.as_slice-inside.result.now ≡ (out-CopyMade c.args.copy.now).level ∷ levels_behind names.levels.now =
     ap levels_behind c.as_slice-inside.ensures ∙ c.in_ok-levels.ensures in (
       search rules,
       (
@@ -278,15 +280,44 @@ kept_view-returns-clause-value t c =
 
 -- a copy whose names are known
 
+pub named_view-returns-then-is_empty-clause-value : goal.named_view-returns-then-is_empty-clause-value
+named_view-returns-then-is_empty-clause-value t c =
+    let named = c.args.named.now in
+    let nothing : c.in-Ok.own ≡ [] = c.is_empty.ensures.0 c.if-is_empty.true in
+    subst (Evaluates c.scaled_view.result)
+    (named_scaled named c.args.unit c.args.number (out-VgMark c.args.mark.now) (map kept_seen c.in-Ok.own) (map scale_seen named.frame.scales.now)
+    (ap (λ scales. all_found (map (own_scale of_no_chart (names_at named.frame.names.sources.now named.frame.names.levels.now)) scales))
+    (sym c.scales_in.ensures) ∙ c.in-Ok.ensures.value)
+    (none_hidden (map scale_seen named.frame.scales.now) (map kept_seen c.in-Ok.own) (ap (map kept_seen) nothing))) c.scaled_view.ensures.value
+
+pub named_view-own_set_of-requires-clause-kept : goal.named_view-own_set_of-requires-clause-kept
+named_view-own_set_of-requires-clause-kept t c = subst (All IsKeptScale) (sym c.as_slice-mine.ensures) c.in-Ok.ensures.kept
+
+pub named_view-scaled_view-requires-2 : goal.named_view-scaled_view-requires-2
+named_view-scaled_view-requires-2 t c = (
+  search rules,
+  (
+    record {
+      frame =
+          within_frame c.args.named.now.frame _ _ c.as_slice-mine.result.now _ c.requires.place.frame
+          (subst AreKeptScales (sym c.as_slice-here.ensures) c.in_ok-scales.ensures.kept)
+          (ap (map scale_seen) c.as_slice-here.ensures ∙ c.in_ok-scales.ensures.value) c.in_ok-set.ensures.value c.in_ok-set.ensures.sound
+          c.in_ok-indexed.ensures;
+      axes = c.requires.place.axes;
+    },
+    (c.requires.marks, (c.requires.object, (c.requires.few, c.requires.group))),
+  ),
+)
+
 pub named_view-returns-clause-value : goal.named_view-returns-clause-value
 named_view-returns-clause-value t c =
     let named = c.args.named.now in
-    subst (Evaluates c.scaled_view.result)
+    subst (Evaluates c.scaled_view-2.result)
     (named_scaled named c.args.unit c.args.number (out-VgMark c.args.mark.now) (map kept_seen c.in-Ok.own) (map scale_seen c.as_slice-here.result.now)
     (ap (λ scales. all_found (map (own_scale of_no_chart (names_at named.frame.names.sources.now named.frame.names.levels.now)) scales))
     (sym c.scales_in.ensures) ∙ c.in-Ok.ensures.value)
     (ap (map scale_seen) c.as_slice-here.ensures ∙ c.in_ok-scales.ensures.value
-    ∙ ap (λ own. and_outer (map scale_seen named.frame.scales.now) (map kept_seen own)) c.as_slice.ensures)) c.scaled_view.ensures.value
+    ∙ ap (λ own. and_outer (map scale_seen named.frame.scales.now) (map kept_seen own)) c.as_slice-mine.ensures)) c.scaled_view-2.ensures.value
 
 pub scaled_view-returns-in-None-clause-value : goal.scaled_view-returns-in-None-clause-value
 scaled_view-returns-in-None-clause-value t c =

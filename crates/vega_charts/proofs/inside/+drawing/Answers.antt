@@ -14,13 +14,14 @@ use Rattle.vega_charts.specs.Plots.{drawn_in}
 use Rattle.vega_charts.specs.Scales.{ScaleHere, own_scale, and_outer}
 use Rattle.vega_charts.specs.inner.Framed.{frame_seen}
 use Rattle.vega_charts.specs.inner.Kept.{kept_seen, scale_seen, IsKeptScale, AreKeptScales}
-use Rattle.vega_charts.specs.declared.made.Made.{out-Made}
+use Rattle.vega_charts.specs.declared.made.CopyMade.{out-CopyMade}
 use Rattle.vega_charts.specs.inner.Made.{levels_behind, HaveCopies}
 use Rattle.vega_charts.specs.inner.Outlined.{marks_from, marks_in, group_object, AreFew}
 use Rattle.vega_charts.specs.inner.Drawn.{inside_seen, sources_of, rows_in_frame, placed_from, drawn_group, drawn_framed, drawn_named, DrawsMore}
 use Rattle.vega_charts.proofs.DrawnLemmas.{stops_drawing, nothing_left, made_within, next_made, next_stands, next_few, marks_fit, groups_fit, unit_fits, number_fits, next_drawn, next_stops, group_alone, plain_alone}
-use Rattle.vega_charts.proofs.EnteredLemmas.{moved_frame, scaled_frame, entered_frame, no_x, no_y, framed_at, behind_guides, group_fits, own_found, no_scales, none_hidden, scaled_with}
+use Rattle.vega_charts.proofs.EnteredLemmas.{moved_frame, entered_frame, no_x, no_y, framed_at, behind_guides, group_fits, own_found, no_scales, none_hidden, scaled_with}
 use Rattle.vega_charts.proofs.EnteredLemmas.{copy_stops, copy_named, copies_begun, next_copy, copy_drawn, copy_ends, no_copies_left}
+use Rattle.vega_charts.proofs.SetLemmas.{within_frame}
 use Rattle.vega_charts.proofs.MadeLemmas.{at_place, levels_in_made, copies_in_made}
 use Rattle.vega_charts.proofs.SizeLemmas.{inside_smaller}
 use Rattle.vega_charts.proofs.StandLemmas.{few_inside, object_kept}
@@ -208,7 +209,7 @@ draw_copy-returns-else-keeps_signals-clause-value t c =
 pub draw_kept-draw_entered-requires : goal.draw_kept-draw_entered-requires
 draw_kept-draw_entered-requires t c =
     let outer = c.args.outer.now.names in
-    let more : levels_behind c.as_slice.result.now ≡ (out-Made c.args.copy.now).level ∷ levels_behind outer.levels.now =
+    let more : levels_behind c.as_slice.result.now ≡ (out-CopyMade c.args.copy.now).level ∷ levels_behind outer.levels.now =
     ap levels_behind c.as_slice.ensures ∙ c.in_ok-levels.ensures in (
       omega arith,
       (
@@ -295,10 +296,10 @@ pub draw_named-returns-then-is_empty-clause-kept : goal.draw_named-returns-then-
 draw_named-returns-then-is_empty-clause-kept t c = c.draw_framed.ensures.kept
 
 pub draw_named-and_outer-requires-clause-own : goal.draw_named-and_outer-requires-clause-own
-draw_named-and_outer-requires-clause-own t c = subst (All IsKeptScale) (sym c.as_slice.ensures) c.in-Ok.ensures.kept
+draw_named-and_outer-requires-clause-own t c = subst (All IsKeptScale) (sym c.as_slice-mine.ensures) c.in-Ok.ensures.kept
 
-pub draw_named-set_of-requires-clause-kept : goal.draw_named-set_of-requires-clause-kept
-draw_named-set_of-requires-clause-kept t c = subst AreKeptScales (sym c.as_slice-here.ensures) c.in_ok-scales.ensures.kept
+pub draw_named-own_set_of-requires-clause-kept : goal.draw_named-own_set_of-requires-clause-kept
+draw_named-own_set_of-requires-clause-kept t c = subst (All IsKeptScale) (sym c.as_slice-mine.ensures) c.in-Ok.ensures.kept
 
 pub draw_named-draw_framed-requires-2 : goal.draw_named-draw_framed-requires-2
 draw_named-draw_framed-requires-2 t c = (
@@ -306,8 +307,10 @@ draw_named-draw_framed-requires-2 t c = (
   (
     record {
       frame =
-          scaled_frame c.args.named.now _ _ c.requires.frame.frame (subst AreKeptScales (sym c.as_slice-here.ensures) c.in_ok-scales.ensures.kept)
-          c.in_ok-set.ensures.value c.in_ok-set.ensures.sound;
+          within_frame c.args.named.now _ _ c.as_slice-mine.result.now _ c.requires.frame.frame
+          (subst AreKeptScales (sym c.as_slice-here.ensures) c.in_ok-scales.ensures.kept)
+          (ap (map scale_seen) c.as_slice-here.ensures ∙ c.in_ok-scales.ensures.value) c.in_ok-set.ensures.value c.in_ok-set.ensures.sound
+          c.in_ok-indexed.ensures;
       marks_stand = c.requires.frame.marks_stand;
     },
     (c.requires.object, (c.requires.few, c.requires.group)),
@@ -322,7 +325,7 @@ draw_named-returns-clause-value t c =
     (map scale_seen c.as_slice-here.result.now)
     (ap (λ scales. all_found (map (own_scale of_no_chart named.names) scales)) (sym c.scales_in.ensures) ∙ c.in-Ok.ensures.value)
     (ap (map scale_seen) c.as_slice-here.ensures ∙ c.in_ok-scales.ensures.value
-    ∙ ap (λ own. and_outer named.scales (map kept_seen own)) c.as_slice.ensures)) c.draw_framed-2.ensures.value
+    ∙ ap (λ own. and_outer named.scales (map kept_seen own)) c.as_slice-mine.ensures)) c.draw_framed-2.ensures.value
 
 pub draw_named-returns-clause-kept : goal.draw_named-returns-clause-kept
 draw_named-returns-clause-kept t c = c.draw_framed-2.ensures.kept

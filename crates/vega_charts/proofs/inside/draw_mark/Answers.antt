@@ -16,4 +16,4 @@ returns-in-Err-clause-value c =
 
 pub returns-clause-value : goal.returns-clause-value
 returns-clause-value c =
-    adds_items c.args.out.now c.in-Ok.items c.append.new.self _ c.in-Ok.ensures c.in_ok-append.ensures.ok
+    adds_items c.args.out.now c.in-Ok.items c.add_items.new.items _ c.in-Ok.ensures c.in_ok-add_items.ensures

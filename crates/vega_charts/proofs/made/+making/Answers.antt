@@ -11,7 +11,7 @@ use Rattle.vega_spec.specs.declared.spec.VgMark.{VgMark, out-VgMark}
 use Rattle.vega_spec.proofs.spec.VgMark.TheLaws.{the_size}
 use Rattle.vega_charts.specs.declared.made.AllCounted.{AllCounted}
 use Rattle.vega_charts.specs.declared.made.CopiesMade.{CopiesMade, roll-CopiesMade, out-roll-CopiesMade}
-use Rattle.vega_charts.specs.declared.made.Made.{roll-Made, out-roll-Made}
+use Rattle.vega_charts.specs.declared.made.CopyMade.{roll-CopyMade, out-roll-CopyMade}
 use Rattle.vega_charts.specs.Facets.{copies_of}
 use Rattle.vega_charts.specs.inner.Copied.{copy_seen, IsCopy}
 use Rattle.vega_charts.specs.inner.Counted.{counted, plots_inside}
@@ -160,9 +160,9 @@ made_copy-returns-in-Ok-made_under-clause-counts t c =
 pub made_copy-returns-in-Ok-made_under-clause-made : goal.made_copy-returns-in-Ok-made_under-clause-made
 made_copy-returns-in-Ok-made_under-clause-made t c =
     copy_made c.args.outer.now c.args.mark.now c.args.copy
-    (roll-Made (record { cells = c.args.copy.cells; level = c.in-Ok.level; inside = c.in-Ok-made_under.found.made }))
+    (roll-CopyMade (record { cells = c.args.copy.cells; level = c.in-Ok.level; inside = c.in-Ok-made_under.found.made }))
     (record { cells = c.args.copy.cells; level = c.in-Ok.level; inside = c.in-Ok-made_under.found.made })
-    (out-roll-Made (record { cells = c.args.copy.cells; level = c.in-Ok.level; inside = c.in-Ok-made_under.found.made })) c.in-Ok.ensures.value
+    (out-roll-CopyMade (record { cells = c.args.copy.cells; level = c.in-Ok.level; inside = c.in-Ok-made_under.found.made })) c.in-Ok.ensures.value
     (λ i. record { cells = c.args.copy.cells; parts = map dataset_of (c.in-Ok.ensures.parts i) }) c.in-Ok.ensures.rows
     (stand_inside c.args.outer.now c.in-Ok.level c.args.mark.now c.args.copy c.requires.group c.requires.marks c.requires.copy c.in-Ok.ensures.folds)
     c.in-Ok-made_under.ensures.made

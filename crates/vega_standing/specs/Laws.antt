@@ -1,0 +1,54 @@
+-- What holds of specifications that are read.
+use Rattle.std.specs.Prelude.{◌≡◌, ◌≤◌, ℕ, List, length, true, Ok, ◌+◌, ◌*◌, ◌^◌, ◌<◌, None, pos, ◌≤ℤ◌, unwrap_or}
+use Rattle.fixed_num.specs.Number.{million}
+use Rattle.json_exact.specs.declared.json.Json.{Json}
+use Rattle.json_exact.specs.Reading.{Reads}
+use Rattle.vega_spec.specs.declared.spec.VgSpec.{VgSpec}
+use Rattle.vega_building.specs.Spec.{spec_of}
+use Rattle.vega_model.specs.Faults.{first_fault_of}
+use Rattle.vega_model.specs.Reading.{read_of}
+use Rattle.vega_charts.specs.Sizes.{IsSizeKept}
+use Rattle.vega_lists.specs.Products.{no_folds, products_after, FoldsFit}
+use Rattle.vega_charts.specs.Outlines.{outline_of, count_groups}
+use Rattle.vega_charts.specs.Built.{KeepsObject, KeepsMarks, FoldsFitIn, IsBuilt, KeepsRules}
+use Rattle.vega_charts.specs.Tested.{is_chart}
+use Rattle.vega_standing.specs.OwnNames.{HasOwnNames}
+
+-- what a specification keeps that its objects keep each by itself
+pub record KeepsObjects (g : VgSpec) : Type 0 where
+  pub top : KeepsObject (outline_of g).object
+  pub marks : KeepsMarks (outline_of g).marks
+  pub width : IsSizeKept g.width
+  pub height : IsSizeKept g.height
+  pub padding_low : pos 0 ≤ℤ unwrap_or g.padding (pos 0)
+  pub padding_high : unwrap_or g.padding (pos 0) ≤ℤ pos (1000 * million)
+
+-- where a tree has no fault and no object in it has a name twice, the specification that it says keeps this
+abbrev pub ObjectsAreKept : Type 0
+ObjectsAreKept = (tree : Json) → HasOwnNames tree → first_fault_of tree ≡ None → KeepsObjects (spec_of tree)
+
+-- the product of the lengths of the folds on the path of each of its data sets is 8 at most
+pub record KeepsFolds (g : VgSpec) : Type 0 where
+  pub folds : FoldsFit no_folds (outline_of g).object.sets
+  pub folds_inside : FoldsFitIn (products_after no_folds (outline_of g).object.sets) (outline_of g).marks
+
+-- where a tree has no fault and no object in it has a name twice, the folds of the specification that it says fit
+abbrev pub FoldsAreKept : Type 0
+FoldsAreKept = (tree : Json) → HasOwnNames tree → first_fault_of tree ≡ None → KeepsFolds (spec_of tree)
+
+-- its groups, the top among them, can be numbered in 32 bits
+abbrev pub HasFewGroups : VgSpec → Type 0
+HasFewGroups g = 1 + count_groups (outline_of g).marks < 2 ^ 32
+
+-- and where its groups are few besides, it keeps all rules
+abbrev pub RulesAreKept : Type 0
+RulesAreKept = (tree : Json) → HasOwnNames tree → first_fault_of tree ≡ None → HasFewGroups (spec_of tree) → KeepsRules (spec_of tree)
+
+-- A tree that is read of at most 16 MiB has no name twice in an object and few groups: where it has no fault, the specification that it says
+-- keeps all rules.
+abbrev pub FilesKeepRules : Type 0
+FilesKeepRules = (bytes : List ℕ) (tree : Json) → Reads bytes tree → length bytes ≤ 2 ^ 24 → first_fault_of tree ≡ None → KeepsRules (spec_of tree)
+
+-- and where it has no selections besides, it is one that is drawn
+abbrev pub AcceptedAreCharts : Type 0
+AcceptedAreCharts = (bytes : List ℕ) (tree : Json) (g : VgSpec) → Reads bytes tree → length bytes ≤ 2 ^ 24 → read_of tree ≡ Ok g → IsBuilt g → is_chart g ≡ true

@@ -1,0 +1,27 @@
+//! Laws of specifications that are read.
+ghost use Rattle.vega_standing.specs.Laws.{ObjectsAreKept, FoldsAreKept, RulesAreKept, FilesKeepRules, AcceptedAreCharts};
+
+/// Where a tree has no fault and no object in it has a name twice, the objects of the specification that it says keep what charts ask.
+pub fn objects_are_kept()
+    ensures { ObjectsAreKept }
+{}
+
+/// The folds of such a specification make at most 8 rows of one on the path of each data set.
+pub fn folds_are_kept()
+    ensures { FoldsAreKept }
+{}
+
+/// Where the groups of such a specification can be numbered in 32 bits, it keeps all rules that charts ask.
+pub fn rules_are_kept()
+    ensures { RulesAreKept }
+{}
+
+/// Where a tree is read of at most 16 MiB and has no fault, the specification that it says keeps all rules that charts ask.
+pub fn files_keep_rules()
+    ensures { FilesKeepRules }
+{}
+
+/// What is read of a tree of at most 16 MiB is a specification that is drawn, where it has no selections.
+pub fn accepted_are_charts()
+    ensures { AcceptedAreCharts }
+{}

@@ -1,0 +1,8 @@
+//! What specifications keep that are read: they break no rule, and so they keep what charts ask.
+#![tactic(auto)]
+
+mod laws;
+
+pub use laws::{
+    accepted_are_charts, files_keep_rules, folds_are_kept, objects_are_kept, rules_are_kept,
+};
