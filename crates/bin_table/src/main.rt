@@ -6,7 +6,7 @@
 ghost use Rattle.std.specs.Prelude.{◌≡◌, ◌+◌, ◌<◌, ◌^◌, ◌<ℤ◌, pos, length, IfOk, IfSome, OnOk};
 ghost use Rattle.bin_table.specs.Rows.{AreNumbered};
 
-use cell_value::{Cell, Key, Keyed, Row, Rows};
+use cell_value::{Cell, Key, Keyed, Row, Rows, SharedText};
 use expr_eval::EvalError;
 use fixed_num::Num;
 use plain_bins::{bin, extent_of};
@@ -54,7 +54,7 @@ fn pair_by(word: &str) -> Cell {
 
 // A row by its cells.
 fn row_by(alloc: Global, word: &str) -> Result<Row, OutOfMemory> {
-    let mut row = Row::new(alloc);
+    let mut row = Row::new(alloc)?;
     for part in word.split('|') {
         if let Some((name, cell)) = part.split_once('=') {
             row.set(Text::of(alloc, name)?, cell_by(alloc, cell)?)?;
@@ -128,8 +128,8 @@ fn bins_by(alloc: Global, words: &str) -> Result<BinOf, OutOfMemory>
     let extent = extent_by(word_or_none(words.next()));
     let step = width_by(word_or_none(words.next()));
     let maxbins = word_or_none(words.next()).parse::<u32>().unwrap_or(1);
-    let out = Text::of(alloc, word_or_none(words.next()))?;
-    let out_end = Text::of(alloc, word_or_none(words.next()))?;
+    let out = SharedText::of(alloc, word_or_none(words.next()))?;
+    let out_end = SharedText::of(alloc, word_or_none(words.next()))?;
     Ok(BinOf {
         field,
         extent,
@@ -184,7 +184,7 @@ fn say_row(text: &mut Text, row: &Keyed) -> Result<(), OutOfMemory> {
         text.push_str("|")?;
         text.push_str(name.as_str())?;
         text.push_str("=")?;
-        say_cell(text, cell)?;
+        say_cell(text, &cell.cell()?)?;
     }
     text.push_str(";")
 }

@@ -1,3 +1,4 @@
 mod Place
 mod GatherLemmas
 pub mod LawLemmas
+pub mod RowLemmas

@@ -1,5 +1,5 @@
 -- Cells: their order, their sameness and their truth.
-use Rattle.std.specs.Prelude.{◌≡◌, ℕ, Bool, true, false, not, List, [], ◌∷◌, map, replicate, pos, negsuc, codes, refl}
+use Rattle.std.specs.Prelude.{◌≡◌, ℕ, ℤ, Option, Some, None, Bool, true, false, not, List, [], ◌∷◌, map, replicate, pos, negsuc, codes, refl}
 use Rattle.std.specs.FinMap.{is_sorted}
 use Rattle.std.specs.declared.cmp.Ordering.{Ordering}
 use Rattle.std.specs.Ordering.{nat_cmp, int_cmp, bool_cmp, int_eq, ordering_then, eq_by_cmp}
@@ -36,6 +36,11 @@ truth (Number n) = not (int_eq n (pos 0))
 truth (Text []) = false
 truth (Text (b ∷ bs)) = true
 truth (Pair a b) = true
+
+-- the number of a cell; none where it is no number
+abbrev pub number_in : Cell → Option ℤ
+number_in (Number n) = Some n
+number_in _ = None
 
 -- The rules at work.
 

@@ -2,3 +2,4 @@
 pub mod CellOrder
 pub mod Place
 pub mod Gather
+pub mod Held

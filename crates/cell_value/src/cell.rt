@@ -1,6 +1,6 @@
 // The values that expressions compute.
 ghost use Rattle.std.specs.Prelude.{◌≡◌, ◌↔◌, IsTrue, IfOk};
-ghost use Rattle.cell_value.specs.Cell.{kind, cell_cmp, same_cells, truth};
+ghost use Rattle.cell_value.specs.Cell.{kind, cell_cmp, same_cells, truth, number_in};
 
 use fixed_num::Num;
 use std::alloc::Global;
@@ -69,6 +69,16 @@ impl Cell {
             Cell::Number(n) => n.millionths() != 0,
             Cell::Text(text) => !text.is_empty(),
             Cell::Pair(_, _) => true,
+        }
+    }
+
+    /// The cell's number; None exactly where it is none.
+    pub fn number(&self) -> Option<Num>
+        ensures { result ≡ number_in self.now }
+    {
+        match self {
+            Cell::Number(number) => Some(*number),
+            _ => None,
         }
     }
 

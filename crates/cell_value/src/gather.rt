@@ -6,17 +6,17 @@ ghost use Rattle.std.specs.FinMap.{insert, is_sorted};
 ghost use Rattle.cell_value.specs.Row.{row_of};
 ghost use Rattle.cell_value.specs.inner.Gather.{named, seen_row};
 
-use crate::Cell;
+use crate::{Held, SharedText};
 use std::alloc::Global;
 use std::collections::BTreeMap;
 use text_kit::{OutOfMemory, Text};
 
 // Puts a cell under a name.
 #[tactic(auto, using(crate::proofs::GatherLemmas::named_insert))]
-fn put(cells: &mut BTreeMap<String, Cell>, name: Text, cell: Cell) -> Result<(), OutOfMemory>
-    ensures { OnOk result (seen_row cells.new.entries ≡ insert (seen_row cells.old.entries) name cell) }
+fn put(cells: &mut BTreeMap<String, Held>, name: &SharedText, cell: Held) -> Result<(), OutOfMemory>
+    ensures { OnOk result (seen_row cells.new.entries ≡ insert (seen_row cells.old.entries) name.now cell) }
 {
-    cells.insert(name.into_string(), cell)?;
+    cells.insert(name.as_text().copy()?.into_string(), cell)?;
     Ok(())
 }
 
@@ -24,13 +24,13 @@ fn put(cells: &mut BTreeMap<String, Cell>, name: Text, cell: Cell) -> Result<(),
 #[tactic(auto, using(crate::proofs::GatherLemmas::none_seen_yet, crate::proofs::GatherLemmas::one_more))]
 pub fn gathered(
     alloc: Global,
-    entries: Vec<(Text, Cell)>,
-) -> Result<BTreeMap<String, Cell>, OutOfMemory>
+    entries: Vec<(SharedText, Held)>,
+) -> Result<BTreeMap<String, Held>, OutOfMemory>
     ensures { IfOk result (λ cells. seen_row cells.entries ≡ row_of entries.items) }
 {
     let mut cells = BTreeMap::new(alloc);
     for (name, cell) in entries {
-        put(&mut cells, name, cell)?;
+        put(&mut cells, &name, cell)?;
     }
     Ok(cells)
 }
@@ -38,14 +38,14 @@ pub fn gathered(
 /// The same cells as a list in the order of their names.
 pub fn listed(
     alloc: Global,
-    cells: BTreeMap<String, Cell>,
-) -> Result<Vec<(Text, Cell)>, OutOfMemory>
+    cells: BTreeMap<String, Held>,
+) -> Result<Vec<(SharedText, Held)>, OutOfMemory>
     ensures items { IfOk result (λ list. list.items ≡ map named cells.entries) }
     ensures sorted { IfOk result (λ list. T (is_sorted (slice_cmp nat_cmp) list.items)) }
 {
     let mut list = Vec::with_capacity(alloc, cells.len())?;
     for (name, cell) in cells {
-        list.push((Text::from_string(name), cell))?;
+        list.push((SharedText::of_text(alloc, Text::from_string(name))?, cell))?;
     }
     Ok(list)
 }

@@ -13,7 +13,7 @@ use crate::refusal::{OpenStop, Refusal, Stop};
 use crate::sources::{Given, given_by};
 use cell_value::Row;
 use chart_io::Folder;
-use data_rows::{ParseKind, RowError, rows_of_csv, rows_of_json};
+use data_rows::{ParseKind, RowError, rows_of_csv, rows_of_json, rows_of_tree};
 use std::alloc::Global;
 use text_kit::{OutOfMemory, Seq, Text};
 use vega_spec::{DataSet, ParseKind as VegaKind};
@@ -60,20 +60,20 @@ fn parse_of(alloc: Global, set: &DataSet) -> Result<Seq<(Text, ParseKind)>, OutO
     }
 }
 
-// The rows that the specification has of a source, or that are given for it.
+// The rows that the specification has of a source, or that are given for it. What is given is let go.
 fn rows_given(
     alloc: Global,
     kinds: &Seq<(Text, ParseKind)>,
     set: &DataSet,
-    given: &Given,
+    given: Given,
 ) -> Result<Seq<Row>, RowError>
-    ensures { GivesRows result (rows_given kinds.now set.now.values given.now) }
+    ensures { GivesRows result (rows_given kinds.now set.now.values given) }
 {
     if let Some(values) = &set.values {
         return rows_of_json(alloc, values, kinds);
     }
     match given {
-        Given::Tree(tree) => rows_of_json(alloc, tree, kinds),
+        Given::Tree(tree) => rows_of_tree(alloc, tree, kinds),
         Given::Table(bytes) => rows_of_csv(alloc, bytes.as_slice(), kinds),
         Given::Nothing => Ok(Seq::new(alloc)),
     }
@@ -83,9 +83,9 @@ fn rows_given(
 fn rows_by(
     alloc: Global,
     set: &DataSet,
-    given: &Given,
+    given: Given,
 ) -> Result<Result<Seq<Row>, Refusal>, OutOfMemory>
-    ensures { IfOk result (λ rows. rows ≡ rows_by (set.now, given.now)) }
+    ensures { IfOk result (λ rows. rows ≡ rows_by (set.now, given)) }
 {
     let kinds = parse_of(alloc, set)?;
     match rows_given(alloc, &kinds, set, given) {
@@ -105,7 +105,7 @@ fn read_by<F: Folder>(
         (λ files. read_by the_reading files set.now) }
 {
     match given_by(alloc, folder, set) {
-        Ok(given) => Ok(rows_by(alloc, set, &given)?),
+        Ok(given) => Ok(rows_by(alloc, set, given)?),
         Err(why) => Err(why),
     }
 }

@@ -57,7 +57,7 @@ fn say_facet(out: &mut Text, row: &Row) -> Result<(), OutOfMemory> {
         out.push_str(" ")?;
         out.push_str(entry.0.as_str())?;
         out.push_str("=")?;
-        say_cell(out, &entry.1)?;
+        say_cell(out, &entry.1.cell()?)?;
     }
     Ok(())
 }

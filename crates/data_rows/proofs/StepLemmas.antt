@@ -1,5 +1,5 @@
 -- How rows of CSV go on, field by field and record by record.
-use Rattle.std.proofs.Common.{◌≡◌, ℕ, suc, ◌+◌, Bool, true, false, ◌&&◌, Result, Ok, Err, List, [], ◌∷◌, ◌++◌, length, map, nat_eq, refl, sym, ap, ◌∙◌, add-one, append_assoc, if◌then◌else◌}
+use Rattle.std.proofs.Common.{◌≡◌, ℕ, suc, ◌+◌, Bool, true, false, ◌&&◌, Result, Ok, Err, List, [], ◌∷◌, ◌++◌, length, map, nat_eq, refl, sym, ap, ◌∙◌, add-one, append_assoc, length-append, if◌then◌else◌}
 use Rattle.std.specs.Prelude.{IsErrOf}
 use Rattle.std.specs.List.{list_all}
 use Rattle.std.specs.Str.{is_utf8}
@@ -34,6 +34,18 @@ module _ {X Y : Type 0} (f : X → Result Y (List ℕ)) where
       ∙ sym (moved_row rows row (all_rows (suc n) (map f others)))
       ∙ ap (rows_then rows) (sym (first_is n x others row (f x) refl good))
       ∙ ap (λ l. rows_then rows (all_rows n (map f l))) (sym is) ∙ h
+
+  length_more : (rows : List Y) (row : Y) → length (rows ++ row ∷ []) ≡ length rows + 1
+  length_more rows row = length-append rows (row ∷ [])
+
+  -- one row more, numbered by the rows before it
+  pub next_row : (left : List X) (x : X) (others : List X) (rows next : List Y) (row : Y) (whole : Result (List Y) Bad)
+      → left ≡ x ∷ others → numbered (length rows) (f x) ≡ Ok row → next ≡ rows ++ row ∷ []
+      → rows_then rows (all_rows (length rows) (map f left)) ≡ whole → rows_then next (all_rows (length next) (map f others)) ≡ whole
+  next_row left x others rows next row whole is good e h =
+      ap (λ l. rows_then l (all_rows (length l) (map f others))) e
+      ∙ ap (λ n. rows_then (rows ++ row ∷ []) (all_rows n (map f others))) (length_more rows row)
+      ∙ one_row (length rows) left x others rows row whole is good h
 
   first_bad : (n : ℕ) (x : X) (xs : List X) (rows : List Y) (whole : Result (List Y) Bad) (error : RowError) (r : Result Y (List ℕ)) → f x ≡ r
       → GivesRows {X = Y} (Err error) (numbered n r) → rows_then rows (all_rows n (map f (x ∷ xs))) ≡ whole → GivesRows {X = List Y} (Err error) whole

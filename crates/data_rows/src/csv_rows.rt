@@ -15,7 +15,7 @@ use crate::header::{Column, Header, KeptColumn};
 use crate::kinds::Kinds;
 use crate::records::{RecordError, field_in, next_record, records_of};
 use crate::{ParseKind, RowError};
-use cell_value::{Cell, Row};
+use cell_value::{Held, Row, SharedText, TextPool};
 use csv::{Reader, StringRecord};
 use std::alloc::Global;
 use text_kit::{OutOfMemory, Seq, Text};
@@ -82,9 +82,10 @@ fn rows_under(
 {
     let mut rows = Seq::new(alloc);
     let mut numbers = Seq::new(alloc);
+    let mut pool = TextPool::new(alloc)?;
     for number in 0..u64::MAX {
         match next_record(reader, record) {
-            Ok(true) => match record_row(alloc, number, header, record, &mut numbers) {
+            Ok(true) => match record_row(alloc, number, header, record, &mut numbers, &mut pool) {
                 Ok(row) => rows.push(row)?,
                 Err(error) => return Err(error),
             },
@@ -95,13 +96,14 @@ fn rows_under(
     Err(RowError::Memory)
 }
 
-// The row of a record, which has a number; `numbers` is room that is used again.
+// The row of a record, which has a number; `numbers` is room that is used again, and `pool` has texts that may come again.
 fn record_row(
     alloc: Global,
     number: u64,
     header: &Header,
     fields: &StringRecord,
     numbers: &mut Seq<NumberRead>,
+    pool: &mut TextPool,
 ) -> Result<Row, RowError>
     requires { list_all is_utf8 (fields_of fields.now) ≡ true }
     ensures { GivesRows result (numbered number (record_row header.now.columns (fields_of fields.now))) }
@@ -118,12 +120,16 @@ fn record_row(
             row: number,
             field: Text::of(alloc, name)?,
         }),
-        None => Ok(Row::from_sorted(cells_from(
+        None => Ok(Row::from_sorted(
             alloc,
-            header.kept.as_slice(),
-            numbers.as_slice(),
-            fields,
-        )?)),
+            cells_from(
+                alloc,
+                pool,
+                header.kept.as_slice(),
+                numbers.as_slice(),
+                fields,
+            )?,
+        )?),
     }
 }
 
@@ -184,14 +190,16 @@ fn number_at(numbers: &[NumberRead], at: usize) -> NumberRead
 // The cell of a kept column in a record.
 fn kept_cell(
     alloc: Global,
+    pool: &mut TextPool,
     column: KeptColumn,
     numbers: &[NumberRead],
     fields: &StringRecord,
-) -> Result<Cell, OutOfMemory>
+) -> Result<Held, OutOfMemory>
     ensures { IfOk result (λ cell. cell ≡ kept_cell (fields_of fields.now) numbers.now column) }
 {
     cell_read(
         alloc,
+        pool,
         column.1,
         text_at(fields, column.0),
         number_at(numbers, column.0),
@@ -201,15 +209,16 @@ fn kept_cell(
 // The cells of kept columns under their names.
 fn cells_from(
     alloc: Global,
-    kept: &[(Text, KeptColumn)],
+    pool: &mut TextPool,
+    kept: &[(SharedText, KeptColumn)],
     numbers: &[NumberRead],
     fields: &StringRecord,
-) -> Result<Vec<(Text, Cell)>, OutOfMemory>
+) -> Result<Vec<(SharedText, Held)>, OutOfMemory>
     ensures { IfOk result (λ cells. cells.items ≡ cells_from (fields_of fields.now) numbers.now kept.now) }
 {
     let mut cells = Vec::with_capacity(alloc, kept.len())?;
     for entry in kept {
-        let cell = kept_cell(alloc, entry.1, numbers, fields)?;
+        let cell = kept_cell(alloc, pool, entry.1, numbers, fields)?;
         cells.push((entry.0.copy()?, cell))?;
     }
     Ok(cells)

@@ -8,6 +8,7 @@ use crate::ParseKind;
 use crate::json_rows::ID_NAME;
 use crate::kinds::Kinds;
 use crate::records::field_in;
+use cell_value::SharedText;
 use csv::StringRecord;
 use std::alloc::Global;
 use std::collections::BTreeMap;
@@ -23,7 +24,7 @@ pub(crate) type KeptColumn = (usize, Option<ParseKind>);
 #[derive(Drop)]
 pub(crate) struct Header {
     pub(crate) columns: Seq<Column>,
-    pub(crate) kept: Seq<(Text, KeptColumn)>,
+    pub(crate) kept: Seq<(SharedText, KeptColumn)>,
     ghost right: { kept ≡ kept_columns columns },
 }
 
@@ -59,7 +60,10 @@ fn columns_of(
 }
 
 // The columns whose cells rows have, in the order of their names: of several columns of one name the last.
-fn kept_columns(alloc: Global, columns: &[Column]) -> Result<Seq<(Text, KeptColumn)>, OutOfMemory>
+fn kept_columns(
+    alloc: Global,
+    columns: &[Column],
+) -> Result<Seq<(SharedText, KeptColumn)>, OutOfMemory>
     ensures { IfOk result (λ kept. kept ≡ kept_columns columns.now) }
 {
     listed(alloc, gathered(alloc, columns)?)
@@ -95,12 +99,13 @@ fn gathered(alloc: Global, columns: &[Column]) -> Result<BTreeMap<String, KeptCo
 fn listed(
     alloc: Global,
     kept: BTreeMap<String, KeptColumn>,
-) -> Result<Seq<(Text, KeptColumn)>, OutOfMemory>
+) -> Result<Seq<(SharedText, KeptColumn)>, OutOfMemory>
     ensures { IfOk result (λ list. list ≡ map named kept.entries) }
 {
     let mut list = Seq::with_capacity(alloc, kept.len())?;
     for (name, column) in kept {
-        list.push((Text::from_string(name), column))?;
+        let name = SharedText::of_text(alloc, Text::from_string(name))?;
+        list.push((name, column))?;
     }
     Ok(list)
 }

@@ -1,16 +1,16 @@
 // Rows that are given as JSON.
-ghost use Rattle.std.specs.Prelude.{◌≡◌, [], ◌∷◌, codes, find, IfOk, ℕ, List, option_copied, map};
+ghost use Rattle.std.specs.Prelude.{◌≡◌, [], ◌∷◌, codes, find, IfOk, ℕ, List, option_copied, length, map};
 ghost use Rattle.json_exact.specs.declared.json.Json.{out-Json};
 ghost use Rattle.cell_value.specs.Row.{row_of};
 ghost use Rattle.data_rows.specs.Outcome.{GivesRows, all_rows, numbered};
-ghost use Rattle.data_rows.specs.JsonRows.{cell_in, is_huge, cells_of, fields_in, row_of_json, bad_field, parsed_fields, json_row, rows_of_json};
+ghost use Rattle.data_rows.specs.JsonRows.{cell_in, is_huge, cells_of, fields_in, row_of_json, bad_field, parsed_fields, json_row, values_of, rows_of_json};
 ghost use Rattle.data_rows.specs.Parse.{parsed_as};
 ghost use Rattle.data_rows.specs.inner.JsonNames.{huge_name};
 
 use crate::cells::text_cell;
 use crate::kinds::Kinds;
 use crate::{ParseKind, RowError};
-use cell_value::{Cell, Row};
+use cell_value::{Held, Row, SharedText, TextPool};
 use json_exact::{Json, Member};
 use std::alloc::Global;
 use std::slice;
@@ -42,13 +42,40 @@ pub fn rows_of_json(
     }
 }
 
+/// The rows of a JSON value as `rows_of_json` gives them. Each value of a list is let go as soon as its row is made.
+pub fn rows_of_tree(
+    alloc: Global,
+    tree: Json,
+    parse: &Seq<(Text, ParseKind)>,
+) -> Result<Seq<Row>, RowError>
+    ensures { GivesRows result (rows_of_json parse.now tree) }
+{
+    let kinds = Kinds::of(alloc, parse.as_slice())?;
+    rows_of_list(alloc, values_of(alloc, tree)?, &kinds)
+}
+
+// The values that are rows.
+fn values_of(alloc: Global, tree: Json) -> Result<Seq<Json>, OutOfMemory>
+    ensures { IfOk result (λ values. values ≡ values_of tree) }
+{
+    match tree {
+        Json::List(items) => Ok(items),
+        other => {
+            let mut values = Seq::new(alloc);
+            values.push(other)?;
+            Ok(values)
+        }
+    }
+}
+
 // The rows of values.
 fn rows_of_values(alloc: Global, trees: &[Json], kinds: &Kinds) -> Result<Seq<Row>, RowError>
     ensures { GivesRows result (all_rows 0 (map (json_row kinds.now.parse.now) trees.now)) }
 {
     let mut rows = Seq::with_capacity(alloc, trees.len())?;
+    let mut pool = TextPool::new(alloc)?;
     for (number, tree) in trees.iter().enumerate() {
-        match json_row(alloc, number as u64, tree, kinds) {
+        match json_row(alloc, &mut pool, number as u64, tree, kinds) {
             Ok(row) => rows.push(row)?,
             Err(error) => return Err(error),
         }
@@ -56,8 +83,42 @@ fn rows_of_values(alloc: Global, trees: &[Json], kinds: &Kinds) -> Result<Seq<Ro
     Ok(rows)
 }
 
+// The rows of values that are let go in turn.
+fn rows_of_list(alloc: Global, trees: Seq<Json>, kinds: &Kinds) -> Result<Seq<Row>, RowError>
+    ensures { GivesRows result (all_rows 0 (map (json_row kinds.now.parse.now) trees)) }
+{
+    let mut rows = Seq::with_capacity(alloc, trees.len())?;
+    let mut pool = TextPool::new(alloc)?;
+    for tree in trees.into_vec() {
+        match row_of_tree(alloc, &mut pool, &rows, tree, kinds) {
+            Ok(row) => rows.push(row)?,
+            Err(why) => return Err(why),
+        }
+    }
+    Ok(rows)
+}
+
+// The row of a value, which has the number of the rows before it. The value is let go.
+fn row_of_tree(
+    alloc: Global,
+    pool: &mut TextPool,
+    before: &Seq<Row>,
+    tree: Json,
+    kinds: &Kinds,
+) -> Result<Row, RowError>
+    ensures { GivesRows result (numbered (length before.now) (json_row kinds.now.parse.now tree)) }
+{
+    json_row(alloc, pool, before.len() as u64, &tree, kinds)
+}
+
 // The row of a value, which has a number.
-fn json_row(alloc: Global, number: u64, tree: &Json, kinds: &Kinds) -> Result<Row, RowError>
+fn json_row(
+    alloc: Global,
+    pool: &mut TextPool,
+    number: u64,
+    tree: &Json,
+    kinds: &Kinds,
+) -> Result<Row, RowError>
     ensures { GivesRows result (numbered number (json_row kinds.now.parse.now tree.now)) }
 {
     match bad_field(tree) {
@@ -65,7 +126,7 @@ fn json_row(alloc: Global, number: u64, tree: &Json, kinds: &Kinds) -> Result<Ro
             row: number,
             field: Text::of(alloc, field)?,
         }),
-        None => Ok(Row::from_entries(alloc, fields_of(alloc, tree, kinds)?)?),
+        None => Ok(Row::from_shared(alloc, fields_of(alloc, pool, tree, kinds)?)?),
     }
 }
 
@@ -76,61 +137,75 @@ pub fn row_of_json(alloc: Global, tree: &Json) -> Result<Row, OutOfMemory>
     ensures { IfOk result (λ row. row ≡ row_of_json tree.now) }
 {
     let kinds = Kinds::of(alloc, &[])?;
-    Row::from_entries(alloc, fields_of(alloc, tree, &kinds)?)
+    let mut pool = TextPool::empty(alloc);
+    Row::from_shared(alloc, fields_of(alloc, &mut pool, tree, &kinds)?)
 }
 
 // The cells of a value under their names, parsed.
-fn fields_of(alloc: Global, tree: &Json, kinds: &Kinds) -> Result<Vec<(Text, Cell)>, OutOfMemory>
+fn fields_of(
+    alloc: Global,
+    pool: &mut TextPool,
+    tree: &Json,
+    kinds: &Kinds,
+) -> Result<Vec<(SharedText, Held)>, OutOfMemory>
     ensures { IfOk result (λ cells. cells.items ≡ parsed_fields kinds.now.parse.now (fields_in (out-Json tree.now))) }
 {
     match tree {
-        Json::Object(members) => cells_of(alloc, members.as_slice(), kinds),
+        Json::Object(members) => cells_of(alloc, pool, members.as_slice(), kinds),
         Json::Null | Json::Flag(_) | Json::Number(_) | Json::Huge | Json::Text(_) | Json::List(_) =>
-            data_field(alloc, kinds.of_field("data"), tree),
+            data_field(alloc, pool, kinds.of_field("data"), tree),
     }
 }
 
 // A value that stands under `data`, parsed.
 fn data_field(
     alloc: Global,
+    pool: &mut TextPool,
     kind: Option<ParseKind>,
     tree: &Json,
-) -> Result<Vec<(Text, Cell)>, OutOfMemory>
+) -> Result<Vec<(SharedText, Held)>, OutOfMemory>
     ensures { IfOk result (λ cells. cells.items ≡ (codes "data", parsed_as kind (cell_in (out-Json tree.now))) ∷ []) }
 {
     let mut cells = Vec::new(alloc);
-    cells.push((Text::of(alloc, "data")?, cell_in(alloc, kind, tree)?))?;
+    let name = pool.shared(alloc, "data")?;
+    cells.push((name, cell_in(alloc, pool, kind, tree)?))?;
     Ok(cells)
 }
 
 // The cells that members give to a row, under their names, parsed.
 fn cells_of(
     alloc: Global,
+    pool: &mut TextPool,
     members: &[Member],
     kinds: &Kinds,
-) -> Result<Vec<(Text, Cell)>, OutOfMemory>
+) -> Result<Vec<(SharedText, Held)>, OutOfMemory>
     ensures { IfOk result (λ cells. cells.items ≡ parsed_fields kinds.now.parse.now (cells_of members.now)) }
 {
     let mut cells = Vec::with_capacity(alloc, members.len())?;
     for member in members {
         let name = member.name.as_str();
         if name != ID_NAME {
-            let cell = cell_in(alloc, kinds.of_field(name), &member.value)?;
-            cells.push((member.name.copy()?, cell))?;
+            let cell = cell_in(alloc, pool, kinds.of_field(name), &member.value)?;
+            cells.push((pool.shared(alloc, name)?, cell))?;
         }
     }
     Ok(cells)
 }
 
 // The cell of a value, parsed; a list or an object is read as null.
-fn cell_in(alloc: Global, kind: Option<ParseKind>, tree: &Json) -> Result<Cell, OutOfMemory>
+fn cell_in(
+    alloc: Global,
+    pool: &mut TextPool,
+    kind: Option<ParseKind>,
+    tree: &Json,
+) -> Result<Held, OutOfMemory>
     ensures { IfOk result (λ cell. cell ≡ parsed_as kind (cell_in (out-Json tree.now))) }
 {
     match tree {
-        Json::Flag(flag) => Ok(Cell::Flag(*flag)),
-        Json::Number(number) => Ok(Cell::Number(*number)),
-        Json::Text(text) => text_cell(alloc, kind, text.as_str()),
-        Json::Null | Json::Huge | Json::List(_) | Json::Object(_) => Ok(Cell::Null),
+        Json::Flag(flag) => Ok(Held::of_flag(*flag)),
+        Json::Number(number) => Held::of_number(alloc, *number),
+        Json::Text(text) => text_cell(alloc, pool, kind, text.as_str()),
+        Json::Null | Json::Huge | Json::List(_) | Json::Object(_) => Ok(Held::null()),
     }
 }
 

@@ -11,5 +11,5 @@ mod records;
 
 pub use csv_rows::rows_of_csv;
 pub use error::RowError;
-pub use json_rows::{bad_field, row_of_json, rows_of_json};
+pub use json_rows::{bad_field, row_of_json, rows_of_json, rows_of_tree};
 pub use kinds::ParseKind;

@@ -48,7 +48,7 @@ impl RowReader for PlainRow<'_> {
             return Ok(Cell::Number(id_number(self.keyed.key.id)));
         }
         match self.keyed.row.get(name) {
-            Some(cell) => cell.copy(),
+            Some(cell) => cell.cell(),
             None => Ok(Cell::Null),
         }
     }

@@ -5,7 +5,7 @@ ghost use Rattle.std.specs.Prelude.{◌≡◌, IfOk};
 ghost use Rattle.plain_rows.specs.Rows.{AreRows};
 
 use case_table::time_unit_of;
-use cell_value::{Key, Keyed, Row, Rows};
+use cell_value::{Key, Keyed, Row, Rows, SharedText};
 use expr_eval::{EvalError, NoParams};
 use expr_syntax::{Expr, ExprError, read};
 use plain_rows::{TimeOf, calculate, filter, time_unit};
@@ -53,13 +53,13 @@ at = utc(1970, 5); unit year at at b; datum.at == 0 && datum.b == utc(1971, 0) =
 unit year _vgsid_ a b; datum.a == 0 && datum.b == utc(1971, 0) => 1 2\n\
 at = 0; unit year at _vgsid_ b; datum._vgsid_ == 1 && datum.b == utc(1971, 0) => 1\n";
 
-fn bare(alloc: Global, id: u64) -> Keyed
-    ensures { result.key ≡ record { id = id; branch = 0 } }
+fn bare(alloc: Global, id: u64) -> Result<Keyed, OutOfMemory>
+    ensures { IfOk result (λ keyed. keyed.key ≡ record { id = id; branch = 0 }) }
 {
-    Keyed {
+    Ok(Keyed {
         key: Key { id, branch: 0 },
-        row: Row::new(alloc),
-    }
+        row: Row::new(alloc)?,
+    })
 }
 
 #[tactic(auto, using(crate::proofs::TestRows::three_are_rows))]
@@ -67,9 +67,9 @@ fn three_rows(alloc: Global) -> Result<Rows, OutOfMemory>
     ensures { IfOk result AreRows }
 {
     let mut rows = Seq::new(alloc);
-    rows.push(bare(alloc, 1))?;
-    rows.push(bare(alloc, 2))?;
-    rows.push(bare(alloc, 1_000_000_000_000_000))?;
+    rows.push(bare(alloc, 1)?)?;
+    rows.push(bare(alloc, 2)?)?;
+    rows.push(bare(alloc, 1_000_000_000_000_000)?)?;
     Ok(rows)
 }
 
@@ -125,8 +125,8 @@ fn time_of(alloc: Global, words: &str) -> Result<TimeOf, Stop> {
     Ok(TimeOf {
         field: Text::of(alloc, field)?,
         unit,
-        out: Text::of(alloc, out)?,
-        out_end: Text::of(alloc, out_end)?,
+        out: SharedText::of(alloc, out)?,
+        out_end: SharedText::of(alloc, out_end)?,
     })
 }
 

@@ -505,7 +505,7 @@ fn cells_of_all_kinds_are_like_each_other(rt: HostRuntime) -> Result<(), Fail> {
 fn row_seven(alloc: Global) -> Result<Keyed, OutOfMemory>
     ensures { IfOk result (λ row. row.key.id ≤ greatest_id) }
 {
-    let mut row = Row::new(alloc);
+    let mut row = Row::new(alloc)?;
     if let Ok(number) = Num::read_decimal(b"1.5") {
         row.set(Text::of(alloc, "a")?, Cell::Number(number))?;
     }

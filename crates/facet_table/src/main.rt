@@ -57,7 +57,7 @@ fn pair_by(word: &str) -> Cell {
 
 // A row by its cells.
 fn row_by(alloc: Global, word: &str) -> Result<Row, OutOfMemory> {
-    let mut row = Row::new(alloc);
+    let mut row = Row::new(alloc)?;
     for part in word.split('|') {
         if let Some((name, cell)) = part.split_once('=') {
             row.set(Text::of(alloc, name)?, cell_by(alloc, cell)?)?;

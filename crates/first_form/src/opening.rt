@@ -32,7 +32,7 @@ fn value_row(
 ) -> Result<Keyed, OutOfMemory>
     ensures { IfOk result (λ keyed. keyed ≡ value_row x.now y.now (id, value.now)) }
 {
-    let mut row = Row::new(alloc);
+    let mut row = Row::new(alloc)?;
     set_cell(&mut row, x, Cell::Text(value.category.copy()?))?;
     set_cell(&mut row, y, Cell::Number(value.amount))?;
     Ok(Keyed {

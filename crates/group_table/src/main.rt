@@ -6,7 +6,7 @@
 ghost use Rattle.std.specs.Prelude.{◌≡◌, ◌+◌, ◌<◌, ◌^◌, length, IfOk, OnOk};
 ghost use Rattle.group_table.specs.Rows.{AreNumbered};
 
-use cell_value::{Cell, Key, Keyed, Row, Rows};
+use cell_value::{Cell, Key, Keyed, Row, Rows, SharedText};
 use expr_eval::EvalError;
 use fixed_num::Num;
 use plain_groups::{aggregate, join_aggregate};
@@ -54,7 +54,7 @@ fn pair_by(word: &str) -> Cell {
 
 // A row by its cells.
 fn row_by(alloc: Global, word: &str) -> Result<Row, OutOfMemory> {
-    let mut row = Row::new(alloc);
+    let mut row = Row::new(alloc)?;
     for part in word.split('|') {
         if let Some((name, cell)) = part.split_once('=') {
             row.set(Text::of(alloc, name)?, cell_by(alloc, cell)?)?;
@@ -120,7 +120,7 @@ fn ops_of(alloc: Global, list: &str) -> Result<Seq<OpOf>, OutOfMemory> {
         if let Some((code, names)) = word.split_once(':') {
             if let (Ok(op), Some((field, out))) = (code.parse::<u16>(), names.split_once(':')) {
                 let field = field_of(alloc, field)?;
-                let out = Text::of(alloc, out)?;
+                let out = SharedText::of(alloc, out)?;
                 ops.push(OpOf { op, field, out })?;
             }
         }
@@ -162,7 +162,7 @@ fn say_row(text: &mut Text, row: &Keyed) -> Result<(), OutOfMemory> {
         text.push_str("|")?;
         text.push_str(name.as_str())?;
         text.push_str("=")?;
-        say_cell(text, cell)?;
+        say_cell(text, &cell.cell()?)?;
     }
     text.push_str(";")
 }

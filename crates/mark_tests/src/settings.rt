@@ -163,7 +163,7 @@ pub fn own_scales(alloc: Global) -> Result<ScaleSet, OutOfMemory>
 fn row(alloc: Global, id: u64, a: &str, word: &str, amount: Cell) -> Result<Keyed, OutOfMemory>
     ensures { IfOk result (λ keyed. keyed.key ≡ record { id = id; branch = 0 }) }
 {
-    let mut row = Row::new(alloc);
+    let mut row = Row::new(alloc)?;
     row.set(Text::of(alloc, "a")?, text(alloc, a)?)?;
     row.set(Text::of(alloc, "word")?, text(alloc, word)?)?;
     row.set(Text::of(alloc, "amount")?, amount)?;

@@ -6,7 +6,7 @@
 ghost use Rattle.std.specs.Prelude.{◌+◌, ◌<◌, ◌^◌, length, IfOk, OnOk};
 ghost use Rattle.order_table.specs.Rows.{AreNumbered};
 
-use cell_value::{Cell, Key, Keyed, Row, Rows};
+use cell_value::{Cell, Key, Keyed, Row, Rows, SharedText};
 use expr_eval::EvalError;
 use fixed_num::Num;
 use plain_rows::{Offset, SortBy, StackOf};
@@ -54,7 +54,7 @@ fn pair_by(word: &str) -> Cell {
 
 // A row by its cells.
 fn row_by(alloc: Global, word: &str) -> Result<Row, OutOfMemory> {
-    let mut row = Row::new(alloc);
+    let mut row = Row::new(alloc)?;
     for part in word.split('|') {
         if let Some((name, cell)) = part.split_once('=') {
             row.set(Text::of(alloc, name)?, cell_by(alloc, cell)?)?;
@@ -165,7 +165,7 @@ fn say_row(text: &mut Text, row: &Keyed) -> Result<(), OutOfMemory> {
         text.push_str("|")?;
         text.push_str(name.as_str())?;
         text.push_str("=")?;
-        say_cell(text, cell)?;
+        say_cell(text, &cell.cell()?)?;
     }
     text.push_str(";")
 }
@@ -207,8 +207,8 @@ fn found(alloc: Global, question: &str) -> Result<Text, OutOfMemory> {
     let sort = sort_of(alloc, sort)?;
     let offset = offset_of(offset);
     let field = Text::of(alloc, field)?;
-    let out = Text::of(alloc, out)?;
-    let out_end = Text::of(alloc, out_end)?;
+    let out = SharedText::of(alloc, out)?;
+    let out_end = SharedText::of(alloc, out_end)?;
     let s = StackOf {
         field,
         groupby,

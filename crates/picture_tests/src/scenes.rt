@@ -73,7 +73,7 @@ fn items(alloc: Global) -> Result<Seq<Item>, Fail> {
 }
 
 fn facet(alloc: Global) -> Result<Row, Fail> {
-    let mut facet = Row::new(alloc);
+    let mut facet = Row::new(alloc)?;
     facet.set(Text::of(alloc, "c")?, Cell::Number(pixels(3)))?;
     Ok(facet)
 }

@@ -11,7 +11,8 @@ use Rattle.plain_rows.specs.declared.transforms.BinOf.{BinOf}
 use Rattle.plain_rows.specs.Answers.{GivesRows}
 use Rattle.plain_rows.specs.Rows.{AreRows, AreKeys, keys_of}
 use Rattle.plain_rows.specs.Calculations.{with_cell}
-use Rattle.plain_rows.specs.TimeUnits.{number_in, start_cell, end_cell}
+use Rattle.cell_value.specs.Cell.{number_in}
+use Rattle.plain_rows.specs.TimeUnits.{start_cell, end_cell}
 use Rattle.plain_rows.proofs.Readings.{reads_so, reads_with}
 use Rattle.plain_bins.specs.declared.bins.Bins.{Bins}
 use Rattle.plain_bins.specs.Extents.{numbers_of, extent_of}

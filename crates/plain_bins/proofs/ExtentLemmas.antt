@@ -5,7 +5,7 @@ use Rattle.std.specs.Int.{int_min, int_max}
 use Rattle.std.specs.List.{cons_option}
 use Rattle.cell_value.specs.declared.state.Keyed.{Keyed}
 use Rattle.cell_value.specs.Datum.{cell_at}
-use Rattle.plain_rows.specs.TimeUnits.{number_in}
+use Rattle.cell_value.specs.Cell.{number_in}
 use Rattle.plain_bins.specs.Extents.{numbers_of, extent_of}
 use Rattle.plain_bins.specs.inner.Wider.{widened, wider, with_row}
 

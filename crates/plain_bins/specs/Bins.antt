@@ -5,7 +5,7 @@ use Rattle.std.specs.Option.{option_and_then}
 use Rattle.fixed_num.specs.Number.{limit, floored, ceiled, floor_quotient}
 use Rattle.fixed_num.specs.Ranges.{◌>>=◌, in_range}
 use Rattle.cell_value.specs.declared.cell.Cell.{Cell}
-use Rattle.plain_rows.specs.TimeUnits.{number_in}
+use Rattle.cell_value.specs.Cell.{number_in}
 use Rattle.plain_rows.specs.declared.transforms.BinOf.{BinOf}
 use Rattle.plain_bins.specs.declared.bins.Bins.{Bins}
 use Rattle.plain_bins.specs.Steps.{step_of}

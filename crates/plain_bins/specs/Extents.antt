@@ -3,7 +3,7 @@ use Rattle.std.specs.Prelude.{◌≡◌, refl, ℕ, ℤ, pos, neg_ℤ, Option, S
 use Rattle.std.specs.List.{filter_map}
 use Rattle.std.specs.Int.{int_min, int_max}
 use Rattle.cell_value.specs.Datum.{CellAt}
-use Rattle.plain_rows.specs.TimeUnits.{number_in}
+use Rattle.cell_value.specs.Cell.{number_in}
 
 -- the numbers that rows read under a name
 abbrev pub numbers_of : {X : Type 0} → (X → CellAt) → List ℕ → List X → List ℤ

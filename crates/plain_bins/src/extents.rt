@@ -2,14 +2,14 @@
 ghost use Rattle.std.specs.Prelude.{◌≡◌, ◌≤◌, ◌≤ℤ◌, ◌*◌, pos, Some};
 ghost use Rattle.std.specs.Int.{int_min, int_max};
 ghost use Rattle.fixed_num.specs.Number.{million};
+ghost use Rattle.cell_value.specs.Cell.{number_in};
 ghost use Rattle.cell_value.specs.State.{greatest_id};
 ghost use Rattle.cell_value.specs.Datum.{cell_at};
 ghost use Rattle.plain_rows.specs.Rows.{AreRows};
-ghost use Rattle.plain_rows.specs.TimeUnits.{number_in};
 ghost use Rattle.plain_bins.specs.Extents.{numbers_of, extent_of};
 ghost use Rattle.plain_bins.specs.inner.Wider.{widened, wider};
 
-use cell_value::{Cell, Keyed};
+use cell_value::Keyed;
 use fixed_num::Num;
 
 // The id of a row as a number.
@@ -18,16 +18,6 @@ fn id_number(id: u64) -> Option<Num>
     ensures { result ≡ Some (pos (id * million)) }
 {
     Num::of_millionths(i128::from(id) * 1_000_000)
-}
-
-// The number of a cell.
-fn number_in(cell: &Cell) -> Option<Num>
-    ensures { result ≡ number_in cell.now }
-{
-    match cell {
-        Cell::Number(number) => Some(*number),
-        _ => None,
-    }
 }
 
 /// The number that a row reads under a name; None where it reads none.
@@ -39,7 +29,7 @@ pub fn number_under(row: &Keyed, name: &str) -> Option<Num>
         return id_number(row.key.id);
     }
     match row.row.get(name) {
-        Some(cell) => number_in(cell),
+        Some(cell) => cell.number(),
         None => None,
     }
 }

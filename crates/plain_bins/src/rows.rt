@@ -14,7 +14,7 @@ ghost use Rattle.plain_bins.specs.inner.Sound.{AreBins};
 
 use crate::bins::{Bins, bin_in, bins_of};
 use crate::extents::{extent_of, number_under};
-use cell_value::{Cell, Keyed, Rows};
+use cell_value::{Cell, Held, Keyed, Rows};
 use expr_eval::EvalError;
 use fixed_num::Num;
 use plain_rows::BinOf;
@@ -52,22 +52,29 @@ fn bin_of(bins: Option<Bins>, row: &Keyed, name: &str) -> Option<(Num, Num)>
 }
 
 // A copy of a row with a start and an end.
-fn with_ends(row: &Keyed, b: &BinOf, bin: Option<(Num, Num)>) -> Result<Keyed, OutOfMemory>
+fn with_ends(
+    alloc: Global,
+    row: &Keyed,
+    b: &BinOf,
+    bin: Option<(Num, Num)>,
+) -> Result<Keyed, OutOfMemory>
     ensures { IfOk result (λ copy. copy ≡ with_cell b.now.out_end (end_cell bin) (with_cell b.now.out (start_cell bin) row.now)) }
 {
     let mut copy = row.copy()?;
-    copy.row.set(b.out.copy()?, start_cell(bin))?;
-    copy.row.set(b.out_end.copy()?, end_cell(bin))?;
+    copy.row
+        .set_shared(alloc, b.out.copy()?, Held::of(alloc, start_cell(bin))?)?;
+    copy.row
+        .set_shared(alloc, b.out_end.copy()?, Held::of(alloc, end_cell(bin))?)?;
     Ok(copy)
 }
 
 // A copy of a row with the start and the end of the bin of its field.
-fn with_bin(row: &Keyed, b: &BinOf, bins: Option<Bins>) -> Result<Keyed, OutOfMemory>
+fn with_bin(alloc: Global, row: &Keyed, b: &BinOf, bins: Option<Bins>) -> Result<Keyed, OutOfMemory>
     requires id { row.now.key.id ≤ greatest_id }
     requires are { IfSome bins AreBins }
     ensures { IfOk result (λ copy. copy ≡ with_bin cell_at with_cell b.now bins row.now) }
 {
-    with_ends(row, b, bin_of(bins, row, b.field.as_str()))
+    with_ends(alloc, row, b, bin_of(bins, row, b.field.as_str()))
 }
 
 // Copies of the rows, each with the start and the end of the bin of its field.
@@ -83,7 +90,7 @@ fn in_bins(
 {
     let mut out = Seq::with_capacity(alloc, rows.len())?;
     for row in rows {
-        out.push(with_bin(row, b, bins)?)?;
+        out.push(with_bin(alloc, row, b, bins)?)?;
     }
     Ok(out)
 }

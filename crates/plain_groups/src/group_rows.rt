@@ -12,7 +12,7 @@ ghost use Rattle.plain_groups.specs.inner.GroupPlaces.{group_at};
 
 use crate::aggregates::aggregate_of;
 use crate::places::{heads, leaders, members};
-use cell_value::{Cell, Keyed, Row, Rows};
+use cell_value::{Cell, Held, Keyed, Row, Rows, SharedText};
 use expr_eval::EvalError;
 use plain_rows::{GroupOf, OpOf, cell_of};
 use std::alloc::Global;
@@ -53,7 +53,7 @@ fn op_cell(
     rows: &[Keyed],
     places: &[usize],
     op: &OpOf,
-) -> Result<(Text, Cell), EvalError>
+) -> Result<(SharedText, Held), EvalError>
     requires rows { AreRows rows.now }
     requires within { All (λ place. place < length rows.now) places.now }
     requires few { length places.now ≤ most_listed }
@@ -61,7 +61,7 @@ fn op_cell(
 {
     let cells = column(alloc, rows, places, op)?;
     let cell = aggregate_of(alloc, op.op, cells.as_slice())?;
-    Ok((op.out.copy()?, cell))
+    Ok((op.out.copy()?, Held::of(alloc, cell)?))
 }
 
 /// What several operations give over the rows at places.
@@ -70,7 +70,7 @@ pub(crate) fn op_cells(
     rows: &[Keyed],
     places: &[usize],
     ops: &[OpOf],
-) -> Result<Seq<(Text, Cell)>, EvalError>
+) -> Result<Seq<(SharedText, Held)>, EvalError>
     requires rows { AreRows rows.now }
     requires within { All (λ place. place < length rows.now) places.now }
     requires few { length places.now ≤ most_listed }
@@ -92,13 +92,14 @@ fn field_cells(
     row: &Keyed,
     fields: &[Text],
     room: usize,
-) -> Result<Seq<(Text, Cell)>, OutOfMemory>
+) -> Result<Seq<(SharedText, Held)>, OutOfMemory>
     requires { row.now.key.id ≤ greatest_id }
     ensures { IfOk result (λ cells. cells ≡ field_cells (cell_at row.now) fields.now) }
 {
     let mut cells = Seq::with_capacity(alloc, fields.len().saturating_add(room))?;
     for field in fields {
-        cells.push((field.copy()?, cell_of(row, field.as_str())?))?;
+        let name = SharedText::of(alloc, field.as_str())?;
+        cells.push((name, Held::of(alloc, cell_of(row, field.as_str())?)?))?;
     }
     Ok(cells)
 }
@@ -108,7 +109,7 @@ fn group_row(
     alloc: Global,
     g: &GroupOf,
     first: &Keyed,
-    given: Seq<(Text, Cell)>,
+    given: Seq<(SharedText, Held)>,
 ) -> Result<Keyed, OutOfMemory>
     requires { first.now.key.id ≤ greatest_id }
     ensures { IfOk result (λ row. row ≡ group_row g.now first.now given) }
@@ -117,7 +118,7 @@ fn group_row(
     cells.append(given)?;
     Ok(Keyed {
         key: first.key,
-        row: Row::from_entries(alloc, cells.into_vec())?,
+        row: Row::from_shared(alloc, cells.into_vec())?,
     })
 }
 

@@ -11,11 +11,11 @@ ghost use Rattle.plain_groups.specs.inner.GroupPlaces.{AreGiven, joined_rows};
 
 use crate::group_rows::op_cells;
 use crate::places::{leaders, members};
-use cell_value::{Cell, Keyed, Rows};
+use cell_value::{Held, Keyed, Rows, SharedText};
 use expr_eval::EvalError;
 use plain_rows::{GroupOf, OpOf, with_cells};
 use std::alloc::Global;
-use text_kit::{OutOfMemory, Seq, Text, copy_list};
+use text_kit::{OutOfMemory, Seq, copy_list};
 
 // What several operations give over the rows at places, where that is wanted.
 fn given_at(
@@ -24,7 +24,7 @@ fn given_at(
     wanted: bool,
     places: &[usize],
     ops: &[OpOf],
-) -> Result<Seq<(Text, Cell)>, EvalError>
+) -> Result<Seq<(SharedText, Held)>, EvalError>
     requires rows { AreRows rows.now }
     requires within { All (λ place. place < length rows.now) places.now }
     requires few { length places.now ≤ most_listed }
@@ -44,7 +44,7 @@ fn given(
     leaders: &[usize],
     members: &[Seq<usize>],
     ops: &[OpOf],
-) -> Result<Seq<Seq<(Text, Cell)>>, EvalError>
+) -> Result<Seq<Seq<(SharedText, Held)>>, EvalError>
     requires rows { AreRows rows.now }
     requires len { length leaders.now ≡ length members.now }
     requires within { (p : ℕ) → p < length members.now → All (λ place. place < length rows.now) (slice_index_or members.now p []) }
@@ -62,10 +62,14 @@ fn given(
 }
 
 // A copy of a row with copies of cells put in.
-fn joined_row(alloc: Global, row: &Keyed, given: &Seq<(Text, Cell)>) -> Result<Keyed, OutOfMemory>
+fn joined_row(
+    alloc: Global,
+    row: &Keyed,
+    given: &Seq<(SharedText, Held)>,
+) -> Result<Keyed, OutOfMemory>
     ensures { IfOk result (λ joined. joined ≡ with_cells row.now given.now) }
 {
-    with_cells(row, copy_list(alloc, given.as_slice())?)
+    with_cells(alloc, row, copy_list(alloc, given.as_slice())?)
 }
 
 // The rows, each with what is given at the place of its leader.
@@ -73,7 +77,7 @@ fn joined_rows(
     alloc: Global,
     rows: &[Keyed],
     leaders: &[usize],
-    given: &[Seq<(Text, Cell)>],
+    given: &[Seq<(SharedText, Held)>],
 ) -> Result<Rows, OutOfMemory>
     requires len { length leaders.now ≡ length rows.now }
     requires within { All (λ leader. leader < length given.now) leaders.now }

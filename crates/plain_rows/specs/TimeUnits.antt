@@ -4,16 +4,12 @@ use Rattle.std.specs.Option.{option_and_then, option_map_or}
 use Rattle.cell_value.specs.declared.state.Keyed.{Keyed}
 use Rattle.cell_value.specs.declared.cell.Cell.{Cell}
 use Rattle.cell_value.specs.declared.cell.Cell.TheVariants.{Null, Flag, Number}
+use Rattle.cell_value.specs.Cell.{number_in}
 use Rattle.cell_value.specs.Datum.{Datum, cell_at, datum_with}
 use Rattle.case_table.specs.TimeUnits.{unit_rule}
 use Rattle.time_calc.specs.TimeUnits.{span_of}
 use Rattle.plain_rows.specs.declared.transforms.TimeOf.{TimeOf}
 use Rattle.plain_rows.specs.Calculations.{with_cell}
-
--- the number of a cell; none where it is no number
-abbrev pub number_in : Cell → Option ℤ
-number_in (Number n) = Some n
-number_in _ = None
 
 -- the start and the end of the time unit of a code at a cell; none where the cell is no number in range, or the code no time unit's
 abbrev pub unit_span : ℕ → Cell → Option (ℤ × ℤ)

@@ -9,18 +9,19 @@ ghost use Rattle.plain_rows.specs.Answers.{GivesRows};
 ghost use Rattle.plain_rows.specs.Calculations.{with_cell, calculated, data_calculated};
 
 use crate::eval_row;
-use cell_value::{Cell, Keyed, Rows};
+use cell_value::{Cell, Held, Keyed, Rows, SharedText};
 use expr_eval::{EvalError, ParamReader};
 use expr_syntax::Expr;
 use std::alloc::Global;
-use text_kit::{OutOfMemory, Seq, Text};
+use text_kit::{OutOfMemory, Seq};
 
 // A copy of a row with a cell under a name.
-fn copy_with(alloc: Global, row: &Keyed, out: &str, cell: Cell) -> Result<Keyed, OutOfMemory>
+fn copy_with(alloc: Global, row: &Keyed, out: &SharedText, cell: Cell) -> Result<Keyed, OutOfMemory>
     ensures { IfOk result (λ copy. copy ≡ with_cell out.now cell row.now) }
 {
     let mut copy = row.copy()?;
-    copy.row.set(Text::of(alloc, out)?, cell)?;
+    copy.row
+        .set_shared(alloc, out.copy()?, Held::of(alloc, cell)?)?;
     Ok(copy)
 }
 
@@ -29,7 +30,7 @@ fn calculated_row<P: ParamReader>(
     alloc: Global,
     row: &Keyed,
     e: &Expr,
-    out: &str,
+    out: &SharedText,
     params: &P,
 ) -> Result<Keyed, EvalError>
     requires { row.now.key.id ≤ greatest_id }
@@ -45,7 +46,7 @@ fn calculated_rows<P: ParamReader>(
     alloc: Global,
     rows: &[Keyed],
     e: &Expr,
-    name: &str,
+    name: &SharedText,
     params: &P,
 ) -> Result<Rows, EvalError>
     requires { AreRows rows.now }
@@ -77,5 +78,6 @@ pub fn calculate<P: ParamReader>(
     ensures read { GivesRows result (data_calculated (P.values params.now) e.now out.now (map datum_of rows.now)) }
     ensures rows { IfOk result AreRows }
 {
-    calculated_rows(alloc, rows.as_slice(), e, out, params)
+    let name = SharedText::of(alloc, out)?;
+    calculated_rows(alloc, rows.as_slice(), e, &name, params)
 }

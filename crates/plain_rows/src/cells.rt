@@ -4,8 +4,9 @@ ghost use Rattle.fixed_num.specs.Number.{million};
 ghost use Rattle.cell_value.specs.State.{greatest_id};
 ghost use Rattle.cell_value.specs.Datum.{cell_at};
 
-use cell_value::{Cell, Keyed};
+use cell_value::{Cell, Held, Keyed};
 use fixed_num::Num;
+use std::alloc::Global;
 use text_kit::OutOfMemory;
 
 // An id as a number.
@@ -28,7 +29,21 @@ pub fn cell_of(keyed: &Keyed, name: &str) -> Result<Cell, OutOfMemory>
         return Ok(Cell::Number(id_number(keyed.key.id)));
     }
     match keyed.row.get(name) {
-        Some(cell) => cell.copy(),
+        Some(cell) => cell.cell(),
         None => Ok(Cell::Null),
+    }
+}
+
+/// The cell that a row reads under a name, as a row holds it, with its text shared.
+pub(crate) fn held_of(alloc: Global, keyed: &Keyed, name: &str) -> Result<Held, OutOfMemory>
+    requires { keyed.now.key.id ≤ greatest_id }
+    ensures { IfOk result (λ cell. cell ≡ cell_at keyed.now name.now) }
+{
+    if name == "_vgsid_" {
+        return Held::of_number(alloc, id_number(keyed.key.id));
+    }
+    match keyed.row.get(name) {
+        Some(cell) => cell.copy(alloc),
+        None => Ok(Held::null()),
     }
 }

@@ -7,10 +7,10 @@ ghost use Rattle.plain_rows.specs.Rows.{AreRows, most_listed, keys_of};
 ghost use Rattle.plain_rows.specs.Folds.{folded_row, folded_of, folded, data_folded};
 
 use crate::FoldOf;
-use crate::cells::cell_of;
-use cell_value::{Cell, Key, Keyed, Rows};
+use crate::cells::held_of;
+use cell_value::{Held, Key, Keyed, Rows, SharedText};
 use std::alloc::Global;
-use text_kit::{OutOfMemory, Seq, Text};
+use text_kit::{OutOfMemory, Seq};
 
 /// For each row, in order, a row for each field, in order: a copy of it with the field's name under `out_key` and then the row's cell
 /// of the field under `out_value`. The row for field `i` of `n`, counted from 0, has the row's id and the branch `b * n + i`, where `b`
@@ -48,7 +48,7 @@ fn push_folded(alloc: Global, out: &mut Rows, row: &Keyed, f: &FoldOf) -> Result
     ensures { OnOk result (out.new ≡ out.old ++ folded_of f.now row.now) }
 {
     for (at, field) in f.fields.as_slice().iter().enumerate() {
-        out.push(folded_row(alloc, row, f, at as u64, field.as_str())?)?;
+        out.push(folded_row(alloc, row, f, at as u64, field)?)?;
     }
     Ok(())
 }
@@ -59,17 +59,17 @@ fn folded_row(
     row: &Keyed,
     f: &FoldOf,
     at: u64,
-    field: &str,
+    field: &SharedText,
 ) -> Result<Keyed, OutOfMemory>
     requires id { row.now.key.id ≤ greatest_id }
     requires branch { row.now.key.branch * length f.now.fields + at < 2 ^ 32 }
     ensures { IfOk result (λ made. made ≡ folded_row f.now row.now at field.now) }
 {
-    let value = cell_of(row, field)?;
+    let value = held_of(alloc, row, field.as_str())?;
     let mut made = row.copy()?;
     made.row
-        .set(f.out_key.copy()?, Cell::Text(Text::of(alloc, field)?))?;
-    made.row.set(f.out_value.copy()?, value)?;
+        .set_shared(alloc, f.out_key.copy()?, Held::of_text(field.copy()?))?;
+    made.row.set_shared(alloc, f.out_value.copy()?, value)?;
     let branch = u64::from(row.key.branch) * f.fields.len() as u64 + at;
     made.key = Key {
         id: row.key.id,

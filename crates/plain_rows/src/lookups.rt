@@ -9,11 +9,11 @@ ghost use Rattle.plain_rows.specs.Lookups.{last_with, taken, taken_by, with_cell
 ghost use Rattle.plain_rows.specs.inner.Places.{place_row, ArePlaces};
 
 use crate::LookupOf;
-use crate::cells::cell_of;
-use cell_value::{Cell, Keyed, Rows};
+use crate::cells::{cell_of, held_of};
+use cell_value::{Cell, Held, Keyed, Rows, SharedText};
 use std::alloc::Global;
 use std::collections::BTreeMap;
-use text_kit::{OutOfMemory, Seq, Text};
+use text_kit::{OutOfMemory, Seq};
 
 /// The rows, in order, each with cells of the last row of `other` whose cell of `key_there` is the same as the row's cell of
 /// `key_here`: the cell of each of `fields`, null where that row lacks it, under the name in its place in `outs`. Where no row of
@@ -48,7 +48,7 @@ fn looked_up(
     let mut out = Seq::with_capacity(alloc, rows.len())?;
     for row in rows {
         let cells = taken_by(alloc, row, &places, other, how)?;
-        out.push(with_cells(row, cells)?)?;
+        out.push(with_cells(alloc, row, cells)?)?;
     }
     Ok(out)
 }
@@ -80,7 +80,7 @@ fn taken_by(
     places: &BTreeMap<Cell, usize>,
     other: &[Keyed],
     how: &LookupOf,
-) -> Result<Seq<(Text, Cell)>, OutOfMemory>
+) -> Result<Seq<(SharedText, Held)>, OutOfMemory>
     requires id { row.now.key.id ≤ greatest_id }
     requires other { AreRows other.now }
     requires outs { length how.now.outs ≡ length how.now.fields }
@@ -95,7 +95,11 @@ fn taken_by(
 }
 
 // The cells of a row under their new names.
-fn taken_of(alloc: Global, row: &Keyed, how: &LookupOf) -> Result<Seq<(Text, Cell)>, OutOfMemory>
+fn taken_of(
+    alloc: Global,
+    row: &Keyed,
+    how: &LookupOf,
+) -> Result<Seq<(SharedText, Held)>, OutOfMemory>
     requires id { row.now.key.id ≤ greatest_id }
     requires outs { length how.now.outs ≡ length how.now.fields }
     ensures { IfOk result (λ cells. cells ≡ zip how.now.outs (map (cell_at row.now) how.now.fields)) }
@@ -104,30 +108,34 @@ fn taken_of(alloc: Global, row: &Keyed, how: &LookupOf) -> Result<Seq<(Text, Cel
     for (i, out) in how.outs.as_slice().iter().enumerate() {
         cells.push((
             out.copy()?,
-            cell_of(row, how.fields.as_slice()[i].as_str())?,
+            held_of(alloc, row, how.fields.as_slice()[i].as_str())?,
         ))?;
     }
     Ok(cells)
 }
 
 // The default under each new name.
-fn defaults_of(alloc: Global, how: &LookupOf) -> Result<Seq<(Text, Cell)>, OutOfMemory>
+fn defaults_of(alloc: Global, how: &LookupOf) -> Result<Seq<(SharedText, Held)>, OutOfMemory>
     ensures { IfOk result (λ cells. cells ≡ map (λ out. (out, how.now.otherwise)) how.now.outs) }
 {
     let mut cells = Seq::new(alloc);
     for out in how.outs.as_slice() {
-        cells.push((out.copy()?, how.otherwise.copy()?))?;
+        cells.push((out.copy()?, Held::of(alloc, how.otherwise.copy()?)?))?;
     }
     Ok(cells)
 }
 
 /// A copy of a row with cells put in one after the other, so that of several under one name the last holds.
-pub fn with_cells(row: &Keyed, cells: Seq<(Text, Cell)>) -> Result<Keyed, OutOfMemory>
+pub fn with_cells(
+    alloc: Global,
+    row: &Keyed,
+    cells: Seq<(SharedText, Held)>,
+) -> Result<Keyed, OutOfMemory>
     ensures { IfOk result (λ made. made ≡ with_cells row.now cells) }
 {
     let mut made = row.copy()?;
     for (name, cell) in cells.into_vec() {
-        made.row.set(name, cell)?;
+        made.row.set_shared(alloc, name, cell)?;
     }
     Ok(made)
 }

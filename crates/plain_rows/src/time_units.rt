@@ -1,15 +1,16 @@
 // The unit of time of an instant put into each row.
 ghost use Rattle.std.specs.Prelude.{◌≡◌, ◌≤◌, ◌*◌, pos, IfOk, map};
 ghost use Rattle.fixed_num.specs.Number.{million};
+ghost use Rattle.cell_value.specs.Cell.{number_in};
 ghost use Rattle.cell_value.specs.State.{greatest_id};
 ghost use Rattle.cell_value.specs.Datum.{cell_at, datum_of};
 ghost use Rattle.plain_rows.specs.Rows.{AreRows};
 ghost use Rattle.plain_rows.specs.Calculations.{with_cell};
-ghost use Rattle.plain_rows.specs.TimeUnits.{number_in, unit_span, start_cell, end_cell, with_unit, in_time_units, data_in_time_units};
+ghost use Rattle.plain_rows.specs.TimeUnits.{unit_span, start_cell, end_cell, with_unit, in_time_units, data_in_time_units};
 
 use crate::TimeOf;
 use case_table::unit_rule;
-use cell_value::{Cell, Keyed, Rows};
+use cell_value::{Cell, Held, Keyed, Rows};
 use fixed_num::Num;
 use std::alloc::Global;
 use text_kit::{OutOfMemory, Seq};
@@ -23,16 +24,6 @@ fn id_number(id: u64) -> Option<Num>
     Num::of_millionths(i128::from(id) * 1_000_000)
 }
 
-// The number of a cell.
-fn number_in(cell: &Cell) -> Option<Num>
-    ensures { result ≡ number_in cell.now }
-{
-    match cell {
-        Cell::Number(number) => Some(*number),
-        _ => None,
-    }
-}
-
 // The number under a name of a row.
 fn number_under(row: &Keyed, name: &str) -> Option<Num>
     requires { row.now.key.id ≤ greatest_id }
@@ -42,7 +33,7 @@ fn number_under(row: &Keyed, name: &str) -> Option<Num>
         return id_number(row.key.id);
     }
     match row.row.get(name) {
-        Some(cell) => number_in(cell),
+        Some(cell) => cell.number(),
         None => None,
     }
 }
@@ -78,21 +69,28 @@ fn end_cell(span: Option<(Num, Num)>) -> Cell
 }
 
 // A copy of a row with a start and an end.
-fn with_span(row: &Keyed, t: &TimeOf, span: Option<(Num, Num)>) -> Result<Keyed, OutOfMemory>
+fn with_span(
+    alloc: Global,
+    row: &Keyed,
+    t: &TimeOf,
+    span: Option<(Num, Num)>,
+) -> Result<Keyed, OutOfMemory>
     ensures { IfOk result (λ copy. copy ≡ with_cell t.now.out_end (end_cell span) (with_cell t.now.out (start_cell span) row.now)) }
 {
     let mut copy = row.copy()?;
-    copy.row.set(t.out.copy()?, start_cell(span))?;
-    copy.row.set(t.out_end.copy()?, end_cell(span))?;
+    copy.row
+        .set_shared(alloc, t.out.copy()?, Held::of(alloc, start_cell(span))?)?;
+    copy.row
+        .set_shared(alloc, t.out_end.copy()?, Held::of(alloc, end_cell(span))?)?;
     Ok(copy)
 }
 
 // A copy of a row with the start and the end of the time unit of its field.
-fn with_unit(row: &Keyed, t: &TimeOf) -> Result<Keyed, OutOfMemory>
+fn with_unit(alloc: Global, row: &Keyed, t: &TimeOf) -> Result<Keyed, OutOfMemory>
     requires { row.now.key.id ≤ greatest_id }
     ensures { IfOk result (λ copy. copy ≡ with_unit t.now row.now) }
 {
-    with_span(row, t, span_in(row, t))
+    with_span(alloc, row, t, span_in(row, t))
 }
 
 // Copies of the rows, each with the start and the end of the time unit of its field.
@@ -102,7 +100,7 @@ fn in_time_units(alloc: Global, rows: &[Keyed], t: &TimeOf) -> Result<Rows, OutO
 {
     let mut out = Seq::with_capacity(alloc, rows.len())?;
     for row in rows {
-        out.push(with_unit(row, t)?)?;
+        out.push(with_unit(alloc, row, t)?)?;
     }
     Ok(out)
 }

@@ -1,5 +1,5 @@
 // What transforms of rows are told.
-use cell_value::Cell;
+use cell_value::{Cell, SharedText};
 use fixed_num::Num;
 use text_kit::{Seq, Text};
 
@@ -15,9 +15,9 @@ pub struct BinOf {
     /// How many bins there are at most, from 1 on.
     pub maxbins: u32,
     /// The name of the bin's start.
-    pub out: Text,
+    pub out: SharedText,
     /// The name of the bin's end.
-    pub out_end: Text,
+    pub out_end: SharedText,
 }
 
 /// How the instants of a field are put into units of time.
@@ -28,9 +28,9 @@ pub struct TimeOf {
     /// The code of the unit among `TIME_UNITS`.
     pub unit: u16,
     /// The name of the unit's start.
-    pub out: Text,
+    pub out: SharedText,
     /// The name of the unit's end.
-    pub out_end: Text,
+    pub out_end: SharedText,
 }
 
 /// An operation on the rows of a group or of a frame.
@@ -41,7 +41,7 @@ pub struct OpOf {
     /// The field; None reads as null in each row.
     pub field: Option<Text>,
     /// The name of what it gives.
-    pub out: Text,
+    pub out: SharedText,
 }
 
 /// What is computed of each group of rows.
@@ -74,9 +74,9 @@ pub struct StackOf {
     /// Where a stack begins.
     pub offset: Offset,
     /// The name of where a value begins.
-    pub out: Text,
+    pub out: SharedText,
     /// The name of where a value ends.
-    pub out_end: Text,
+    pub out_end: SharedText,
 }
 
 /// Where a stack begins.
@@ -119,7 +119,7 @@ pub struct LookupOf {
     /// The fields that are taken.
     pub fields: Seq<Text>,
     /// Their names here, one for each.
-    pub outs: Seq<Text>,
+    pub outs: Seq<SharedText>,
     /// What stands where no row has the key.
     pub otherwise: Cell,
 }
@@ -128,9 +128,9 @@ pub struct LookupOf {
 #[derive(Debug, Drop)]
 pub struct FoldOf {
     /// The fields.
-    pub fields: Seq<Text>,
+    pub fields: Seq<SharedText>,
     /// The name of the field's name.
-    pub out_key: Text,
+    pub out_key: SharedText,
     /// The name of the field's cell.
-    pub out_value: Text,
+    pub out_value: SharedText,
 }

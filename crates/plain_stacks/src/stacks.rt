@@ -13,31 +13,35 @@ ghost use Rattle.plain_stacks.specs.inner.Sums.{span_by, AreSummed};
 
 use crate::places::{all_sums, amounts, greatest_whole, number_in};
 use crate::sums::{Span, Sums, no_span, span_of};
-use cell_value::{Cell, Keyed, Rows};
+use cell_value::{Held, Keyed, Rows, SharedText};
 use expr_eval::EvalError;
 use fixed_num::Num;
 use plain_orders::partitions_of;
 use plain_rows::{StackOf, with_cells};
 use std::alloc::Global;
-use text_kit::{OutOfMemory, Seq, Text};
+use text_kit::{OutOfMemory, Seq};
 
 // The number as a cell, null where there is none.
-fn number_or_null(found: Option<Num>) -> Cell
-    ensures { result ≡ number_or_null found }
+fn number_or_null(alloc: Global, found: Option<Num>) -> Result<Held, OutOfMemory>
+    ensures { IfOk result (λ cell. cell ≡ number_or_null found) }
 {
     match found {
-        Some(number) => Cell::Number(number),
-        None => Cell::Null,
+        Some(number) => Held::of_number(alloc, number),
+        None => Ok(Held::null()),
     }
 }
 
 // The start and the end of a span, under their names.
-fn span_cells(alloc: Global, s: &StackOf, span: Span) -> Result<Seq<(Text, Cell)>, OutOfMemory>
+fn span_cells(
+    alloc: Global,
+    s: &StackOf,
+    span: Span,
+) -> Result<Seq<(SharedText, Held)>, OutOfMemory>
     ensures { IfOk result (λ cells. cells ≡ span_cells s.now span) }
 {
     let mut cells = Seq::new(alloc);
-    cells.push((s.out.copy()?, number_or_null(span.start)))?;
-    cells.push((s.out_end.copy()?, number_or_null(span.end)))?;
+    cells.push((s.out.copy()?, number_or_null(alloc, span.start)?))?;
+    cells.push((s.out_end.copy()?, number_or_null(alloc, span.end)?))?;
     Ok(cells)
 }
 
@@ -78,7 +82,7 @@ fn stacked_row(
         (span_by s.now (datum_of row.now) sums.now rank greatest.now)) }
 {
     let span = span_by(s, row, sums, rank, greatest)?;
-    Ok(with_cells(row, span_cells(alloc, s, span)?)?)
+    Ok(with_cells(alloc, row, span_cells(alloc, s, span)?)?)
 }
 
 // The rows, each with where its value begins and ends by the sums of its partition.

@@ -17,12 +17,12 @@ ghost use Rattle.plain_windows.specs.inner.Views.{AreListed, part, frame_rows, v
 use crate::aids::{Aid, all_aids};
 use crate::cells::window_cell;
 use crate::frames::{Frame, frame_of};
-use cell_value::{Cell, Keyed, Rows};
+use cell_value::{Held, Keyed, Rows, SharedText};
 use expr_eval::EvalError;
 use plain_orders::partitions_of;
 use plain_rows::{OpOf, SortBy, WindowOf, with_cells};
 use std::alloc::Global;
-use text_kit::{OutOfMemory, Seq, Text};
+use text_kit::{OutOfMemory, Seq};
 
 // What an operation gives for the row at a rank, under its new name.
 fn named_cell(
@@ -35,7 +35,7 @@ fn named_cell(
     frame: Frame,
     op: &OpOf,
     number: u32,
-) -> Result<(Text, Cell), EvalError>
+) -> Result<(SharedText, Held), EvalError>
     requires rows { AreRows rows.now }
     requires listed { AreListed sort.now (map datum_of rows.now) places.now }
     requires aid { IsAid sort.now (data_at (map datum_of rows.now) places.now) op.now aid.now }
@@ -46,7 +46,7 @@ fn named_cell(
         (part frame (data_at (map datum_of rows.now) places.now))) (op.now, number)) }
 {
     let cell = window_cell(alloc, sort, rows, places, aid, rank, frame, op, number)?;
-    Ok((op.out.copy()?, cell))
+    Ok((op.out.copy()?, Held::of(alloc, cell)?))
 }
 
 // What several operations give for the row at a rank.
@@ -60,7 +60,7 @@ fn named_cells(
     aids: &[Aid],
     rank: usize,
     frame: Frame,
-) -> Result<Seq<(Text, Cell)>, EvalError>
+) -> Result<Seq<(SharedText, Held)>, EvalError>
     requires params { length params.now ≡ length ops.now }
     requires rows { AreRows rows.now }
     requires listed { AreListed sort.now (map datum_of rows.now) places.now }
@@ -91,7 +91,7 @@ fn window_cells(
     places: &[usize],
     aids: &[Aid],
     rank: usize,
-) -> Result<Seq<(Text, Cell)>, EvalError>
+) -> Result<Seq<(SharedText, Held)>, EvalError>
     requires params { length w.now.params ≡ length w.now.ops }
     requires rows { AreRows rows.now }
     requires listed { AreListed w.now.sort (map datum_of rows.now) places.now }
@@ -136,7 +136,7 @@ fn windowed_row(
         (frame_rows w.now (data_at (map datum_of rows.now) places.now) rank)))) }
 {
     let given = window_cells(alloc, w, rows, places, aids, rank)?;
-    Ok(with_cells(row, given)?)
+    Ok(with_cells(alloc, row, given)?)
 }
 
 // The rows, each with what the operations give, by their partitions.

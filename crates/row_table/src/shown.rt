@@ -66,8 +66,8 @@ fn shown_row(alloc: Global, row: &Row) -> Result<Json, OutOfMemory> {
     let mut members = Seq::new(alloc);
     for entry in row.entries() {
         members.push(Member {
-            name: entry.0.copy()?,
-            value: shown_cell(alloc, &entry.1)?,
+            name: entry.0.as_text().copy()?,
+            value: shown_cell(alloc, &entry.1.cell()?)?,
         })?;
     }
     Ok(Json::Object(members))

@@ -4,7 +4,7 @@ ghost use Rattle.plain_rows.specs.Rows.{AreRows};
 ghost use Rattle.row_table.specs.Counted.{BranchesBelow};
 
 use crate::{Stop, transformed};
-use cell_value::{Cell, Rows};
+use cell_value::{Cell, Rows, SharedText};
 use data_rows::{ParseKind, rows_of_json};
 use json_exact::{Json, at_path};
 use plain_rows::{FoldOf, LookupOf};
@@ -107,12 +107,24 @@ fn cell(told: &Json, path: &str) -> Result<Cell, Stop> {
     }
 }
 
+fn shared(alloc: Global, told: &Json, path: &str) -> Result<SharedText, Stop> {
+    Ok(SharedText::of_text(alloc, text(told, path)?)?)
+}
+
+fn shared_texts(alloc: Global, told: &Json, path: &str) -> Result<Seq<SharedText>, Stop> {
+    let mut shared = Seq::new(alloc);
+    for text in texts(alloc, told, path)?.as_slice() {
+        shared.push(SharedText::of(alloc, text.as_str())?)?;
+    }
+    Ok(shared)
+}
+
 /// What a fold is told.
 pub(crate) fn fold(alloc: Global, told: &Json) -> Result<FoldOf, Stop> {
     Ok(FoldOf {
-        fields: texts(alloc, told, "/fields")?,
-        out_key: text(told, "/as/0")?,
-        out_value: text(told, "/as/1")?,
+        fields: shared_texts(alloc, told, "/fields")?,
+        out_key: shared(alloc, told, "/as/0")?,
+        out_value: shared(alloc, told, "/as/1")?,
     })
 }
 
@@ -122,7 +134,7 @@ pub(crate) fn lookup(alloc: Global, told: &Json) -> Result<LookupOf, Stop> {
         key_here: text(told, "/here")?,
         key_there: text(told, "/there")?,
         fields: texts(alloc, told, "/fields")?,
-        outs: texts(alloc, told, "/as")?,
+        outs: shared_texts(alloc, told, "/as")?,
         otherwise: cell(told, "/default")?,
     })
 }

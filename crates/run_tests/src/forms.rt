@@ -113,7 +113,7 @@ fn many(alloc: Global, count: u32) -> Result<String, Fail> {
 
 // Whether a row is the last of a thousand: it has no cell under the name of ids.
 fn is_last(keyed: &Keyed) -> bool {
-    let is_amount = matches!(keyed.row.get("b"), Some(Cell::Number(_)));
+    let is_amount = matches!(keyed.row.get("b"), Some(cell) if cell.number().is_some());
     keyed.key.id == 1000 && keyed.row.get("_vgsid_").is_none() && is_amount
 }
 

@@ -127,7 +127,7 @@ fn cells_are_sorted(rt: HostRuntime) -> Result<(), Fail> {
 }
 
 fn row_of(alloc: Global, cells: &[(&str, Given)]) -> Result<Row, OutOfMemory> {
-    let mut row = Row::new(alloc);
+    let mut row = Row::new(alloc)?;
     for (name, given) in cells {
         row.set(Text::of(alloc, name)?, cell_of(alloc, *given)?)?;
     }
@@ -155,7 +155,7 @@ fn holds(
 ) -> Result<bool, OutOfMemory> {
     match (row.get(name), row.entries().get(at)) {
         (Some(cell), Some(entry)) => Ok(
-            cell.display(alloc)?.as_str() == display && entry.0.as_str() == name,
+            cell.cell()?.display(alloc)?.as_str() == display && entry.0.as_str() == name,
         ),
         _ => Ok(false),
     }
@@ -182,20 +182,20 @@ fn row_at_once(alloc: Global, cells: &[(&str, Given)]) -> Result<Row, OutOfMemor
 }
 
 // Whether two rows hold the same.
-fn are_same(a: &Row, b: &Row) -> bool {
+fn are_same(a: &Row, b: &Row) -> Result<bool, OutOfMemory> {
     for (a, b) in a.entries().iter().zip(b.entries()) {
-        if a.0.as_str() != b.0.as_str() || !a.1.same(&b.1) {
-            return false;
+        if a.0.as_str() != b.0.as_str() || !a.1.cell()?.same(&b.1.cell()?) {
+            return Ok(false);
         }
     }
-    a.len() == b.len()
+    Ok(a.len() == b.len())
 }
 
 #[test]
 fn many_cells_are_set_at_once(rt: HostRuntime) -> Result<(), Fail> {
     let row = row_at_once(rt.alloc(), &SET)?;
     let expected = row_of(rt.alloc(), &SET)?;
-    assert!(rt; are_same(&row, &expected));
+    assert!(rt; are_same(&row, &expected)?);
     Ok(())
 }
 

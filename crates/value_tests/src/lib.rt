@@ -7,3 +7,5 @@ mod cells;
 mod instants;
 #[cfg(test)]
 mod json;
+#[cfg(test)]
+mod shared;

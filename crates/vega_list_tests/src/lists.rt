@@ -57,13 +57,13 @@ t | u of t: k = datum._vgsid_ - 1; a = 'x' || v of t: k = datum._vgsid_; look u;
 t | u of t: k = datum._vgsid_; a = 'x' || v of u: look v; datum.a == null -> v 1 2 3\n\
 t || u of t: a = 1000000000000000 + datum._vgsid_ -> t overflow\n";
 
-fn bare(alloc: Global, id: u64) -> Keyed
-    ensures { result.key ≡ record { id = id; branch = 0 } }
+fn bare(alloc: Global, id: u64) -> Result<Keyed, OutOfMemory>
+    ensures { IfOk result (λ keyed. keyed.key ≡ record { id = id; branch = 0 }) }
 {
-    Keyed {
+    Ok(Keyed {
         key: Key { id, branch: 0 },
-        row: Row::new(alloc),
-    }
+        row: Row::new(alloc)?,
+    })
 }
 
 /// A source `t` of three rows.
@@ -72,9 +72,9 @@ pub(crate) fn sources(alloc: Global) -> Result<Seq<Named>, OutOfMemory>
     ensures { IfOk result AreSources }
 {
     let mut rows = Seq::new(alloc);
-    rows.push(bare(alloc, 1))?;
-    rows.push(bare(alloc, 2))?;
-    rows.push(bare(alloc, 3))?;
+    rows.push(bare(alloc, 1)?)?;
+    rows.push(bare(alloc, 2)?)?;
+    rows.push(bare(alloc, 3)?)?;
     let mut sources = Seq::new(alloc);
     let name = Text::of(alloc, "t")?;
     sources.push(Named { name, rows })?;

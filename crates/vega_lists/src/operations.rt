@@ -6,6 +6,7 @@ ghost use Rattle.vega_lists.specs.Operations.{count_in, offset_in, param_at, par
 
 use crate::orders::sort_or_empty;
 use case_table::{Case, OPERATIONS};
+use cell_value::SharedText;
 use fixed_num::Num;
 use plain_rows::{GroupOf, OpOf, WindowOf};
 use std::alloc::Global;
@@ -111,7 +112,7 @@ fn op_settings(
     Ok(OpOf {
         op,
         field: copy_of(field)?,
-        out: name_or_default(alloc, op, field, name)?,
+        out: SharedText::of_text(alloc, name_or_default(alloc, op, field, name)?)?,
     })
 }
 

@@ -9,7 +9,7 @@ ghost use Rattle.vega_lists.specs.Settings.{lookup_settings, fold_settings, unit
 
 use crate::operations::{count_in, texts_or_empty};
 use crate::orders::sort_or_empty;
-use cell_value::Cell;
+use cell_value::{Cell, SharedText};
 use expr_eval::ParamReader;
 use fixed_num::Num;
 use plain_rows::{BinOf, FoldOf, LookupOf, Offset as RowOffset, StackOf, TimeOf};
@@ -22,12 +22,12 @@ fn first_name(
     alloc: Global,
     names: &Option<(Text, Text)>,
     absent: &str,
-) -> Result<Text, OutOfMemory>
+) -> Result<SharedText, OutOfMemory>
     ensures { IfOk result (λ name. name ≡ first_name names.now absent.now) }
 {
     match names {
-        Some(both) => both.0.copy(),
-        None => Text::of(alloc, absent),
+        Some(both) => SharedText::of(alloc, both.0.as_str()),
+        None => SharedText::of(alloc, absent),
     }
 }
 
@@ -36,12 +36,12 @@ fn second_name(
     alloc: Global,
     names: &Option<(Text, Text)>,
     absent: &str,
-) -> Result<Text, OutOfMemory>
+) -> Result<SharedText, OutOfMemory>
     ensures { IfOk result (λ name. name ≡ second_name names.now absent.now) }
 {
     match names {
-        Some(both) => both.1.copy(),
-        None => Text::of(alloc, absent),
+        Some(both) => SharedText::of(alloc, both.1.as_str()),
+        None => SharedText::of(alloc, absent),
     }
 }
 
@@ -55,17 +55,28 @@ fn first_text(alloc: Global, texts: &[Text]) -> Result<Text, OutOfMemory>
     }
 }
 
-// Copies of the texts, or of those that stand for them.
+// The texts, so that copies share them.
+fn shared_texts(alloc: Global, texts: &[Text]) -> Result<Seq<SharedText>, OutOfMemory>
+    ensures { IfOk result (λ shared. shared ≡ texts.now) }
+{
+    let mut shared = Seq::with_capacity(alloc, texts.len())?;
+    for text in texts {
+        shared.push(SharedText::of(alloc, text.as_str())?)?;
+    }
+    Ok(shared)
+}
+
+// The texts, or those that stand for them, so that copies share them.
 fn texts_or(
     alloc: Global,
     texts: &Option<Seq<Text>>,
     absent: &Seq<Text>,
-) -> Result<Seq<Text>, OutOfMemory>
-    ensures { IfOk result (λ copies. copies ≡ unwrap_or texts.now absent.now) }
+) -> Result<Seq<SharedText>, OutOfMemory>
+    ensures { IfOk result (λ shared. shared ≡ unwrap_or texts.now absent.now) }
 {
     match texts {
-        Some(texts) => copy_list(alloc, texts.as_slice()),
-        None => copy_list(alloc, absent.as_slice()),
+        Some(texts) => shared_texts(alloc, texts.as_slice()),
+        None => shared_texts(alloc, absent.as_slice()),
     }
 }
 
@@ -97,7 +108,7 @@ pub(crate) fn fold_settings(alloc: Global, f: &Fold) -> Result<FoldOf, OutOfMemo
     ensures { IfOk result (λ how. how ≡ fold_settings f.now) }
 {
     Ok(FoldOf {
-        fields: copy_list(alloc, f.fields.as_slice())?,
+        fields: shared_texts(alloc, f.fields.as_slice())?,
         out_key: first_name(alloc, &f.as_, "key")?,
         out_value: second_name(alloc, &f.as_, "value")?,
     })

@@ -16,7 +16,7 @@ fn row(alloc: Global, id: u64, words: &str) -> Result<Keyed, OutOfMemory>
     ensures { IfOk result (λ keyed. keyed.key ≡ record { id = id; branch = 0 }) }
 {
     let (a, b) = words.split_once(' ').unwrap_or((words, ""));
-    let mut row = Row::new(alloc);
+    let mut row = Row::new(alloc)?;
     row.set(Text::of(alloc, "a")?, cell_of(alloc, a)?)?;
     row.set(Text::of(alloc, "b")?, cell_of(alloc, b)?)?;
     Ok(Keyed {

@@ -70,9 +70,9 @@ fn three_rows(alloc: Global) -> Result<Rows, OutOfMemory>
     ensures { IfOk result IsListed }
 {
     let mut rows = Seq::new(alloc);
-    rows.push(bare(alloc, 1))?;
-    rows.push(bare(alloc, 2))?;
-    rows.push(bare(alloc, 3))?;
+    rows.push(bare(alloc, 1)?)?;
+    rows.push(bare(alloc, 2)?)?;
+    rows.push(bare(alloc, 3)?)?;
     Ok(rows)
 }
 

@@ -52,13 +52,13 @@ x=[1,2] z=[2.1,2.1] y=[2,3] w=[2,2]\n\
 | t: a = 1000000000000000 + datum._vgsid_; extent a x -> x=null\n\
 b = a === null ? 1000000000000000 : a; a = 5 | t: c = b + datum._vgsid_; extent c x -> b=5 a=5 x=[6,8]\n";
 
-pub(crate) fn bare(alloc: Global, id: u64) -> Keyed
-    ensures { result.key ≡ record { id = id; branch = 0 } }
+pub(crate) fn bare(alloc: Global, id: u64) -> Result<Keyed, OutOfMemory>
+    ensures { IfOk result (λ keyed. keyed.key ≡ record { id = id; branch = 0 }) }
 {
-    Keyed {
+    Ok(Keyed {
         key: Key { id, branch: 0 },
-        row: Row::new(alloc),
-    }
+        row: Row::new(alloc)?,
+    })
 }
 
 /// A source `t` of three rows.
@@ -67,9 +67,9 @@ fn sources(alloc: Global) -> Result<Seq<Named>, OutOfMemory>
     ensures { IfOk result AreSources }
 {
     let mut rows = Seq::new(alloc);
-    rows.push(bare(alloc, 1))?;
-    rows.push(bare(alloc, 2))?;
-    rows.push(bare(alloc, 3))?;
+    rows.push(bare(alloc, 1)?)?;
+    rows.push(bare(alloc, 2)?)?;
+    rows.push(bare(alloc, 3)?)?;
     let mut sources = Seq::new(alloc);
     let name = Text::of(alloc, "t")?;
     sources.push(Named { name, rows })?;

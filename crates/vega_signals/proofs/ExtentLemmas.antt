@@ -11,7 +11,7 @@ use Rattle.cell_value.specs.State.{Dataset, dataset_of}
 use Rattle.cell_value.specs.Datum.{Datum, datum_of, cell_at}
 use Rattle.expr_eval.specs.Values.{Values}
 use Rattle.plain_rows.specs.Rows.{AreRows, keys_of}
-use Rattle.plain_rows.specs.TimeUnits.{number_in}
+use Rattle.cell_value.specs.Cell.{number_in}
 use Rattle.plain_bins.specs.Extents.{numbers_of, extent_of}
 use Rattle.vega_spec.specs.declared.data.DataSet.{DataSet}
 use Rattle.vega_spec.specs.declared.transforms.Extent.{Extent}

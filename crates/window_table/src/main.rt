@@ -6,7 +6,7 @@
 ghost use Rattle.std.specs.Prelude.{◌≡◌, ◌+◌, ◌<◌, ◌^◌, length, IfOk, OnOk};
 ghost use Rattle.window_table.specs.Rows.{AreNumbered};
 
-use cell_value::{Cell, Key, Keyed, Row, Rows};
+use cell_value::{Cell, Key, Keyed, Row, Rows, SharedText};
 use expr_eval::EvalError;
 use fixed_num::Num;
 use plain_rows::{OpOf, SortBy, WindowOf};
@@ -54,7 +54,7 @@ fn pair_by(word: &str) -> Cell {
 
 // A row by its cells.
 fn row_by(alloc: Global, word: &str) -> Result<Row, OutOfMemory> {
-    let mut row = Row::new(alloc);
+    let mut row = Row::new(alloc)?;
     for part in word.split('|') {
         if let Some((name, cell)) = part.split_once('=') {
             row.set(Text::of(alloc, name)?, cell_by(alloc, cell)?)?;
@@ -164,7 +164,7 @@ fn ops_of(alloc: Global, list: &str) -> Result<Asked, OutOfMemory>
             let op = OpOf {
                 op: code.parse::<u16>().unwrap_or(0),
                 field: field_of(alloc, field)?,
-                out: Text::of(alloc, out)?,
+                out: SharedText::of(alloc, out)?,
             };
             add_op(&mut asked, op, param.parse::<u32>().unwrap_or(0))?;
         }
@@ -212,7 +212,7 @@ fn say_row(text: &mut Text, row: &Keyed) -> Result<(), OutOfMemory> {
         text.push_str("|")?;
         text.push_str(name.as_str())?;
         text.push_str("=")?;
-        say_cell(text, cell)?;
+        say_cell(text, &cell.cell()?)?;
     }
     text.push_str(";")
 }

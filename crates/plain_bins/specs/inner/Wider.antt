@@ -3,7 +3,7 @@ use Rattle.std.specs.Prelude.{ℕ, ℤ, Option, Some, None, List}
 use Rattle.std.specs.Int.{int_min, int_max}
 use Rattle.cell_value.specs.declared.state.Keyed.{Keyed}
 use Rattle.cell_value.specs.Datum.{cell_at}
-use Rattle.plain_rows.specs.TimeUnits.{number_in}
+use Rattle.cell_value.specs.Cell.{number_in}
 
 -- an extent that takes in a number too
 abbrev pub widened : Option (ℤ × ℤ) → ℤ → Option (ℤ × ℤ)

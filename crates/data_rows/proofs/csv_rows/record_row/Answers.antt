@@ -30,13 +30,13 @@ returns-in_ok-of-in-Some c =
     cc (c.in-Some.ensures, c.as_slice.ensures, c.as_slice-2.ensures, c.in_ok-of-in-Some.ensures) in
     out_row c.args.number columns fields c.read_numbers.new.numbers c.in_ok-of-in-Some.field-0 c.requires same known bad
 
-pub returns-in_ok-cells_from-in-None : goal.returns-in_ok-cells_from-in-None
-returns-in_ok-cells_from-in-None c =
+pub returns-in_ok-from_sorted-in-None : goal.returns-in_ok-from_sorted-in-None
+returns-in_ok-from_sorted-in-None c =
     let fields = fields_of c.args.fields.now in
     let header = c.args.header.now in
     let same : length fields ≡ length header.columns = first_of (search rules, grind (arith, common_steps)) in
     let known : c.read_numbers.new.numbers ≡ map number_of fields = c.in_ok-read_numbers.ensures in
     let none : bad_column header.columns c.read_numbers.new.numbers ≡ None = cc (c.in-None.ensures, c.as_slice.ensures, c.as_slice-2.ensures) in
-    let is : entries c.from_sorted.result ≡ cells_from fields c.read_numbers.new.numbers header.kept =
-    c.from_sorted.ensures ∙ cc (c.in_ok-cells_from-in-None.ensures, c.as_slice-in-None.ensures, c.as_slice-in-None-2.ensures) in
-    filled_row c.args.number header.columns fields c.read_numbers.new.numbers header.kept c.from_sorted.result c.requires same known header.right none is
+    let is : entries c.in_ok-from_sorted-in-None.field-0 ≡ cells_from fields c.read_numbers.new.numbers header.kept =
+    c.in_ok-from_sorted-in-None.ensures.entries ∙ cc (c.in_ok-cells_from-in-None.ensures, c.as_slice-in-None.ensures, c.as_slice-in-None-2.ensures) in
+    filled_row c.args.number header.columns fields c.read_numbers.new.numbers header.kept c.in_ok-from_sorted-in-None.field-0 c.requires same known header.right none is

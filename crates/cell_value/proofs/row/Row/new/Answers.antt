@@ -6,4 +6,4 @@ use Rattle.cell_value.proofs.Place.{none_seen}
 use Rattle.cell_value.proofs.row.Row.new.Goals as goal
 
 pub returns : goal.returns
-returns c = ap from_sorted c.new.ensures.items ∙ none_seen (slice_cmp nat_cmp)
+returns c = c.in_ok-row.ensures.row ∙ ap from_sorted c.new.ensures.items ∙ none_seen (slice_cmp nat_cmp)
