@@ -5,7 +5,6 @@ use Rattle.std.proofs.Common.{◌<◌, zero, suc, ◌+◌, length, map, drop, ge
 use Rattle.std.proofs.Math.Seq.{drop-cons}
 use Rattle.std.specs.Prelude.{IfSome, IsErrOf}
 use Rattle.std.specs.Result.{IsErrAnd}
-use Rattle.std.specs.Result.{result_map_both}
 use Rattle.fixed_num.specs.Steps.{◌>>=◌}
 use Rattle.text_kit.specs.Answer.{IsFault}
 use Rattle.chart_io.specs.Outside.{Files, Kept, Rose}
@@ -146,31 +145,6 @@ no_memory X a b told tells given counted stays = record {
   is = elim told as (λ o. IfSome o (λ files. Unit {0})) [ None ↦ tt | Some files ↦ tt ];
 }
 
--- the answer of a call in another form
-pub mapped : {X Y : Type 0} (how : X → Y) (x : X) (a b : ℕ) (told tells : Option Files) (given : Files → Result X Refusal)
-    → IsRead a b told tells (Ok x) given → IsRead a b told tells (Ok (how x)) (λ files. result_map_both how (λ why. why) (given files))
-mapped {X} {Y} how x a b told tells given first = record {
-  counted = first.counted;
-  stays = first.stays;
-  read = tt;
-  is = told_map _ _ told (λ files p. ap (λ (r : Result X Refusal). result_map_both how (λ why. why) r) p) first.is;
-}
-
-mapped_stop : {X Y : Type 0} (how : X → Y) (e : OpenStop) (r : Result X Refusal) → IsFault (cause e) r
-    → IsFault (cause e) (result_map_both how (λ why. why) r)
-mapped_stop {X} {Y} how (outer.Refused why) r is = ap (λ (s : Result X Refusal). result_map_both how (λ why. why) s) is
-mapped_stop how outer.Read r is = tt
-mapped_stop how outer.Memory r is = tt
-
-pub mapped_fault : {X Y : Type 0} (how : X → Y) (e : OpenStop) (a b : ℕ) (told tells : Option Files) (given : Files → Result X Refusal)
-    → IsRead {X = X} a b told tells (Err e) given → IsRead {X = Y} a b told tells (Err e) (λ files. result_map_both how (λ why. why) (given files))
-mapped_fault {X} {Y} how e a b told tells given first = record {
-  counted = first.counted;
-  stays = first.stays;
-  read = same_fault X Y a b e first.read;
-  is = told_map _ _ told (λ files p. mapped_stop how e (given files) p) first.is;
-}
-
 -- ---- several calls in a loop
 
 -- the values that were given, and then the others
@@ -242,10 +216,6 @@ ended a b told tells values whole so_far = record {
   read = tt;
   is = told_map _ _ told (λ files p. sym p ∙ ap Ok (append-nil values)) so_far.is;
 }
-
--- memory was refused before anything was read
-pub no_memory_yet : (X : Type 0) (a : ℕ) (told : Option Files) (given : Files → Result X Refusal) → IsRead {X = X} a a told told (Err outer.Memory) given
-no_memory_yet X a told given = no_memory X a a told told given (omega arith) (kept_still told)
 
 pub no_memory_as : (X : Type 0) (a b : ℕ) (told tells : Option Files) (given : Files → Result X Refusal) (e : OpenStop) → e ≡ outer.Memory
     → a ≤ b → Kept told tells → IsRead {X = X} a b told tells (Err e) given

@@ -21,11 +21,10 @@ use Rattle.first_form.proofs.BarCharts.{opened_group}
 use Rattle.first_form.proofs.ValueRows.{values_are_rows}
 use Rattle.chart_opening.specs.declared.refusal.Refusal.{Refusal}
 use Rattle.chart_opening.specs.declared.refusal.Refusal.TheVariants as refusal
-use Rattle.chart_opening.specs.declared.sources.Given.TheVariants as given
 use Rattle.chart_opening.specs.Laws.{FormsOpen}
 use Rattle.chart_opening.specs.Opening as opening
 use Rattle.chart_opening.specs.Opening.{keyed_rows, sources_from, count_rows, state_with, state_within, state_given}
-use Rattle.chart_opening.specs.Sources.{sets_here, mark_sets_here, mark_sets, source_sets, given_by, rows_by, all_of}
+use Rattle.chart_opening.specs.Sources.{Nothing, sets_here, mark_sets_here, mark_sets, source_sets, given_by, rows_by, all_of}
 
 -- the one source
 one_set : (form : FirstForm) → source_sets (bars_of form) ≡ data_set_of form ∷ []
@@ -62,7 +61,7 @@ module _ (form : FirstForm) where
   abbrev rows : List Cells
   rows = rows_from form.x form.y 1 form.values
 
-  rows_read : all_of (map rows_by ((data_set_of form, given.Nothing) ∷ [])) ≡ Ok (rows ∷ [])
+  rows_read : all_of (map rows_by ((data_set_of form, Nothing) ∷ [])) ≡ Ok (rows ∷ [])
   rows_read =
       ap (λ (r : Result (List Cells) Bad). all_of (result_map_both (λ xs. xs) (λ (bad : Bad). refusal.Row form.name bad.0 bad.1) r ∷ []))
       (values_are_rows form)
@@ -90,7 +89,7 @@ form_opens reading files form drawable =
     let few = drawable.few in
     let count = counted form in
     ap (λ sets. all_of (map (given_by reading files) sets) >>= state_given g) (one_set form)
-    ∙ ap (λ sets. all_of (map rows_by (zip sets (given.Nothing ∷ []))) >>= state_within g) (one_set form)
+    ∙ ap (λ sets. all_of (map rows_by (zip sets (Nothing ∷ []))) >>= state_within g) (one_set form)
     ∙ ap (λ (r : Result (List (List Cells)) Refusal). r >>= state_within g) (rows_read form)
     ∙ few_rows (count_rows (rows form ∷ [])) (state_with g (rows form ∷ [])) (omega (arith, few, count))
     ∙ ap Ok (state_is form)

@@ -5,6 +5,7 @@ pub mod FormOpenings
 pub mod Fronts
 pub mod NameLemmas
 pub mod OpeningLemmas
+pub mod RowLemmas
 pub mod ChartOpenings
 pub mod SchemaLemmas
 pub mod StateLemmas

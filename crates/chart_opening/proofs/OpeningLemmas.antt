@@ -1,8 +1,7 @@
 -- What is given for the sources of a specification.
-use Rattle.std.proofs.Common.{◌≡◌, ℕ, Bool, true, false, Option, Some, None, List, [], ◌∷◌, map, zip, Result, Ok, Err, refl, sym, ap, subst, ◌∙◌}
+use Rattle.std.proofs.Common.{◌≡◌, ℕ, Option, List, [], ◌∷◌, map, zip, Result, Ok, Err, refl, ap, subst, ◌∙◌}
 use Rattle.std.specs.Result.{result_map_both}
 use Rattle.fixed_num.specs.Steps.{◌>>=◌}
-use Rattle.json_exact.specs.declared.json.Json.{Json}
 use Rattle.chart_io.specs.Outside.{Files}
 use Rattle.cell_value.specs.declared.state.ChartState.{ChartState}
 use Rattle.cell_value.specs.Row.{Cells}
@@ -10,16 +9,12 @@ use Rattle.vega_spec.specs.declared.data.DataSet.{DataSet}
 use Rattle.vega_spec.specs.declared.spec.VgSpec.{VgSpec}
 use Rattle.chart_opening.specs.declared.refusal.Refusal.{Refusal}
 use Rattle.chart_opening.specs.declared.refusal.OpenStop.{OpenStop}
-use Rattle.chart_opening.specs.declared.sources.Given.{Given}
-use Rattle.chart_opening.specs.declared.sources.Given.TheVariants as given
-use Rattle.chart_opening.specs.Files.{bytes_of, tree_of_file}
 use Rattle.chart_opening.specs.Opening.{state_within, opening_by}
-use Rattle.chart_opening.specs.Sources.{given_by_file, given_with, given_by, is_csv, rows_by, all_of, source_sets}
+use Rattle.chart_opening.specs.Sources.{Given, given_by, rows_by, all_of, source_sets}
 use Rattle.chart_opening.specs.Texts.{Reading}
 use Rattle.chart_opening.specs.inner.Folders.{IsRead}
 use Rattle.chart_opening.specs.inner.Reading.{the_reading}
 use Rattle.chart_opening.specs.inner.Rows.{read_by, state_read}
-use Rattle.chart_opening.proofs.FolderLemmas.{mapped, quiet}
 
 -- results that are read one by one are those of all that is given
 module _ {S G R : Type 0} (given : S → Result G Refusal) (rows : S × G → Result R Refusal) where
@@ -51,14 +46,6 @@ opens_as g reading files =
     ∙ then_state g (source_sets g) (all_of (map (given_by reading files) (source_sets g)))
 
 module _ (a b : ℕ) (told tells : Option Files) where
-  -- the rows of a source whose file is read
-  pub rows_read : (set : DataSet) (given : Given) (read : Result (List Cells) Refusal) → read ≡ rows_by (set, given)
-      → IsRead a b told tells (Ok given) (λ files. given_by the_reading files set)
-      → IsRead a b told tells (Ok read) (λ files. read_by the_reading files set)
-  rows_read set given read is first =
-      let at : Result (List Cells) Refusal → Type 0 = λ rows. IsRead a b told tells (Ok rows) (λ files. read_by the_reading files set) in
-      subst at (sym is) (mapped (λ (g : Given). rows_by (set, g)) given a b told tells (λ files. given_by the_reading files set) first)
-
   -- the same sources
   pub over_sets : (result : Result (List (Result (List Cells) Refusal)) OpenStop) (sets others : List DataSet) → sets ≡ others
       → IsRead a b told tells result (λ files. all_of (map (read_by the_reading files) sets))
@@ -74,46 +61,3 @@ module _ (a b : ℕ) (told tells : Option Files) where
   opened_as result g read =
       let at : (Files → Result ChartState Refusal) → Type 0 = λ given. IsRead a b told tells result given in
       subst at (λ i files. opens_as g the_reading files i) read
-
-  module _ (csv : Bool) (name : List ℕ) (result : Result Given OpenStop) where
-    -- a file of CSV
-    pub of_table : csv ≡ true → IsRead a b told tells result (λ files. result_map_both given.Table (λ why. why) (bytes_of files name))
-        → IsRead a b told tells result (λ files. given_by_file the_reading files csv name)
-    of_table is read =
-        let at : Bool → Type 0 = λ kind. IsRead a b told tells result (λ files. given_by_file the_reading files kind name) in
-        subst at (sym is) read
-
-    -- a file of JSON
-    pub of_tree : csv ≡ false → IsRead a b told tells result (λ files. result_map_both given.Tree (λ why. why) (tree_of_file the_reading files name))
-        → IsRead a b told tells result (λ files. given_by_file the_reading files csv name)
-    of_tree is read =
-        let at : Bool → Type 0 = λ kind. IsRead a b told tells result (λ files. given_by_file the_reading files kind name) in
-        subst at (sym is) read
-
-  -- a source of a file
-  pub from_file : (result : Result Given OpenStop) (set : DataSet) (name said : List ℕ) (csv : Bool) → set.values ≡ None → set.url ≡ Some name
-      → csv ≡ is_csv set → said ≡ name → IsRead a b told tells result (λ files. given_by_file the_reading files csv said)
-      → IsRead a b told tells result (λ files. given_by the_reading files set)
-  from_file result set name said csv values url kind same read =
-      let at : Option Json → Type 0 = λ v. IsRead a b told tells result (λ files. given_with the_reading files (is_csv set) v set.url) in
-      let of : Option (List ℕ) → Type 0 = λ u. IsRead a b told tells result (λ files. given_with the_reading files (is_csv set) None u) in
-      let here : Bool → Type 0 = λ k. IsRead a b told tells result (λ files. given_by_file the_reading files k said) in
-      let there : List ℕ → Type 0 = λ n. IsRead a b told tells result (λ files. given_by_file the_reading files (is_csv set) n) in
-      subst at (sym values) (subst of (sym url) (subst there same (subst here kind read)))
-
-module _ (a : ℕ) (told : Option Files) (set : DataSet) where
-  -- a source whose rows the specification has
-  pub from_values : (values : Json) → set.values ≡ Some values
-      → IsRead a a told told (Ok given.Nothing) (λ files. given_by the_reading files set)
-  from_values values is =
-      let at : Option Json → Type 0 = λ v. IsRead a a told told (Ok given.Nothing) (λ files. given_with the_reading files (is_csv set) v set.url) in
-      subst at (sym is) (quiet a told (Ok given.Nothing) given.Nothing refl)
-
-  -- a source of no file
-  pub from_nothing : set.values ≡ None → set.url ≡ None
-      → IsRead a a told told (Ok given.Nothing) (λ files. given_by the_reading files set)
-  from_nothing values url =
-      let at : Option Json → Type 0 = λ v. IsRead a a told told (Ok given.Nothing) (λ files. given_with the_reading files (is_csv set) v set.url) in
-      let of : Option (List ℕ) → Type 0 =
-      λ u. IsRead a a told told (Ok given.Nothing) (λ files. given_with the_reading files (is_csv set) None u) in
-      subst at (sym values) (subst of (sym url) (quiet a told (Ok given.Nothing) given.Nothing refl))

@@ -19,9 +19,8 @@ use Rattle.vega_spec.specs.Names.{signals_of, kind_of}
 use Rattle.param_flow.specs.Settings.{is_settable}
 use Rattle.chart_opening.specs.declared.refusal.Refusal.{Refusal}
 use Rattle.chart_opening.specs.declared.refusal.Refusal.TheVariants as refusal
-use Rattle.chart_opening.specs.declared.sources.Given.{Given}
 use Rattle.chart_opening.specs.Texts.{Reading}
-use Rattle.chart_opening.specs.Sources.{source_sets, given_by, rows_by, all_of}
+use Rattle.chart_opening.specs.Sources.{Given, source_sets, given_by, rows_by, all_of}
 
 -- rows with their keys, whose ids count on from this one
 abbrev pub keyed_rows : ℕ → List Cells → List Keyed

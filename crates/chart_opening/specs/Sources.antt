@@ -24,8 +24,6 @@ use Rattle.vega_spec.specs.declared.spec.VgMark.{VgMark, VgMark-F, fold-VgMark}
 use Rattle.vega_spec.specs.declared.spec.VgSpec.{VgSpec}
 use Rattle.chart_opening.specs.declared.refusal.Refusal.{Refusal}
 use Rattle.chart_opening.specs.declared.refusal.Refusal.TheVariants as refusal
-use Rattle.chart_opening.specs.declared.sources.Given.{Given}
-use Rattle.chart_opening.specs.declared.sources.Given.TheVariants as given
 use Rattle.chart_opening.specs.Texts.{Reading}
 use Rattle.chart_opening.specs.Files.{bytes_of, tree_of_file}
 
@@ -66,17 +64,26 @@ is_csv_kind None = false
 abbrev pub is_csv : DataSet → Bool
 is_csv set = option_map_or (λ (f : Format). is_csv_kind f.type_) set.format false
 
+-- what the file of a source gives before its rows are read
+pub data Given : Type 0 where
+  -- a tree of JSON
+  Tree : Json → Given
+  -- the bytes of a CSV file
+  Table : List ℕ → Given
+  -- nothing, where no file is read
+  Nothing : Given
+
 -- what the file of this name gives, as CSV or as JSON
 abbrev pub given_by_file : Reading → Files → Bool → List ℕ → Result Given Refusal
 given_by_file reading files csv name =
-    if csv then result_map_both given.Table (λ why. why) (bytes_of files name)
-    else result_map_both given.Tree (λ why. why) (tree_of_file reading files name)
+    if csv then result_map_both Table (λ why. why) (bytes_of files name)
+    else result_map_both Tree (λ why. why) (tree_of_file reading files name)
 
 -- what the file of a source gives: nothing where the specification has its rows, or it names no file
 abbrev pub given_with : Reading → Files → Bool → Option Json → Option (List ℕ) → Result Given Refusal
-given_with reading files csv (Some values) url = Ok given.Nothing
+given_with reading files csv (Some values) url = Ok Nothing
 given_with reading files csv None (Some name) = given_by_file reading files csv name
-given_with reading files csv None None = Ok given.Nothing
+given_with reading files csv None None = Ok Nothing
 
 abbrev pub given_by : Reading → Files → DataSet → Result Given Refusal
 given_by reading files set = given_with reading files (is_csv set) set.values set.url
@@ -97,15 +104,18 @@ parse_of set = kinds_in (unwrap_or (option_and_then (λ (f : Format). f.parse) s
 -- the rows that the specification has of a source, or that its file gives, or the first that is bad
 abbrev pub rows_given : List (List ℕ × ParseKind) → Option Json → Given → Result (List Cells) Bad
 rows_given parse (Some values) what = rows_of_json parse values
-rows_given parse None (given.Tree tree) = rows_of_json parse tree
-rows_given parse None (given.Table bytes) = rows_of_csv parse bytes
-rows_given parse None given.Nothing = Ok []
+rows_given parse None (Tree tree) = rows_of_json parse tree
+rows_given parse None (Table bytes) = rows_of_csv parse bytes
+rows_given parse None Nothing = Ok []
+
+-- the refusal of a bad row of the source of this name
+abbrev pub bad_row : List ℕ → Bad → Refusal
+bad_row name bad = refusal.Row name bad.0 bad.1
 
 -- the rows of a source, of what its file gives
 abbrev pub rows_by : DataSet × Given → Result (List Cells) Refusal
 rows_by source =
-    result_map_both (λ rows. rows) (λ (bad : Bad). refusal.Row source.0.name bad.0 bad.1)
-    (rows_given (parse_of source.0) source.0.values source.1)
+    result_map_both (λ rows. rows) (bad_row source.0.name) (rows_given (parse_of source.0) source.0.values source.1)
 
 -- all of some results, or the first refusal among them
 abbrev pub all_of : {X : Type 0} → List (Result X Refusal) → Result (List X) Refusal

@@ -1,19 +1,20 @@
 //! The rows of sources.
 ghost use Rattle.std.specs.Prelude.{◌≡◌, length, map, nat_le, Some, None, if◌then◌else◌, IfOk};
-ghost use Rattle.data_rows.specs.Outcome.{GivesRows};
 ghost use Rattle.cell_value.specs.State.{most_rows};
-ghost use Rattle.chart_opening.specs.Sources.{kind_of, kinds_in, parse_of, rows_given, rows_by, all_of};
+ghost use Rattle.chart_opening.specs.Sources.{kind_of, kinds_in, parse_of, bad_row, all_of};
 ghost use Rattle.chart_opening.specs.Opening.{count_rows};
 ghost use Rattle.chart_opening.specs.inner.Folders.{IsRead};
 ghost use Rattle.chart_opening.specs.inner.Reading.{the_reading};
-ghost use Rattle.chart_opening.specs.inner.Rows.{read_by};
+ghost use Rattle.chart_opening.specs.inner.Rows.{rows_of_values, rows_of_table, rows_in_text, rows_of_file, read_rows, read_by};
 ghost use Rattle.chart_opening.specs.inner.Stops.{Gives};
 
+use crate::files::read_file;
 use crate::refusal::{OpenStop, Refusal, Stop};
-use crate::sources::{Given, given_by};
+use crate::sources::is_csv;
 use cell_value::Row;
 use chart_io::Folder;
-use data_rows::{ParseKind, RowError, rows_of_csv, rows_of_json, rows_of_tree};
+use data_rows::{ParseKind, RowError, TextError, rows_of_csv, rows_of_json, rows_of_text};
+use json_exact::Json;
 use std::alloc::Global;
 use text_kit::{OutOfMemory, Seq, Text};
 use vega_spec::{DataSet, ParseKind as VegaKind};
@@ -60,42 +61,101 @@ fn parse_of(alloc: Global, set: &DataSet) -> Result<Seq<(Text, ParseKind)>, OutO
     }
 }
 
-// The rows that the specification has of a source, or that are given for it. What is given is let go.
-fn rows_given(
-    alloc: Global,
-    kinds: &Seq<(Text, ParseKind)>,
-    set: &DataSet,
-    given: Given,
-) -> Result<Seq<Row>, RowError>
-    ensures { GivesRows result (rows_given kinds.now set.now.values given) }
+// The refusal of a bad row of a source.
+fn bad_row(set: &DataSet, row: u64, field: Text) -> Result<Refusal, OutOfMemory>
+    ensures { IfOk result (λ why. why ≡ bad_row set.now.name (row, field)) }
 {
-    if let Some(values) = &set.values {
-        return rows_of_json(alloc, values, kinds);
-    }
-    match given {
-        Given::Tree(tree) => rows_of_tree(alloc, tree, kinds),
-        Given::Table(bytes) => rows_of_csv(alloc, bytes.as_slice(), kinds),
-        Given::Nothing => Ok(Seq::new(alloc)),
-    }
+    Ok(Refusal::Row(set.name.copy()?, row, field))
 }
 
-// The rows of a source, or the refusal of its first row that is bad.
-fn rows_by(
+// The rows that the specification has of a source, or the refusal of the first that is bad.
+fn rows_of_values(
     alloc: Global,
     set: &DataSet,
-    given: Given,
+    values: &Json,
 ) -> Result<Result<Seq<Row>, Refusal>, OutOfMemory>
-    ensures { IfOk result (λ rows. rows ≡ rows_by (set.now, given)) }
+    ensures { IfOk result (λ rows. rows ≡ rows_of_values set.now values.now) }
 {
     let kinds = parse_of(alloc, set)?;
-    match rows_given(alloc, &kinds, set, given) {
+    match rows_of_json(alloc, values, &kinds) {
         Ok(rows) => Ok(Ok(rows)),
-        Err(RowError::Fault { row, field }) => Ok(Err(Refusal::Row(set.name.copy()?, row, field))),
+        Err(RowError::Fault { row, field }) => Ok(Err(bad_row(set, row, field)?)),
         Err(RowError::Memory) => Err(OutOfMemory),
     }
 }
 
-// The rows of a source, or the refusal of its first row that is bad, once its file is read. What the file gives is let go.
+// The rows of a source whose file has these bytes of CSV, or the refusal of the first that is bad.
+fn rows_of_table(
+    alloc: Global,
+    set: &DataSet,
+    bytes: &[u8],
+) -> Result<Result<Seq<Row>, Refusal>, OutOfMemory>
+    ensures { IfOk result (λ rows. rows ≡ rows_of_table set.now bytes.now) }
+{
+    let kinds = parse_of(alloc, set)?;
+    match rows_of_csv(alloc, bytes, &kinds) {
+        Ok(rows) => Ok(Ok(rows)),
+        Err(RowError::Fault { row, field }) => Ok(Err(bad_row(set, row, field)?)),
+        Err(RowError::Memory) => Err(OutOfMemory),
+    }
+}
+
+// The rows of a source whose file, of this name, has these bytes of JSON, or the refusal of the first that is bad. The file is refused
+// where they are no JSON text.
+fn rows_in_text(
+    alloc: Global,
+    set: &DataSet,
+    name: &str,
+    bytes: &[u8],
+) -> Result<Result<Seq<Row>, Refusal>, Stop>
+    ensures { Gives result (rows_in_text the_reading set.now name.now bytes.now) }
+{
+    let kinds = parse_of(alloc, set)?;
+    match rows_of_text(alloc, bytes, &kinds) {
+        Ok(rows) => Ok(Ok(rows)),
+        Err(TextError::Fault { row, field }) => Ok(Err(bad_row(set, row, field)?)),
+        Err(TextError::Json { at }) => Err(Stop::Refused(Refusal::Json(
+            Text::of(alloc, name)?,
+            at,
+        ))),
+        Err(TextError::Memory) => Err(Stop::Memory),
+    }
+}
+
+// The rows of a source whose file, of this name, has these bytes, of CSV or of JSON.
+fn rows_of_file(
+    alloc: Global,
+    set: &DataSet,
+    name: &str,
+    bytes: &[u8],
+) -> Result<Result<Seq<Row>, Refusal>, Stop>
+    ensures { Gives result (rows_of_file the_reading set.now name.now bytes.now) }
+{
+    if is_csv(set) {
+        Ok(rows_of_table(alloc, set, bytes)?)
+    } else {
+        rows_in_text(alloc, set, name, bytes)
+    }
+}
+
+// The rows of a source whose file has this name. Its bytes are let go.
+fn read_rows<F: Folder>(
+    alloc: Global,
+    folder: &mut F,
+    set: &DataSet,
+    name: &str,
+) -> Result<Result<Seq<Row>, Refusal>, OpenStop>
+    ensures { IsRead (F.faults folder.old) (F.faults folder.new) (F.files folder.old) (F.files folder.new) result
+        (λ files. read_rows the_reading files set.now name.now) }
+{
+    let bytes = match read_file(alloc, folder, name) {
+        Ok(bytes) => bytes,
+        Err(why) => return Err(why),
+    };
+    Ok(rows_of_file(alloc, set, name, bytes.as_slice())?)
+}
+
+// The rows of a source, or the refusal of its first row that is bad; its file is read where the specification doesn't have them.
 fn read_by<F: Folder>(
     alloc: Global,
     folder: &mut F,
@@ -104,9 +164,12 @@ fn read_by<F: Folder>(
     ensures { IsRead (F.faults folder.old) (F.faults folder.new) (F.files folder.old) (F.files folder.new) result
         (λ files. read_by the_reading files set.now) }
 {
-    match given_by(alloc, folder, set) {
-        Ok(given) => Ok(rows_by(alloc, set, given)?),
-        Err(why) => Err(why),
+    match &set.values {
+        Some(values) => Ok(rows_of_values(alloc, set, values)?),
+        None => match &set.url {
+            Some(url) => read_rows(alloc, folder, set, url.as_str()),
+            None => Ok(Ok(Seq::new(alloc))),
+        },
     }
 }
 

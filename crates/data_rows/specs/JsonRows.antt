@@ -7,6 +7,7 @@ use Rattle.json_exact.specs.declared.json.Json.{Json, Json-F, out-Json}
 use Rattle.json_exact.specs.declared.json.Json.TheOpen as level
 use Rattle.json_exact.specs.declared.json.Json.TheVariants as json
 use Rattle.json_exact.specs.declared.json.Member.{Member}
+use Rattle.json_exact.specs.Values.{values_of}
 use Rattle.cell_value.specs.declared.cell.Cell.{Cell}
 use Rattle.cell_value.specs.declared.cell.Cell.TheVariants as cell
 use Rattle.cell_value.specs.Row.{Cells, row_of}
@@ -69,15 +70,7 @@ parsed_fields parse fields = map (λ field. (field.0, parsed_as (kind_of parse f
 abbrev pub json_row : List (List ℕ × ParseKind) → Json → RowRead
 json_row parse tree = unless_bad (bad_field tree) (row_of (parsed_fields parse (fields_in (out-Json tree))))
 
--- the values that are rows: those of a list; any other value counts as a list of itself
-abbrev pub values_in : Json → Json-F Json Member → List Json
-values_in tree (level.List items) = items
-values_in tree other = tree ∷ []
-
-abbrev pub values_of : Json → List Json
-values_of tree = values_in tree (out-Json tree)
-
--- the rows of a value, or the first that is bad
+-- the rows of a tree, one for each value that it lists, or the first that is bad
 abbrev pub rows_of_json : List (List ℕ × ParseKind) → Json → Result (List Cells) Bad
 rows_of_json parse tree = all_rows 0 (map (json_row parse) (values_of tree))
 

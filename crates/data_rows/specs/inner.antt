@@ -2,5 +2,6 @@
 pub mod Kinds
 pub mod JsonNames
 pub mod Ahead
+pub mod Left
 pub mod Records
 pub mod Header

@@ -3,7 +3,7 @@ ghost use Rattle.std.specs.Prelude.{◌≡◌, [], ◌∷◌, codes, find, IfOk,
 ghost use Rattle.json_exact.specs.declared.json.Json.{out-Json};
 ghost use Rattle.cell_value.specs.Row.{row_of};
 ghost use Rattle.data_rows.specs.Outcome.{GivesRows, all_rows, numbered};
-ghost use Rattle.data_rows.specs.JsonRows.{cell_in, is_huge, cells_of, fields_in, row_of_json, bad_field, parsed_fields, json_row, values_of, rows_of_json};
+ghost use Rattle.data_rows.specs.JsonRows.{cell_in, is_huge, cells_of, fields_in, row_of_json, bad_field, parsed_fields, json_row, rows_of_json};
 ghost use Rattle.data_rows.specs.Parse.{parsed_as};
 ghost use Rattle.data_rows.specs.inner.JsonNames.{huge_name};
 
@@ -42,32 +42,6 @@ pub fn rows_of_json(
     }
 }
 
-/// The rows of a JSON value as `rows_of_json` gives them. Each value of a list is let go as soon as its row is made.
-pub fn rows_of_tree(
-    alloc: Global,
-    tree: Json,
-    parse: &Seq<(Text, ParseKind)>,
-) -> Result<Seq<Row>, RowError>
-    ensures { GivesRows result (rows_of_json parse.now tree) }
-{
-    let kinds = Kinds::of(alloc, parse.as_slice())?;
-    rows_of_list(alloc, values_of(alloc, tree)?, &kinds)
-}
-
-// The values that are rows.
-fn values_of(alloc: Global, tree: Json) -> Result<Seq<Json>, OutOfMemory>
-    ensures { IfOk result (λ values. values ≡ values_of tree) }
-{
-    match tree {
-        Json::List(items) => Ok(items),
-        other => {
-            let mut values = Seq::new(alloc);
-            values.push(other)?;
-            Ok(values)
-        }
-    }
-}
-
 // The rows of values.
 fn rows_of_values(alloc: Global, trees: &[Json], kinds: &Kinds) -> Result<Seq<Row>, RowError>
     ensures { GivesRows result (all_rows 0 (map (json_row kinds.now.parse.now) trees.now)) }
@@ -83,23 +57,8 @@ fn rows_of_values(alloc: Global, trees: &[Json], kinds: &Kinds) -> Result<Seq<Ro
     Ok(rows)
 }
 
-// The rows of values that are let go in turn.
-fn rows_of_list(alloc: Global, trees: Seq<Json>, kinds: &Kinds) -> Result<Seq<Row>, RowError>
-    ensures { GivesRows result (all_rows 0 (map (json_row kinds.now.parse.now) trees)) }
-{
-    let mut rows = Seq::with_capacity(alloc, trees.len())?;
-    let mut pool = TextPool::new(alloc)?;
-    for tree in trees.into_vec() {
-        match row_of_tree(alloc, &mut pool, &rows, tree, kinds) {
-            Ok(row) => rows.push(row)?,
-            Err(why) => return Err(why),
-        }
-    }
-    Ok(rows)
-}
-
-// The row of a value, which has the number of the rows before it. The value is let go.
-fn row_of_tree(
+/// The row of a value, which has the number of the rows before it. The value is let go.
+pub(crate) fn row_of_tree(
     alloc: Global,
     pool: &mut TextPool,
     before: &Seq<Row>,

@@ -8,8 +8,10 @@ mod header;
 mod json_rows;
 mod kinds;
 mod records;
+mod text_rows;
 
 pub use csv_rows::rows_of_csv;
 pub use error::RowError;
-pub use json_rows::{bad_field, row_of_json, rows_of_json, rows_of_tree};
+pub use json_rows::{bad_field, row_of_json, rows_of_json};
 pub use kinds::ParseKind;
+pub use text_rows::{TextError, rows_of_text};

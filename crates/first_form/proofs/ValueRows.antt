@@ -5,11 +5,12 @@ use Rattle.json_exact.specs.declared.json.Json.{Json, Json-F, out-Json, out-roll
 use Rattle.json_exact.specs.declared.json.Json.TheVariants as json
 use Rattle.json_exact.specs.declared.json.Json.TheOpen as level
 use Rattle.json_exact.specs.declared.json.Member.{Member}
+use Rattle.json_exact.specs.Values.{values_in}
 use Rattle.cell_value.specs.declared.state.Keyed.{Keyed}
 use Rattle.cell_value.specs.Datum.{id_name}
 use Rattle.cell_value.specs.Row.{row_of}
 use Rattle.data_rows.specs.Outcome.{RowRead, all_rows, after_row, unless_bad}
-use Rattle.data_rows.specs.JsonRows.{fields_in, bad_field_in, parsed_fields, json_row, values_in}
+use Rattle.data_rows.specs.JsonRows.{fields_in, bad_field_in, parsed_fields, json_row}
 use Rattle.first_form.specs.declared.form.Value.{Value}
 use Rattle.first_form.specs.Bars.{with_ids}
 use Rattle.first_form.specs.Opening.{cells_of, value_row, value_object, values_of}

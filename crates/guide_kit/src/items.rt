@@ -3,6 +3,7 @@ ghost use Rattle.std.specs.Prelude.{◌≡◌, IfOk};
 ghost use Rattle.guide_kit.specs.Items.{stroked, filled, line_between, words_at, words_along, label_style, title_style, view_title_style};
 
 use crate::measures::pixels;
+use cell_value::SharedText;
 use fixed_num::Num;
 use scene_tree::{Anchor, Item, Shape};
 use std::alloc::Global;
@@ -70,7 +71,7 @@ fn stroked(alloc: Global, color: &str, shape: Shape) -> Result<Item, OutOfMemory
     Ok(Item {
         shape,
         fill: None,
-        stroke: Some(Text::of(alloc, color)?),
+        stroke: Some(SharedText::of(alloc, color)?),
         stroke_width: pixels(1),
         opacity: pixels(1),
         unit: None,
@@ -84,7 +85,7 @@ pub fn filled(alloc: Global, color: &str, opacity: Num, shape: Shape) -> Result<
 {
     Ok(Item {
         shape,
-        fill: Some(Text::of(alloc, color)?),
+        fill: Some(SharedText::of(alloc, color)?),
         stroke: None,
         stroke_width: pixels(1),
         opacity,

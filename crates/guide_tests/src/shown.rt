@@ -1,4 +1,5 @@
 // Items in words.
+use cell_value::SharedText;
 use fixed_num::Num;
 use guide_kit::{Block, Guide};
 use scene_tree::{Anchor, Item, Point, Shape};
@@ -21,7 +22,7 @@ fn push_word(out: &mut Text, word: &str) -> Result<(), OutOfMemory> {
 }
 
 // Adds a colour, or that there is none.
-fn push_color(out: &mut Text, color: &Option<Text>) -> Result<(), OutOfMemory> {
+fn push_color(out: &mut Text, color: &Option<SharedText>) -> Result<(), OutOfMemory> {
     match color {
         Some(color) => push_word(out, color.as_str()),
         None => push_word(out, "none"),

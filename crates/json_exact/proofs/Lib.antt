@@ -11,6 +11,7 @@ pub mod Complete
 pub mod Loop
 pub mod Sound
 pub mod Whole
+pub mod ValueReaders
 pub mod Causal
 pub mod Reach
 pub mod Behind

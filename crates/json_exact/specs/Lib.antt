@@ -1,4 +1,5 @@
 pub mod Reading
+pub mod Values
 pub mod Inside
 pub mod Path
 pub mod Writing

@@ -11,11 +11,11 @@ use crate::values::padded_of;
 use std::alloc::Global;
 
 /// How many lists and objects may stand in one another.
-const DEEPEST: u32 = 128;
+pub const DEEPEST: u32 = 128;
 
 /// The tree that all of the bytes spell.
 #[tactic(auto, unfolding(crate::specs::inner::Reader::text_at))]
-fn text_of(alloc: Global, bytes: &[u8]) -> Result<Json, Stop>
+pub fn text_of(alloc: Global, bytes: &[u8]) -> Result<Json, Stop>
     ensures { GivesAs (λ tree. tree) cause result (text_at bytes.now) }
 {
     let (tree, rest) = padded_of(alloc, DEEPEST, bytes)?;

@@ -14,12 +14,12 @@ ghost use Rattle.mark_encode.specs.Orders.{data_of, HaveIds};
 ghost use Rattle.mark_encode.specs.inner.Scaled.{look_values};
 ghost use Rattle.mark_encode.specs.inner.Shapes.{shape_by, row_item};
 
-use crate::looks::{Look, LookChannels, default_stroke_width, look_for, looks_of};
+use crate::looks::{Look, LookChannels, default_stroke_width, look_for, looks_of, shared_or_none};
 use crate::orders::{all_rows, rows_by_sort};
 use crate::paths::path_items;
 use crate::scales::IndexedSet;
 use crate::shapes::{ShapeChannels, shape_channels, shape_for};
-use cell_value::{Key, Keyed, Rows};
+use cell_value::{Key, Keyed, Rows, TextPool};
 use expr_eval::{EvalError, ParamReader};
 use fixed_num::Num;
 use scale_kit::ScaleSet;
@@ -73,29 +73,36 @@ fn picked_key(type_: MarkType, key: Key) -> Option<Key>
 
 // A shape that is painted, as the item of a mark.
 fn item_with(
+    alloc: Global,
+    pool: &mut TextPool,
     unit: u32,
     key: Option<Key>,
     found: Option<Shape>,
     painted: Option<Look>,
-) -> Option<Item>
-    ensures { result ≡ item_with unit key found painted }
+) -> Result<Option<Item>, OutOfMemory>
+    ensures { IfOk result (λ item. item ≡ item_with unit key found painted) }
 {
-    let shape = found?;
-    let look = painted?;
-    Some(Item {
+    let Some(shape) = found else {
+        return Ok(None);
+    };
+    let Some(look) = painted else {
+        return Ok(None);
+    };
+    Ok(Some(Item {
         shape,
-        fill: look.fill,
-        stroke: look.stroke,
+        fill: shared_or_none(alloc, pool, look.fill)?,
+        stroke: shared_or_none(alloc, pool, look.stroke)?,
         stroke_width: look.stroke_width,
         opacity: look.opacity,
         unit: Some(unit),
         key,
-    })
+    }))
 }
 
 // The item of a row; None where the row lacks a place, a number or a colour.
 fn row_item<P: ParamReader>(
     alloc: Global,
+    pool: &mut TextPool,
     mark: &MarkChannels,
     unit: u32,
     row: &Keyed,
@@ -107,7 +114,8 @@ fn row_item<P: ParamReader>(
     let shape = shape_for(alloc, &mark.shape, row, params)?;
     let default = default_stroke_width(mark.type_);
     let look = look_for(alloc, default, &mark.looks, row, params)?;
-    Ok(item_with(unit, picked_key(mark.type_, row.key), shape, look))
+    let key = picked_key(mark.type_, row.key);
+    Ok(item_with(alloc, pool, unit, key, shape, look)?)
 }
 
 // Adds an item at the end, if it is there.
@@ -132,8 +140,9 @@ fn row_items<P: ParamReader>(
     ensures { Evaluates result (items_with (row_item mark.now unit (P.values params.now)) (data_of rows.now)) }
 {
     let mut items = Seq::with_capacity(alloc, rows.len())?;
+    let mut pool = TextPool::new(alloc)?;
     for row in rows {
-        match row_item(alloc, mark, unit, row, params) {
+        match row_item(alloc, &mut pool, mark, unit, row, params) {
             Ok(item) => add(&mut items, item)?,
             Err(error) => return Err(error),
         }

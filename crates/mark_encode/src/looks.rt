@@ -13,7 +13,7 @@ use crate::colors::color_shown;
 use crate::numbers::number_shown;
 use crate::scales::IndexedSet;
 use crate::shown::{Shown, or_default};
-use cell_value::Keyed;
+use cell_value::{Keyed, SharedText, TextPool};
 use expr_eval::{EvalError, ParamReader};
 use fixed_num::Num;
 use std::alloc::Global;
@@ -110,6 +110,20 @@ pub fn look_of(
         stroke_width: or_default(pixels(default), stroke_width)?,
         opacity: or_default(pixels(1), opacity)?,
     })
+}
+
+/// A colour as a text that is shared with those of the pool; None for none.
+pub fn shared_or_none(
+    alloc: Global,
+    pool: &mut TextPool,
+    color: Option<Text>,
+) -> Result<Option<SharedText>, OutOfMemory>
+    ensures { IfOk result (λ shared. shared ≡ color) }
+{
+    match color {
+        Some(color) => Ok(Some(pool.shared(alloc, color.as_str())?)),
+        None => Ok(None),
+    }
 }
 
 /// How the item of a row is painted; None where it lacks a colour or a number.

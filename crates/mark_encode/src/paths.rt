@@ -14,13 +14,13 @@ ghost use Rattle.mark_encode.specs.inner.PathParts.{pass_values, path_values};
 
 use crate::channels::{ChannelName, Scaled, channel_values};
 use crate::colors::color_shown;
-use crate::looks::{Look, LookChannels, default_stroke_width, look_of, looks_of};
+use crate::looks::{Look, LookChannels, default_stroke_width, look_of, looks_of, shared_or_none};
 use crate::numbers::number_shown;
 use crate::places::place_of;
 use crate::runs::{Pass, Stop, points_of};
 use crate::scales::IndexedSet;
 use crate::shown::{Shown, or_default};
-use cell_value::Keyed;
+use cell_value::{Keyed, TextPool};
 use expr_eval::{EvalError, ParamReader};
 use fixed_num::Num;
 use scene_tree::{Item, Point, Shape};
@@ -240,23 +240,33 @@ fn some_points(points: Seq<Point>) -> Option<Seq<Point>>
 }
 
 // A path over points that is painted, as the item of a mark; None without a point.
-fn path_item(unit: u32, points: Seq<Point>, painted: Option<Look>) -> Option<Item>
-    ensures { result ≡ path_item unit points painted }
+fn path_item(
+    alloc: Global,
+    unit: u32,
+    points: Seq<Point>,
+    painted: Option<Look>,
+) -> Result<Option<Item>, OutOfMemory>
+    ensures { IfOk result (λ item. item ≡ path_item unit points painted) }
 {
-    let points = some_points(points)?;
-    let look = painted?;
-    Some(Item {
+    let Some(points) = some_points(points) else {
+        return Ok(None);
+    };
+    let Some(look) = painted else {
+        return Ok(None);
+    };
+    let mut pool = TextPool::empty(alloc);
+    Ok(Some(Item {
         shape: Shape::Path {
             points,
             picked: None,
         },
-        fill: look.fill,
-        stroke: look.stroke,
+        fill: shared_or_none(alloc, &mut pool, look.fill)?,
+        stroke: shared_or_none(alloc, &mut pool, look.stroke)?,
         stroke_width: look.stroke_width,
         opacity: look.opacity,
         unit: Some(unit),
         key: None,
-    })
+    }))
 }
 
 // An item as a list; an empty one of none.
@@ -288,7 +298,8 @@ fn path_of<P: ParamReader>(
     let stops = stops_for(alloc, path, rows, params)?;
     let look = path_look_for(alloc, default, &path.looks, first, params)?;
     let points = points_of(alloc, path.closed, stops.as_slice())?;
-    Ok(listed(alloc, path_item(unit, points, look))?)
+    let item = path_item(alloc, unit, points, look)?;
+    Ok(listed(alloc, item)?)
 }
 
 // The items of a path over rows, with lines so wide by default.

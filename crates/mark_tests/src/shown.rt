@@ -1,4 +1,5 @@
 // Items in words.
+use cell_value::SharedText;
 use fixed_num::Num;
 use scene_tree::{Anchor, Item, Point, Shape};
 use std::alloc::Global;
@@ -19,7 +20,7 @@ fn push_numbers(out: &mut Text, numbers: &[Num]) -> Result<(), OutOfMemory> {
 }
 
 // Adds a colour, or that there is none.
-fn push_color(out: &mut Text, color: &Option<Text>) -> Result<(), OutOfMemory> {
+fn push_color(out: &mut Text, color: &Option<SharedText>) -> Result<(), OutOfMemory> {
     match color {
         Some(color) => push_word(out, color.as_str()),
         None => push_word(out, "-"),

@@ -1,4 +1,4 @@
-use cell_value::{Cell, Key, Row};
+use cell_value::{Cell, Key, Row, SharedText};
 use fixed_num::Num;
 use scene_tree::{Anchor, Item, ItemRef, Panel, Point, Scene, Shape, pick};
 use std::alloc::Global;
@@ -42,8 +42,8 @@ fn words(alloc: Global) -> Result<Item, Fail> {
         bold: false,
         text: Text::of(alloc, "b")?,
     });
-    words.fill = Some(Text::of(alloc, "red")?);
-    words.stroke = Some(Text::of(alloc, "#000")?);
+    words.fill = Some(SharedText::of(alloc, "red")?);
+    words.stroke = Some(SharedText::of(alloc, "#000")?);
     Ok(words)
 }
 

@@ -1,3 +1,4 @@
+use cell_value::SharedText;
 use chart_io::{ListSink, WriteFault};
 use fixed_num::Num;
 use scene_tree::{Anchor, Item, Panel, Point, Scene, Shape};
@@ -47,11 +48,11 @@ fn pixels(count: i32) -> Num {
 /// How an item is filled and stroked (nothing where a text is empty), how wide its stroke is in pixels, and its opacity in millionths.
 type Style = (&'static str, &'static str, i32, i64);
 
-fn paint_of(alloc: Global, paint: &str) -> Result<Option<Text>, Fail> {
+fn paint_of(alloc: Global, paint: &str) -> Result<Option<SharedText>, Fail> {
     if paint.is_empty() {
         return Ok(None);
     }
-    Ok(Some(Text::of(alloc, paint)?))
+    Ok(Some(SharedText::of(alloc, paint)?))
 }
 
 fn item_of(alloc: Global, shape: Shape, style: Style) -> Result<Item, Fail> {

@@ -2,10 +2,10 @@
 ghost use Rattle.std.specs.Prelude.{◌≡◌, IfOk};
 
 use crate::Shape;
-use cell_value::{Key, Row};
+use cell_value::{Key, Row, SharedText};
 use fixed_num::Num;
 use std::alloc::Global;
-use text_kit::{Copies, OutOfMemory, Seq, Text, copy_list};
+use text_kit::{Copies, OutOfMemory, Seq, copy_list};
 
 /// A picture of this size, in pixels. Its panels are drawn in order.
 #[derive(Debug, Drop)]
@@ -44,9 +44,9 @@ pub struct Item {
     /// The shape.
     pub shape: Shape,
     /// The colour inside of it, as a word of SVG; None for none.
-    pub fill: Option<Text>,
+    pub fill: Option<SharedText>,
     /// The colour of its outline, as a word of SVG; None for none.
-    pub stroke: Option<Text>,
+    pub stroke: Option<SharedText>,
     /// The width of its outline, in pixels.
     pub stroke_width: Num,
     /// How opaque it is, from 0 to 1.

@@ -42,7 +42,7 @@ fn put_fill<K: Sink>(out: &mut K, page: &mut Page, item: &Item) -> Result<(), Wr
 {
     match (&item.shape, &item.fill, &item.stroke) {
         (Shape::Line { .. }, _, _) => Ok(()),
-        (_, Some(fill), _) => put_filled(out, page, fill),
+        (_, Some(fill), _) => put_filled(out, page, fill.as_text()),
         (_, None, Some(_)) => put_unfilled(out, page),
         (_, None, None) => Ok(()),
     }
@@ -77,7 +77,7 @@ fn put_stroke<K: Sink>(out: &mut K, page: &mut Page, item: &Item) -> Result<(), 
     let Some(stroke) = &item.stroke else {
         return Ok(());
     };
-    put_outline(out, page, stroke, item.stroke_width)
+    put_outline(out, page, stroke.as_text(), item.stroke_width)
 }
 
 // The opacity.

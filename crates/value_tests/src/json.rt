@@ -1,4 +1,4 @@
-use json_exact::{Json, JsonError, at_path, read, write};
+use json_exact::{Json, JsonError, ValueReader, at_path, read, write};
 use std::alloc::{AllocError, Global};
 use std::test::*;
 use text_kit::{OutOfMemory, Text};
@@ -164,6 +164,50 @@ fn what_is_refused(rt: HostRuntime) {
         let fault = fault_of(rt.alloc(), bytes);
         assert_eq!(rt; fault, Some(JsonError::Fault { at: *at }), "at {bytes:?}");
     }
+}
+
+/// Bytes, what is written of the values that they list, each with a semicolon behind it, and the fault behind those.
+const LISTED: [(&str, &str, Option<JsonError>); 12] = [
+    (" [1, [2,3] ,{\"a\":[4]}] ", "1;[2,3];{\"a\":[4]};", None),
+    (" [ ] ", "", None),
+    (" 7 ", "7;", None),
+    ("{\"a\":[1,2]}", "{\"a\":[1,2]};", None),
+    ("[[1,2]]", "[1,2];", None),
+    ("[1,2", "1;", Some(JsonError::Fault { at: 4 })),
+    ("[1,]", "1;", Some(JsonError::Fault { at: 3 })),
+    ("[1]x", "1;", Some(JsonError::Fault { at: 3 })),
+    ("[]]", "", Some(JsonError::Fault { at: 2 })),
+    ("[1 2]", "", Some(JsonError::Fault { at: 3 })),
+    ("nul", "", Some(JsonError::Fault { at: 3 })),
+    ("", "", Some(JsonError::Fault { at: 0 })),
+];
+
+/// What is written of the values that bytes list, and the fault behind them.
+fn listed(alloc: Global, text: &str) -> Result<(String, Option<JsonError>), Fail> {
+    let mut out = String::new(alloc);
+    let mut left = ValueReader::of(text.as_bytes());
+    for _ in 0..100 {
+        match left.next_value(alloc) {
+            Ok(Some((value, others))) => {
+                out.push_str(write(alloc, &value)?.as_str())?;
+                out.push_str(";")?;
+                left = others;
+            }
+            Ok(None) => return Ok((out, None)),
+            Err(error) => return Ok((out, Some(error))),
+        }
+    }
+    Ok((out, None))
+}
+
+#[test]
+fn values_are_read_one_after_the_other(rt: HostRuntime) -> Result<(), Fail> {
+    for (text, want, fault) in &LISTED {
+        let (values, found) = listed(rt.alloc(), text)?;
+        assert_eq!(rt; values.as_str(), *want, "at {text}");
+        assert_eq!(rt; found, *fault, "at {text}");
+    }
+    Ok(())
 }
 
 /// A value inside that many pairs of brackets or braces.

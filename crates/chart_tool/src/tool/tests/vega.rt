@@ -96,7 +96,7 @@ pub(super) fn run_over(
 }
 
 // Words, data, the members at the end, the file `d`, the status with the note, and the output.
-const RUNS: [(&[&str], &str, &str, &str, (u8, &str), &str); 21] = [
+const RUNS: [(&[&str], &str, &str, &str, (u8, &str), &str); 25] = [
     (&["render", "s.json"], THREE_ROWS, "", "", DONE, PICTURE),
     (
         &["render", "s.json"],
@@ -161,6 +161,39 @@ const RUNS: [(&[&str], &str, &str, &str, (u8, &str), &str); 21] = [
         "",
         "[1",
         (3, "chart: json d at 2\n"),
+        "",
+    ),
+    // A fault of the text comes before a bad row, wherever it stands.
+    (
+        &["render", "s.json"],
+        "{\"name\":\"t\",\"url\":\"d\"}",
+        "",
+        "[{\"a\":1},[2],1e16]",
+        (5, "chart: row \"t\" 1 \"\"\n"),
+        "",
+    ),
+    (
+        &["render", "s.json"],
+        "{\"name\":\"t\",\"url\":\"d\"}",
+        "",
+        "[[1],2",
+        (3, "chart: json d at 6\n"),
+        "",
+    ),
+    (
+        &["render", "s.json"],
+        "{\"name\":\"t\",\"url\":\"d\"}",
+        "",
+        "[{\"a\":1}] x",
+        (3, "chart: json d at 10\n"),
+        "",
+    ),
+    (
+        &["render", "s.json"],
+        "{\"name\":\"t\",\"url\":\"d\"}",
+        "",
+        "1e16",
+        (5, "chart: row \"t\" 0 \"data\"\n"),
         "",
     ),
     (
