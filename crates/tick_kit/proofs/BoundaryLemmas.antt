@@ -1,5 +1,5 @@
--- The boundaries in a domain are all boundaries in it.
-use Rattle.std.proofs.Common.{◌≡◌, ℕ, zero, suc, ◌*◌, ◌%◌, ◌<◌, ◌⊎◌, inl, inr, Bool, true, false, eqb, if◌then◌else◌, ℤ, pos, negsuc, ◌+ℤ◌, ◌-ℤ◌, ◌*ℤ◌, ◌≤ℤ◌, ◌<ℤ◌, unsigned_abs, int_le, Option, Some, None, option_map, List, [], ◌∷◌, ◌++◌, IsTrue, refl, sym, ap, ◌∙◌, subst, ⊎_elim, arith}
+-- The boundaries in a domain are all boundaries in it, and those on the way through it are these.
+use Rattle.std.proofs.Common.{◌≡◌, ℕ, zero, suc, ◌*◌, ◌%◌, ◌<◌, ◌≤◌, ◌⊎◌, inl, inr, Bool, true, false, eqb, if◌then◌else◌, ℤ, pos, negsuc, ◌+ℤ◌, ◌-ℤ◌, ◌*ℤ◌, ◌≤ℤ◌, ◌<ℤ◌, unsigned_abs, int_le, Option, Some, None, option_map, List, [], ◌∷◌, ◌++◌, filter, IsTrue, refl, sym, ap, ◌∙◌, subst, ⊎_elim, arith}
 use Rattle.std.specs.Option.{option_and_then}
 use Rattle.std.proofs.lemmas.Bool.{and_parts, and_from, eqb-true, true≢false}
 use Rattle.std.proofs.lemmas.Int.{ints, unsigned_abs-mul}
@@ -10,9 +10,11 @@ use Rattle.time_calc.specs.Boundaries.{is_boundary, last_boundary, Follows, None
 use Rattle.time_calc.specs.NextBoundary.{next_boundary}
 use Rattle.time_calc.proofs.BoundaryUnits.{IsInstant, next_is_first}
 use Rattle.tick_kit.specs.Steps.{span_of}
-use Rattle.tick_kit.specs.Ticks.{AreAll}
-use Rattle.tick_kit.specs.TimeTicks.{whole_milliseconds, is_whole, is_boundary_number, following, up_to_end, up_to, boundaries_after, boundaries_in, IsBoundaryIn, BoundariesAreAll}
-use Rattle.tick_kit.proofs.AllLemmas.{all_same, all_none, all_after}
+use Rattle.tick_kit.specs.Ticks.{multiples_in, AreAll, IsMultipleIn}
+use Rattle.tick_kit.specs.TimeTicks.{whole_milliseconds, is_whole, is_boundary_number, boundaries_in, IsBoundaryIn, BoundariesAreAll}
+use Rattle.tick_kit.specs.inner.Boundaries.{following, up_to_end, up_to, boundaries_after, boundaries_on_the_way}
+use Rattle.tick_kit.proofs.AllLemmas.{all_same, all_none, all_after, all_passing, all_are_one}
+use Rattle.tick_kit.proofs.MultipleLemmas.{multiples_are_all}
 use Rattle.tick_kit.proofs.PartLemmas.{instant_there}
 use Rattle.tick_kit.proofs.TickLemmas.{cases_lt_int}
 
@@ -238,9 +240,46 @@ module _ (unit : Unit) (n : ℕ) (domain : ℤ × ℤ) where
   from_end later true h e all = from_boundary later h e all
   from_end later false h e all = from_none later e all
 
-pub boundaries_are_all : BoundariesAreAll
-unfolding boundaries_in
-boundaries_are_all unit n domain some h first last =
+-- those on the way are all boundaries in the domain
+all_on_the_way : (unit : Unit) (n : ℕ) (domain : ℤ × ℤ) → 1 ≤ n → domain.0 ≤ℤ domain.1 → IsTrue (stands_for_instant domain.0) → IsTrue (stands_for_instant domain.1)
+    → AreAll (IsBoundaryIn unit n domain) (boundaries_on_the_way unit n domain)
+unfolding boundaries_on_the_way
+all_on_the_way unit n domain some h first last =
     let room : (domain.1 -ℤ domain.0) ≤ℤ pos (span_of domain) = omega (arith, ints, h) in
     from_end unit n domain (boundaries_after (span_of domain) unit n domain.1 domain.0) (is_boundary_number unit n domain.0) h refl
     (all_boundaries_after unit n some domain.1 (in_bounds domain.1 last) (span_of domain) domain.0 (in_bounds domain.0 first) room)
+
+-- ---- the whole milliseconds that are boundaries
+
+pub boundaries_are_all : BoundariesAreAll
+unfolding boundaries_in is_boundary_number
+boundaries_are_all unit n domain h =
+    all_same (λ z. IsMultipleIn (pos million) domain z × (is_boundary_number unit n z ≡ true)) (IsBoundaryIn unit n domain)
+    (filter (is_boundary_number unit n) (multiples_in (pos million) domain)) to back
+    (all_passing (IsMultipleIn (pos million) domain) (is_boundary_number unit n) (multiples_in (pos million) domain)
+    (multiples_are_all (pos million) domain (omega (arith, ints)) h))
+  where
+    to : (z : ℤ) → IsMultipleIn (pos million) domain z × (is_boundary_number unit n z ≡ true) → IsBoundaryIn unit n domain z
+    to z m =
+        let parts = and_parts (is_whole z) (is_boundary unit n (whole_milliseconds z)) m.1 in
+        record {
+          instant = whole_milliseconds z;
+          number = whole_by z parts.0;
+          boundary = parts.1;
+          not_below = m.0.not_below;
+          not_above = m.0.not_above;
+        }
+
+    back : (z : ℤ) → IsBoundaryIn unit n domain z → IsMultipleIn (pos million) domain z × (is_boundary_number unit n z ≡ true)
+    back z b =
+        let whole = ap is_whole b.number ∙ is_whole_instant b.instant in
+        let there = ap (is_boundary unit n) (ap whole_milliseconds b.number ∙ whole_of_instant b.instant) ∙ b.boundary in (
+          record { times = b.instant; multiple = b.number; not_below = b.not_below; not_above = b.not_above },
+          and_from (is_whole z) (is_boundary unit n (whole_milliseconds z)) whole there,
+        )
+
+pub on_the_way : (unit : Unit) (n : ℕ) (domain : ℤ × ℤ) → 1 ≤ n → domain.0 ≤ℤ domain.1 → IsTrue (stands_for_instant domain.0) → IsTrue (stands_for_instant domain.1)
+    → boundaries_on_the_way unit n domain ≡ boundaries_in unit n domain
+on_the_way unit n domain some h first last =
+    all_are_one (IsBoundaryIn unit n domain) (boundaries_on_the_way unit n domain) (boundaries_in unit n domain)
+    (all_on_the_way unit n domain some h first last) (boundaries_are_all unit n domain h)

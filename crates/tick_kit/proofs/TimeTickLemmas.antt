@@ -1,7 +1,7 @@
 -- Boundaries, one after another.
 use Rattle.std.proofs.Common.{◌≡◌, ℕ, suc, ◌+◌, ◌-◌, ◌<◌, ◌≤◌, ℤ, List, [], ◌∷◌, ◌++◌, append_assoc, append-nil, sym, ap, ◌∙◌, arith}
 use Rattle.case_table.specs.declared.unit.Unit.{Unit}
-use Rattle.tick_kit.specs.TimeTicks.{following, up_to, boundaries_after}
+use Rattle.tick_kit.specs.inner.Boundaries.{following, up_to, boundaries_after}
 
 pub one_after : (s i : ℕ) (unit : Unit) (n : ℕ) (high at : ℤ) → i < s
     → boundaries_after (s - i) unit n high at ≡ up_to high (following unit n at) (boundaries_after (s - (i + 1)) unit n high)

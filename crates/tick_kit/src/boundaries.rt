@@ -3,8 +3,8 @@ ghost use Rattle.std.specs.Prelude.{◌≡◌, ◌≤◌, ◌≤ℤ◌, ◌++◌
 ghost use Rattle.case_table.specs.declared.unit.Unit.TheVariants.{Week};
 ghost use Rattle.time_calc.specs.Instants.{stands_for_instant};
 ghost use Rattle.tick_kit.specs.Steps.{span_of};
-ghost use Rattle.tick_kit.specs.TimeTicks.{is_boundary_number, following, up_to, boundaries_after, boundaries_in, time_ticks_of};
-ghost use Rattle.tick_kit.specs.inner.Boundaries.{with_later};
+ghost use Rattle.tick_kit.specs.TimeTicks.{is_boundary_number, boundaries_in, time_ticks_of};
+ghost use Rattle.tick_kit.specs.inner.Boundaries.{following, up_to, boundaries_after, boundaries_on_the_way, with_later};
 
 use crate::intervals::interval_of;
 use crate::multiples::one_tick;
@@ -16,7 +16,7 @@ use text_kit::{OutOfMemory, Seq};
 use time_calc::{Unit, next};
 
 // The first boundary of `n` units after the instant of a number, where it isn't past an end.
-#[tactic(auto, unfolding(crate::specs::TimeTicks::following))]
+#[tactic(auto, unfolding(crate::specs::inner::Boundaries::following))]
 fn next_up_to(at: Num, unit: Unit, n: u32, high: Num) -> Option<Num>
     requires some { 1 ≤ n }
     requires single_weeks { unit ≡ Week → n ≡ 1 }
@@ -66,9 +66,9 @@ fn tick_at(alloc: Global, at: Num, unit: Unit, n: u32) -> Result<Seq<Num>, OutOf
     }
 }
 
-// The boundaries of `n` units in a domain.
-#[tactic(auto, unfolding(crate::specs::TimeTicks::boundaries_in))]
-fn boundaries_in(
+// The boundaries of `n` units on the way from one end of a domain to the other.
+#[tactic(auto, unfolding(crate::specs::inner::Boundaries::boundaries_on_the_way))]
+fn boundaries_on_the_way(
     alloc: Global,
     unit: Unit,
     n: u32,
@@ -78,11 +78,29 @@ fn boundaries_in(
     requires instant { IsTrue (stands_for_instant lo) }
     requires some { 1 ≤ n }
     requires single_weeks { unit ≡ Week → n ≡ 1 }
-    ensures { IfOk result (λ ticks. ticks ≡ boundaries_in unit n (lo, hi)) }
+    ensures { IfOk result (λ ticks. ticks ≡ boundaries_on_the_way unit n (lo, hi)) }
 {
     let mut ticks = tick_at(alloc, lo, unit, n)?;
     push_boundaries(&mut ticks, unit, n, lo, hi)?;
     Ok(ticks)
+}
+
+// The boundaries of `n` units in a domain.
+fn boundaries_in(
+    alloc: Global,
+    unit: Unit,
+    n: u32,
+    lo: Num,
+    hi: Num,
+) -> Result<Seq<Num>, OutOfMemory>
+    requires ordered { lo ≤ℤ hi }
+    requires first { IsTrue (stands_for_instant lo) }
+    requires last { IsTrue (stands_for_instant hi) }
+    requires some { 1 ≤ n }
+    requires single_weeks { unit ≡ Week → n ≡ 1 }
+    ensures { IfOk result (λ ticks. ticks ≡ boundaries_in unit n (lo, hi)) }
+{
+    boundaries_on_the_way(alloc, unit, n, lo, hi)
 }
 
 /// The ticks of a domain of instants, in milliseconds since 1970-01-01T00:00Z, in UTC, for about `count` of them: the boundaries from

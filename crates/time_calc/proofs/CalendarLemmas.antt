@@ -1,11 +1,10 @@
 -- Days and dates are counted from each other.
-use Rattle.std.proofs.Common.{◌≡◌, ℕ, zero, suc, ◌+◌, ◌-◌, ◌*◌, ◌/◌, ◌<◌, ◌≤◌, Bool, true, false, cond, nat_eq, nat_le, refl, sym, ap, ◌∙◌, arith, ℤ, pos, neg_ℤ, ◌+ℤ◌, ◌-ℤ◌, ◌≤ℤ◌, unsigned_abs, inl, inr}
-use Rattle.std.proofs.lemmas.Bool.{leb-true, leb-false, le-leb, lt-leb, true≢false, cases_lt, eqb-true, agree_below_at, and_parts, and_from}
+use Rattle.std.proofs.Common.{◌≡◌, ℕ, zero, suc, ◌+◌, ◌-◌, ◌*◌, ◌/◌, ◌<◌, ◌≤◌, Bool, true, false, cond, nat_le, refl, sym, ap, ◌∙◌, arith, ℤ, pos, neg_ℤ, ◌+ℤ◌, ◌-ℤ◌, ◌≤ℤ◌, unsigned_abs, inl, inr}
+use Rattle.std.proofs.lemmas.Bool.{leb-true, leb-false, le-leb, lt-leb, true≢false, cases_lt, and_parts, and_from}
 use Rattle.std.proofs.lemmas.Bool.Decides.{nat_tests}
 use Rattle.std.proofs.lemmas.Int.{ints}
 use Rattle.time_calc.specs.declared.calendar.Date.{Date}
 use Rattle.time_calc.specs.Calendar.{is_leap, days_of_month, days_before_year, days_of_months, is_date, day_count, days_before_1970, greatest_passing, year_of_count, month_of_count, date_in_year, date_of_count, date_of_day}
-use Rattle.time_calc.specs.inner.Calendar.{missing_days}
 use Rattle.time_calc.specs.CalendarLaws.{YearsFollow, MonthsMakeTheYear, DateOfItsDay, DaysHaveDates, DayOfItsDate}
 
 -- ---- the greatest number that passes
@@ -85,15 +84,6 @@ months_grow leap a (suc b) h =
       | inl lt ↦ let same : a ≡ suc b = omega arith in omega (arith, ap (days_of_months leap) same)
       | inr ge ↦ omega (arith, months_grow leap a b ge)
     ]
-
--- the days before each month by a formula in which February has 30 days
-pub months_by_formula : (leap : Bool) (months : ℕ) → months ≤ 12 → (367 * months + 5) / 12 - missing_days leap months ≡ days_of_months leap months
-unfolding days_of_months
-months_by_formula leap months h =
-    eqb-true _ _ (elim leap as (λ b. nat_eq ((367 * months + 5) / 12 - missing_days b months) (days_of_months b months) ≡ true) [
-      | true ↦ agree_below_at (λ k. nat_eq ((367 * k + 5) / 12 - missing_days true k) (days_of_months true k)) (λ k. true) 13 months refl (omega arith)
-      | false ↦ agree_below_at (λ k. nat_eq ((367 * k + 5) / 12 - missing_days false k) (days_of_months false k)) (λ k. true) 13 months refl (omega arith)
-    ])
 
 -- ---- a day in its year
 

@@ -5,7 +5,8 @@ use Rattle.std.proofs.lemmas.Bool.{and_parts, and_right, true≢false, cases_eq,
 use Rattle.std.proofs.Math.Seq.{drop-cons}
 use Rattle.fixed_num.specs.inner.Digits.{number_after}
 use Rattle.fixed_num.proofs.DigitLemmas.{ten_pos}
-use Rattle.time_calc.specs.Forms.{stands_for, fits, forms, under, value}
+use Rattle.std.specs.Char.{is_ascii_digit}
+use Rattle.time_calc.specs.Forms.{digit_letters, stands_for, fits, forms, under, value}
 use Rattle.time_calc.specs.inner.Forms.{is_short, are_short, IsFormOf, read_letters}
 
 -- a form and a text of one length fit where each pair of bytes does
@@ -58,7 +59,7 @@ found_form text [] h = tt
 found_form text (x ∷ xs) h =
     let parts = and_parts (is_short x.now) (list_all is_short (map (λ (x : Bor (List ℕ)). x.now) xs)) h in
     elim (fits x.now text) as (λ b. fits x.now text ≡ b → IfSome (cond b (Some x) (find (λ (x : Bor (List ℕ)). fits x.now text) xs)) (λ form. IsFormOf text form.now))
-    [ true ↦ λ e. record { same_length = fits_length x.now text e; short = parts.0 } | false ↦ λ e. found_form text xs parts.1 ] refl
+    [ true ↦ λ e. record { same_length = fits_length x.now text e; has = e; short = parts.0 } | false ↦ λ e. found_form text xs parts.1 ] refl
 
 -- the forms are short
 pub forms_are_short : are_short forms ≡ true
@@ -98,6 +99,23 @@ few_digits letter (f ∷ form) (c ∷ text) =
       | false ↦ λ e. omega (arith, ap length (elsewhere letter f c form text e), few_digits letter form text)
     ] refl
 
+-- a byte for which a letter of digits stands is a digit
+digit_stands : (form text : List ℕ) (i : ℕ) → fits form text ≡ true → i < length form → list_any (λ l. l == get_or form i 0) digit_letters ≡ true → get_or text i 0 ≤ 57
+digit_stands [] text i h inside is = absurd (omega (arith, inside))
+digit_stands (f ∷ form) [] i h inside is = absurd (true≢false (sym h))
+digit_stands (f ∷ form) (c ∷ text) zero h inside is =
+    let first = (and_parts (stands_for f c) (fits form text) h).0 in
+    let digit : is_ascii_digit c ≡ true = ap (λ b. cond b (is_ascii_digit c) ((f == 66) || (f == c))) (sym is) ∙ first in
+    leb-true _ _ (and_parts (nat_le 48 c) (nat_le c 57) digit).1
+digit_stands (f ∷ form) (c ∷ text) (suc i) h inside is =
+    digit_stands form text i (and_parts (stands_for f c) (fits form text) h).1 (omega (arith, inside)) is
+
+-- the letters that are read stand for digits
+digit_at : (letter : ℕ) (form text : List ℕ) (i : ℕ) → IsFormOf text form → list_any (λ l. l == letter) read_letters ≡ true → i < length form → get_or form i 0 ≡ letter → get_or text i 0 ≤ 57
+digit_at letter form text i is some h at =
+    let of_digits : list_any (λ l. l == letter) digit_letters ≡ true = all_at (λ k. list_any (λ l. l == k) digit_letters) letter read_letters refl some in
+    digit_stands form text i is.has h (ap (λ k. list_any (λ l. l == k) digit_letters) at ∙ of_digits)
+
 -- the rest of a form and its text from a place on
 rest_of : ℕ → List ℕ → List ℕ → ℕ → List ℕ
 rest_of letter form text i = under letter (drop i form) (drop i text)
@@ -116,9 +134,9 @@ number_after-cons n d ds = omega (arith, ap (λ x. n * x) (pow-suc 10 (length ds
 -- what a loop over a form knows of the number so far: with the digits that are left it makes the whole number, which is small
 pub record IsSoFar (letter : ℕ) (form text : List ℕ) (i n : ℕ) : Type 0 where
   pub whole : number_after n (under letter (drop i form) (drop i text)) ≡ value letter form text
-  pub small : (n + 23) * 10 ^ length (under letter (drop i form) (drop i text)) ≤ 230000
+  pub small : (n + 1) * 10 ^ length (under letter (drop i form) (drop i text)) ≤ 10000
 
-ten_to_four : (k : ℕ) → k ≤ 4 → (0 + 23) * 10 ^ k ≤ 230000
+ten_to_four : (k : ℕ) → k ≤ 4 → (0 + 1) * 10 ^ k ≤ 10000
 ten_to_four zero h = omega arith
 ten_to_four (suc zero) h = omega arith
 ten_to_four (suc (suc zero)) h = omega arith
@@ -137,20 +155,22 @@ so_far_elsewhere letter form text i n is h other so_far =
     let same = from_here letter form text i h is.same_length ∙ elsewhere letter (get_or form i 0) (get_or text i 0) (drop (i + 1) form) (drop (i + 1) text) (ne_eqb _ _ other) in
     record {
       whole = ap (number_after n) (sym same) ∙ so_far.whole;
-      small = let P : List ℕ → Type 0 = λ ds. (n + 23) * 10 ^ length ds ≤ 230000 in subst P same so_far.small;
+      small = let P : List ℕ → Type 0 = λ ds. (n + 1) * 10 ^ length ds ≤ 10000 in subst P same so_far.small;
     }
 
-pub so_far_here : (letter : ℕ) (form text : List ℕ) (i n d : ℕ) → IsFormOf text form → i < length form → get_or form i 0 ≡ letter → get_or text i 0 < 256 → d ≡ get_or text i 0 - 48 → IsSoFar letter form text i n →
-    (n ≤ 22977) × IsSoFar letter form text (i + 1) (n * 10 + d)
-so_far_here letter form text i n d is h at byte digit so_far =
+pub so_far_here : (letter : ℕ) (form text : List ℕ) (i n d : ℕ) → IsFormOf text form → list_any (λ l. l == letter) read_letters ≡ true → i < length form → get_or form i 0 ≡ letter → d ≡ get_or text i 0 - 48 → IsSoFar letter form text i n →
+    (n ≤ 999) × (d ≤ 9) × IsSoFar letter form text (i + 1) (n * 10 + d)
+so_far_here letter form text i n d is some h at digit so_far =
+    let byte = digit_at letter form text i is some h at in
     let rest : List ℕ = under letter (drop (i + 1) form) (drop (i + 1) text) in
     let same : under letter (drop i form) (drop i text) ≡ get_or text i 0 ∷ rest =
     from_here letter form text i h is.same_length ∙ here letter (get_or form i 0) (get_or text i 0) (drop (i + 1) form) (drop (i + 1) text) (eq-eqb _ _ at) in
-    let small : (n + 23) * 10 ^ suc (length rest) ≤ 230000 = let P : List ℕ → Type 0 = λ ds. (n + 23) * 10 ^ length ds ≤ 230000 in subst P same so_far.small in
-    let split : (n + 23) * 10 ^ suc (length rest) ≡ (n + 23) * 10 * 10 ^ length rest = omega (arith, ap (λ x. (n + 23) * x) (pow-suc 10 (length rest))) in
-    let next : (n * 10 + d + 23) * 10 ^ length rest ≤ (n + 23) * 10 * 10 ^ length rest = mul-le-mul_right (10 ^ length rest) (omega (arith, byte, digit)) in
-    let least : (n + 23) * 10 * 1 ≤ (n + 23) * 10 * 10 ^ length rest = mul-le-mul_left ((n + 23) * 10) (ten_pos (length rest)) in (
+    let small : (n + 1) * 10 ^ suc (length rest) ≤ 10000 = let P : List ℕ → Type 0 = λ ds. (n + 1) * 10 ^ length ds ≤ 10000 in subst P same so_far.small in
+    let split : (n + 1) * 10 ^ suc (length rest) ≡ (n + 1) * 10 * 10 ^ length rest = omega (arith, ap (λ x. (n + 1) * x) (pow-suc 10 (length rest))) in
+    let next : (n * 10 + d + 1) * 10 ^ length rest ≤ (n + 1) * 10 * 10 ^ length rest = mul-le-mul_right (10 ^ length rest) (omega (arith, byte, digit)) in
+    let least : (n + 1) * 10 * 1 ≤ (n + 1) * 10 * 10 ^ length rest = mul-le-mul_left ((n + 1) * 10) (ten_pos (length rest)) in (
       omega (arith, small, split, least),
+      omega (arith, byte, digit),
       record {
         whole = ap (λ d. number_after (n * 10 + d) rest) digit ∙ sym (number_after-cons n (get_or text i 0) rest) ∙ ap (number_after n) (sym same) ∙ so_far.whole;
         small = omega (arith, small, split, next);
@@ -167,9 +187,9 @@ none_under : (letter : ℕ) (text : List ℕ) → under letter [] text ≡ []
 unfolding under
 none_under letter text = refl
 
-pub so_far_at_last : (letter : ℕ) (form text : List ℕ) (i n : ℕ) → length form ≤ i → IsSoFar letter form text i n → (n ≡ value letter form text) × (n ≤ 229977)
+pub so_far_at_last : (letter : ℕ) (form text : List ℕ) (i n : ℕ) → length form ≤ i → IsSoFar letter form text i n → (n ≡ value letter form text) × (n ≤ 9999)
 so_far_at_last letter form text i n h so_far =
     let empty : under letter (drop i form) (drop i text) ≡ [] = ap (λ xs. under letter xs (drop i text)) (nothing_left form i h) ∙ none_under letter (drop i text) in
     let whole : n * 10 ^ 0 + 0 ≡ value letter form text = ap (number_after n) (sym empty) ∙ so_far.whole in
-    let small : (n + 23) * 10 ^ 0 ≤ 230000 = let P : List ℕ → Type 0 = λ ds. (n + 23) * 10 ^ length ds ≤ 230000 in subst P empty so_far.small in
+    let small : (n + 1) * 10 ^ 0 ≤ 10000 = let P : List ℕ → Type 0 = λ ds. (n + 1) * 10 ^ length ds ≤ 10000 in subst P empty so_far.small in
     (omega (arith, whole), omega (arith, small))

@@ -8,7 +8,7 @@ pub mod CalendarLemmas
 pub mod DatetimeLemmas
 pub mod FormLemmas
 pub mod InstantLemmas
+pub mod JiffDates
 pub mod LabelLemmas
-pub mod MarchLemmas
 pub mod TimeUnitEnds
 pub mod TimeUnitLemmas

@@ -1,4 +1,3 @@
-pub mod Calendar
 pub mod Datetime
 pub mod Forms
 pub mod Labels

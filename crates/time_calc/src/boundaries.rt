@@ -8,7 +8,7 @@ ghost use Rattle.time_calc.specs.Instants.{instant_at, instant_number, first_ins
 ghost use Rattle.time_calc.specs.NextBoundary.{picked, boundary_in_day, boundary_by_date, boundary_of_week, boundary_of_milliseconds, boundary_of_clock, boundary_of_dates, boundary_at, truncated, next_boundary};
 
 use crate::calendar::{
-    DAYS_BEFORE_1970, Date, date_of_day, days_before_year, days_of_month, days_of_months, is_leap,
+    DAYS_BEFORE_1970, Date, date_of_day, days_before_month, days_before_year, days_of_month,
     weekday_of,
 };
 use crate::instants::{
@@ -62,20 +62,14 @@ fn boundary_by_date(side: Side, unit: Unit, n: u32, date: Date) -> u32
     ensures value { result ≡ boundary_by_date side unit n date }
     ensures bound { result ≤ 4_000_000 }
 {
-    let leap = is_leap(date.year);
     let month = date.month - 1;
     match unit {
         Unit::Day => {
-            days_before_year(date.year)
-                + days_of_months(leap, month)
-                + picked(side, n, days_of_month(leap, date.month), date.day - 1)
+            days_before_month(date.year, month)
+                + picked(side, n, days_of_month(date.year, date.month), date.day - 1)
         }
-        Unit::Month => {
-            days_before_year(date.year) + days_of_months(leap, picked(side, n, 12, month))
-        }
-        Unit::Quarter => {
-            days_before_year(date.year) + days_of_months(leap, 3 * picked(side, n, 4, month / 3))
-        }
+        Unit::Month => days_before_month(date.year, picked(side, n, 12, month)),
+        Unit::Quarter => days_before_month(date.year, 3 * picked(side, n, 4, month / 3)),
         _ => days_before_year(picked(side, n, 10_000, date.year)),
     }
 }

@@ -1,7 +1,10 @@
-//! The proleptic Gregorian calendar.
-ghost use Rattle.std.specs.Prelude.{◌≡◌, ◌+◌, ◌*◌, ◌/◌, ◌&&◌, nat_le, if◌then◌else◌, ◌≤◌, ◌<◌, ◌-◌, ◌+ℤ◌, ◌<ℤ◌, ◌≤ℤ◌, ℤ, pos, negsuc, neg_ℤ, IsTrue};
-ghost use Rattle.time_calc.specs.inner.Calendar.{missing_days, days_before_march, days_from_march};
+//! The proleptic Gregorian calendar, which is `jiff`'s.
+ghost use Rattle.std.specs.Prelude.{◌≡◌, ◌+◌, ◌%◌, ◌≤◌, ◌+ℤ◌, ◌≤ℤ◌, ℤ, pos, neg_ℤ, IsTrue};
+ghost use Rattle.jiff_core.specs.Date.{epoch_day};
 ghost use Rattle.time_calc.specs.Calendar.{is_leap, days_of_month, days_before_year, days_of_months, is_date, day_count, day_of_date, date_of_count, date_of_day, weekday_of};
+
+use jiff::civil;
+use jiff_core::civil::Date as PlainDate;
 
 /// A date: the year, the month from 1 to 12, and the day of the month from 1.
 #[derive(Clone, Copy, Debug)]
@@ -14,165 +17,146 @@ pub struct Date {
 /// The number of days from 1 January of the year 0 to 1 January 1970.
 pub(crate) const DAYS_BEFORE_1970: i64 = 719_528;
 
-/// Whether a year is a leap year.
-pub(crate) fn is_leap(year: u32) -> bool
-    ensures { result ≡ is_leap year }
+/// The number of days from 1 January of the year 0 to 1 January 10000, before which `jiff`'s dates end.
+const DAYS_BEFORE_10000: u32 = 3_652_425;
+
+/// The number of days from 1 January of the year -9999, where `jiff`'s dates begin, to that of the year 0.
+const DAYS_BEFORE_0: u32 = 3_652_059;
+
+/// A date as `jiff` has it.
+fn civil_date(date: Date) -> civil::Date
+    requires year { date.year ≤ 9_999 }
+    requires date { IsTrue (is_date date) }
+    ensures year { result.year ≡ pos date.year }
+    ensures month { result.month ≡ date.month }
+    ensures day { result.day ≡ date.day }
 {
-    if year % 100 == 0 {
-        year % 400 == 0
-    } else {
-        year % 4 == 0
-    }
+    civil::date(date.year as i16, date.month as i8, date.day as i8)
 }
 
 /// The number of days of a month, counted from 1.
-pub(crate) fn days_of_month(leap: bool, month: u32) -> u32
-    ensures { result ≡ days_of_month leap month }
+pub(crate) fn days_of_month(year: u32, month: u32) -> u32
+    requires year { year ≤ 9_999 }
+    requires low { 1 ≤ month }
+    requires high { month ≤ 12 }
+    ensures value { result ≡ days_of_month (is_leap year) month }
+    ensures bound { result ≤ 31 }
 {
-    match month {
-        2 => if leap { 29 } else { 28 },
-        4 | 6 | 9 | 11 => 30,
-        _ => 31,
-    }
-}
-
-/// The number of days of the years from 0 to before this one.
-#[tactic(auto, unfolding(crate::specs::Calendar::days_before_year))]
-pub(crate) fn days_before_year(year: u32) -> u32
-    requires { year ≤ 1_000_000 }
-    ensures value { result ≡ days_before_year year }
-    ensures bound { result ≤ 366 * year }
-{
-    let centuries = (year + 99) / 100;
-    365 * year + ((year + 3) / 4 - centuries + (centuries + 3) / 4)
-}
-
-/// How many days so many months from January on lack, where February had 30 days.
-fn missing_days(leap: bool, months: u32) -> u32
-    ensures value { result ≡ missing_days leap months }
-    ensures bound { result ≤ 2 }
-{
-    if months < 2 {
-        0
-    } else if leap {
-        1
-    } else {
-        2
-    }
-}
-
-/// The number of days of so many months from January on.
-#[tactic(auto, using(crate::proofs::CalendarLemmas::months_by_formula))]
-pub(crate) fn days_of_months(leap: bool, months: u32) -> u32
-    requires { months ≤ 12 }
-    ensures value { result ≡ days_of_months leap months }
-    ensures bound { result ≤ 366 }
-{
-    (367 * months + 5) / 12 - missing_days(leap, months)
+    let first = civil_date(Date {
+        year,
+        month,
+        day: 1,
+    });
+    u32::from(first.days_in_month().unsigned_abs())
 }
 
 /// Whether the calendar has a date.
 pub(crate) fn is_date(date: Date) -> bool
+    requires { date.year ≤ 9_999 }
     ensures { result ≡ is_date date }
 {
     1 <= date.month
         && date.month <= 12
         && 1 <= date.day
-        && date.day <= days_of_month(is_leap(date.year), date.month)
+        && date.day <= days_of_month(date.year, date.month)
 }
 
-/// The day of a date, counted from 1 January 1970.
-#[tactic(auto, unfolding(crate::specs::Calendar::day_count))]
-pub(crate) fn day_of_date(date: Date) -> i64
-    requires year { date.year ≤ 999_999 }
+/// The number of days from 1 January of the year 0 to a date.
+fn day_count(date: Date) -> u32
+    requires year { date.year ≤ 9_999 }
     requires date { IsTrue (is_date date) }
-    ensures value { result ≡ day_of_date date }
-    ensures low { neg_ℤ (pos 719_528) ≤ℤ result }
-    ensures high { result ≤ℤ pos 400_000_000 }
+    ensures value { result ≡ day_count date }
+    ensures bound { result ≤ 3_652_424 }
 {
-    let days = days_before_year(date.year)
-        + days_of_months(is_leap(date.year), date.month - 1)
-        + (date.day - 1);
-    i64::from(days) - DAYS_BEFORE_1970
+    civil_date(date).to_plain().days_since_min() - DAYS_BEFORE_0
 }
 
-/// A day by years that begin in March, so that the leap day is the last of its year: such a year, and the day counted from its
-/// 1 March.
-#[derive(Clone, Copy, Debug)]
-struct MarchDay {
-    year: u32,
-    day: u32,
-}
-
-/// The day so many days after 1 March of the year 0, by years that begin in March.
-fn march_day(count: u32) -> MarchDay
-    requires { count ≤ 3_652_424 }
-    ensures begun { days_before_march result.year + result.day ≡ count }
-    ensures not_over { count < days_before_march (result.year + 1) }
-    ensures year { result.year ≤ 9_999 }
-    ensures day { result.day ≤ 365 }
+/// The number of days of the years from 0 to before this one.
+pub(crate) fn days_before_year(year: u32) -> u32
+    requires { year ≤ 10_000 }
+    ensures value { result ≡ days_before_year year }
+    ensures bound { result ≤ 3_652_425 }
 {
-    // in quarters of a day, of which a century has 146,097 on average, and a year of it 1461
-    let quarters = 4 * count + 3;
-    let century = quarters / 146_097;
-    let quarters = quarters % 146_097 / 4 * 4 + 3;
-    MarchDay {
-        year: 100 * century + quarters / 1461,
-        day: quarters % 1461 / 4,
+    if year == 10_000 {
+        DAYS_BEFORE_10000
+    } else {
+        day_count(Date {
+            year,
+            month: 1,
+            day: 1,
+        })
     }
 }
 
-/// How many days so many months have from March on.
-fn days_from_march(months: u32) -> u32
-    requires { months ≤ 12 }
-    ensures { result ≡ days_from_march months }
+/// The number of days from 1 January of the year 0 until so many months of a year have gone by.
+pub(crate) fn days_before_month(year: u32, months: u32) -> u32
+    requires year { year ≤ 9_999 }
+    requires months { months ≤ 12 }
+    ensures value { result ≡ days_before_year year + days_of_months (is_leap year) months }
+    ensures bound { result ≤ 3_652_425 }
 {
-    (153 * months + 2) / 5
+    if months == 12 {
+        days_before_year(year + 1)
+    } else {
+        day_count(Date {
+            year,
+            month: months + 1,
+            day: 1,
+        })
+    }
 }
 
-/// How many months have gone by before a day counted from 1 March.
-fn months_from_march(day: u32) -> u32
-    requires { day ≤ 365 }
-    ensures begun { days_from_march result ≤ day }
-    ensures not_over { day < days_from_march (result + 1) }
-    ensures bound { result ≤ 11 }
+/// The day of a date, counted from 1 January 1970.
+pub(crate) fn day_of_date(date: Date) -> i64
+    requires year { date.year ≤ 9_999 }
+    requires date { IsTrue (is_date date) }
+    ensures value { result ≡ day_of_date date }
+    ensures low { neg_ℤ (pos 719_528) ≤ℤ result }
+    ensures high { result ≤ℤ pos 2_932_896 }
 {
-    (5 * day + 2) / 153
+    i64::from(day_count(date)) - DAYS_BEFORE_1970
+}
+
+/// The date so many days after 1 January of the year 0, as `jiff` has it.
+fn civil_of_count(count: u32) -> PlainDate
+    requires { count ≤ 3_652_424 }
+    ensures { epoch_day result +ℤ pos 719_528 ≡ pos count }
+{
+    PlainDate::from_days_since_min(count + DAYS_BEFORE_0)
 }
 
 /// The date of a day counted from 1 January of the year 0.
 fn date_of_count(count: u32) -> Date
-    requires from_year_1 { 366 ≤ count }
-    requires to_year_9999 { count ≤ 3_652_424 }
+    requires { count ≤ 3_652_424 }
     ensures value { result ≡ date_of_count count }
     ensures month { 1 ≤ result.month }
 {
-    let march = march_day(count - 60);
-    let months = months_from_march(march.day);
-    let day = march.day - days_from_march(months) + 1;
-    if march.day < 306 {
-        Date {
-            year: march.year,
-            month: months + 3,
-            day,
-        }
-    } else {
-        Date {
-            year: march.year + 1,
-            month: months - 9,
-            day,
-        }
+    let date = civil_of_count(count);
+    Date {
+        year: u32::from(date.year.unsigned_abs()),
+        month: u32::from(date.month),
+        day: u32::from(date.day),
     }
 }
 
 /// The date of a day, counted from 1 January 1970.
 pub(crate) fn date_of_day(day: i64) -> Date
-    requires from_year_1 { neg_ℤ (pos 719_162) ≤ℤ day }
+    requires from_year_0 { neg_ℤ (pos 719_528) ≤ℤ day }
     requires to_year_9999 { day ≤ℤ pos 2_932_896 }
     ensures value { result ≡ date_of_day day }
     ensures month { 1 ≤ result.month }
 {
     date_of_count((day + DAYS_BEFORE_1970) as u32)
+}
+
+/// The day of the week, Sunday 0 and Saturday 6, of a day counted from 1 January of the year 0.
+fn weekday_of_count(count: u32) -> u32
+    requires { count ≤ 3_652_424 }
+    ensures value { result ≡ (count + 6) % 7 }
+    ensures bound { result ≤ 6 }
+{
+    let weekday = civil_of_count(count).weekday();
+    u32::from(weekday.to_sunday_zero_offset().unsigned_abs())
 }
 
 /// The day of the week, Sunday 0 and Saturday 6.
@@ -183,6 +167,5 @@ pub(crate) fn weekday_of(day: i64) -> u32
     ensures value { result ≡ weekday_of day }
     ensures bound { result ≤ 6 }
 {
-    // 1 January of the year 0 is a Saturday
-    (day + DAYS_BEFORE_1970 + 6) as u32 % 7
+    weekday_of_count((day + DAYS_BEFORE_1970) as u32)
 }

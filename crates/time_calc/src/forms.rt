@@ -103,7 +103,7 @@ pub(crate) fn value(letter: u8, form: &[u8], text: &[u8]) -> u32
     requires form { IsFormOf text.now form.now }
     requires letter { IsTrue (list_any (λ l. l == letter) read_letters) }
     ensures value { result ≡ value letter form.now text.now }
-    ensures bound { result ≤ 229_977 }
+    ensures bound { result ≤ 9_999 }
 {
     let mut number = 0;
     for (i, f) in form.iter().enumerate() {
@@ -126,7 +126,7 @@ pub(crate) fn value_or_one(letter: u8, form: &[u8], text: &[u8]) -> u32
     requires form { IsFormOf text.now form.now }
     requires letter { IsTrue (list_any (λ l. l == letter) read_letters) }
     ensures value { result ≡ value_or_one letter form.now text.now }
-    ensures bound { result ≤ 229_977 }
+    ensures bound { result ≤ 9_999 }
 {
     if has_letter(letter, form) {
         value(letter, form, text)

@@ -37,7 +37,7 @@ fn place_among(names: &[&'static str], name: &[u8]) -> Option<usize>
 #[tactic(auto, unfolding(crate::specs::inner::Texts::place_among))]
 fn named_month(name: &[u8]) -> Option<u32>
     ensures value { result ≡ option_map (λ index. index + 1) (index_of month_names name.now) }
-    ensures bound { IfSome result (λ month. month ≤ 229_977) }
+    ensures bound { IfSome result (λ month. month ≤ 9_999) }
 {
     let place = place_among(&MONTH_NAMES, name)?;
     Some(place as u32 + 1)
@@ -55,7 +55,7 @@ fn front(text: &[u8]) -> &[u8]
 fn month_by(form: &[u8], text: &[u8]) -> Option<u32>
     requires { IsFormOf text.now form.now }
     ensures value { result ≡ month_by form.now text.now }
-    ensures bound { IfSome result (λ month. month ≤ 229_977) }
+    ensures bound { IfSome result (λ month. month ≤ 9_999) }
 {
     if !form.is_empty() && form[0] == b'B' {
         named_month(front(text))
@@ -66,10 +66,10 @@ fn month_by(form: &[u8], text: &[u8]) -> Option<u32>
 
 /// The calendar's date of a year, a month and a day.
 fn checked_date(year: u32, month: u32, day: u32) -> Option<Date>
-    requires { year ≤ 229_977 }
+    requires { year ≤ 9_999 }
     ensures value { result ≡ checked_date year month day }
     ensures date { IfSome result (λ date. IsTrue (is_date date)) }
-    ensures bound { IfSome result (λ date. date.year ≤ 229_977) }
+    ensures bound { IfSome result (λ date. date.year ≤ 9_999) }
 {
     let date = Date { year, month, day };
     if is_date(date) { Some(date) } else { None }
@@ -81,7 +81,7 @@ fn date_by(form: &[u8], text: &[u8]) -> Option<Date>
     requires { IsFormOf text.now form.now }
     ensures value { result ≡ date_by form.now text.now }
     ensures date { IfSome result (λ date. IsTrue (is_date date)) }
-    ensures bound { IfSome result (λ date. date.year ≤ 229_977) }
+    ensures bound { IfSome result (λ date. date.year ≤ 9_999) }
 {
     let month = month_by(form, text)?;
     checked_date(
@@ -138,7 +138,7 @@ fn zone_by(form: &[u8], text: &[u8]) -> Option<i128>
 /// The instant of a date and a time of day, in UTC.
 #[tactic(auto, unfolding(crate::specs::Instants::instant_of_day))]
 fn instant_of_day(date: Date, time: TimeOfDay) -> i128
-    requires year { date.year ≤ 229_977 }
+    requires year { date.year ≤ 9_999 }
     requires date { IsTrue (is_date date) }
     requires time { IsTrue (is_time time) }
     ensures value { result ≡ instant_of_day (day_of_date date) time }
@@ -149,7 +149,7 @@ fn instant_of_day(date: Date, time: TimeOfDay) -> i128
 
 /// The number of the instant of a date, a time of day and a zone; None exactly where the instant is out of range.
 fn number_at(date: Date, time: TimeOfDay, zone: i128) -> Option<Num>
-    requires year { date.year ≤ 229_977 }
+    requires year { date.year ≤ 9_999 }
     requires date { IsTrue (is_date date) }
     requires time { IsTrue (is_time time) }
     requires zone { IsWithin 9 zone }

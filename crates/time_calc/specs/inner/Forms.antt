@@ -22,4 +22,5 @@ are_short forms = list_all is_short forms
 -- a form that a text has
 pub record IsFormOf (text form : List ℕ) : Type 0 where
   pub same_length : length form ≡ length text
+  pub has : fits form text ≡ true
   pub short : is_short form ≡ true

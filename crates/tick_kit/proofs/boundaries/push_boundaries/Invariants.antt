@@ -1,6 +1,6 @@
 use Rattle.std.proofs.Common.{◌≡◌, ◌-◌, ◌++◌}
 use Rattle.tick_kit.specs.Steps.{span_of}
-use Rattle.tick_kit.specs.TimeTicks.{boundaries_after}
+use Rattle.tick_kit.specs.inner.Boundaries.{boundaries_after}
 use Rattle.tick_kit.proofs.boundaries.push_boundaries.Given as goal
 
 abbrev pub invariant-loop-turn : goal.invariant-loop-turn

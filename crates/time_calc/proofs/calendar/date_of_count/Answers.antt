@@ -1,30 +1,14 @@
-use Rattle.std.proofs.Common.{◌∙◌, ℕ, ◌+◌, ◌-◌, ap, sym, arith}
+use Rattle.std.proofs.Common.{◌≡◌, ◌∙◌, ℕ, unsigned_abs, ap, sym, arith, FitsSigned, w16}
+use Rattle.jiff_core.proofs.SignedLemmas.{signed_arith}
 use Rattle.time_calc.specs.declared.calendar.Date.{Date}
-use Rattle.time_calc.proofs.MarchLemmas.{IsMarchDay, HasMonths, date_before_january, date_from_january}
+use Rattle.time_calc.proofs.JiffDates.{date_alike}
 use Rattle.time_calc.proofs.calendar.date_of_count.Goals as goal
 
-pub returns-then-march-lt306-clause-value : goal.returns-then-march-lt306-clause-value
-returns-then-march-lt306-clause-value c =
-    let year = c.march_day-march.result.year in
-    let day = c.march_day-march.result.day in
-    let m = c.months_from_march-months.result in
-    let met = c.march_day-march.ensures in
-    let is : IsMarchDay (c.args.count - 60) year day = record { begun = met.begun; not_over = met.not_over; few = met.day } in
-    let gone = c.months_from_march-months.ensures in
-    let months : HasMonths day m = record { begun = gone.begun; not_over = gone.not_over } in
-    let date : ℕ → Date = λ k. record { year = year; month = m + 3; day = day - k + 1 } in
-    ap date c.days_from_march.ensures
-    ∙ sym (date_before_january c.args.count year day m (omega arith) is months (omega arith))
-
-pub returns-else-march-lt306-clause-value : goal.returns-else-march-lt306-clause-value
-returns-else-march-lt306-clause-value c =
-    let year = c.march_day-march.result.year in
-    let day = c.march_day-march.result.day in
-    let m = c.months_from_march-months.result in
-    let met = c.march_day-march.ensures in
-    let is : IsMarchDay (c.args.count - 60) year day = record { begun = met.begun; not_over = met.not_over; few = met.day } in
-    let gone = c.months_from_march-months.ensures in
-    let months : HasMonths day m = record { begun = gone.begun; not_over = gone.not_over } in
-    let date : ℕ → Date = λ k. record { year = year + 1; month = m - 9; day = day - k + 1 } in
-    ap date c.days_from_march.ensures
-    ∙ sym (date_from_january c.args.count year day m (omega arith) is months (omega arith))
+pub returns-clause-value : goal.returns-clause-value
+returns-clause-value c =
+    let d = c.civil_of_count-date.result in
+    let fits : FitsSigned w16 d.year = omega (arith, signed_arith, d.year_in) in
+    let year : c.from.result ≡ unsigned_abs d.year = omega (arith, signed_arith, c.from.ensures, c.unsigned_abs.ensures.value) in
+    let made : ℕ → ℕ → ℕ → Date = λ y m k. record { year = y; month = m; day = k } in
+    ap (λ y. made y c.from-2.result c.from-3.result) year ∙ ap (λ m. made (unsigned_abs d.year) m c.from-3.result) c.from-2.ensures
+    ∙ ap (made (unsigned_abs d.year) d.month) c.from-3.ensures ∙ sym (date_alike d c.args.count c.civil_of_count-date.ensures)
