@@ -15,14 +15,14 @@ use Rattle.expr_eval.specs.Operations.{negated, binary_of, paired}
 use Rattle.expr_eval.specs.Table.{called, chosen}
 use Rattle.expr_eval.specs.Values.{Values}
 
--- what a form gives over a row and values of parameters, where its parts stand as what becomes of them
+-- what a form gives over a row and values of parameters, where its parts stand as what becomes of them; a parameter without value gives none
 abbrev pub value_here : CellAt → Values → Expr-F (Option Cell) → Option Cell
 value_here row values form.Null = Some Null
 value_here row values (form.Flag b) = Some (Flag b)
 value_here row values (form.Number n) = Some (Number n)
 value_here row values (form.Text t) = Some (Text t)
 value_here row values (form.Field name) = Some (row name)
-value_here row values (form.Param name) = Some (values.value name)
+value_here row values (form.Param name) = values.value name
 value_here row values (form.Member name field) = Some (values.member name field)
 value_here row values (form.Not a) = a >>= λ x. Some (Flag (not (truth x)))
 value_here row values (form.Minus a) = a >>= negated

@@ -6,7 +6,7 @@ ghost use Rattle.cell_value.specs.Datum.{cell_at};
 ghost use Rattle.expr_eval.specs.Answers.{RisesBy};
 ghost use Rattle.expr_eval.specs.Plain.{null_row, no_values};
 
-use crate::{ParamReader, RowReader};
+use crate::{EvalError, ParamReader, RowReader};
 use cell_value::{Cell, Keyed, Steps};
 use fixed_num::Num;
 use std::alloc::Global;
@@ -93,7 +93,7 @@ pub struct NoParams;
 impl ParamReader for NoParams {
     ghost values = { λ _. no_values };
 
-    fn param(&self, _: Global, _: &str) -> Result<Cell, OutOfMemory> {
+    fn param(&self, _: Global, _: &str) -> Result<Cell, EvalError> {
         Ok(Cell::Null)
     }
 

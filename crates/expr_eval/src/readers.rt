@@ -2,8 +2,9 @@
 ghost use Rattle.std.specs.Prelude.{◌≡◌, IfOk};
 ghost use Rattle.cell_value.specs.Datum.{CellAt};
 ghost use Rattle.expr_eval.specs.Values.{Values};
-ghost use Rattle.expr_eval.specs.Answers.{RisesBy};
+ghost use Rattle.expr_eval.specs.Answers.{Evaluates, RisesBy};
 
+use crate::EvalError;
 use cell_value::{Cell, Steps};
 use std::alloc::Global;
 use std::sync::ledger::Ledger;
@@ -30,9 +31,10 @@ pub trait ParamReader {
     /// What is read of them.
     ghost values: { Self → Values };
 
-    /// The value of a parameter; of a selection it is null.
-    fn param(&self, alloc: Global, name: &str) -> Result<Cell, OutOfMemory>
-        ensures { IfOk result (λ cell. cell ≡ (values self.now).value name.now) };
+    /// The value of a parameter; of a selection it is null. `Overflow` comes exactly where it has no value, since its computation is out of
+    /// range.
+    fn param(&self, alloc: Global, name: &str) -> Result<Cell, EvalError>
+        ensures { Evaluates result ((values self.now).value name.now) };
 
     /// The two ends that an interval selection has of a channel, else null.
     fn member(&self, alloc: Global, name: &str, field: &str) -> Result<Cell, OutOfMemory>

@@ -19,7 +19,7 @@ use std::sync::ledger::Ledger;
 use text_kit::Seq;
 
 /// The value of an expression over a row and the parameters of a chart. `Overflow` comes exactly where a result that is
-/// needed is out of range. It counts one step at most for each mention of a field, and for each selection test as many as
+/// needed is out of range, or a parameter that is needed has no value. It counts one step at most for each mention of a field, and for each selection test as many as
 /// the store has fields.
 #[cycle(value)]
 pub fn eval<R: RowReader, P: ParamReader, L: Ledger>(
@@ -38,7 +38,7 @@ pub fn eval<R: RowReader, P: ParamReader, L: Ledger>(
         Expr::Number(number) => Ok(Cell::Number(*number)),
         Expr::Text(text) => Ok(Cell::Text(text.copy()?)),
         Expr::Field(name) => Ok(row.field(alloc, name.as_str(), steps)?),
-        Expr::Param(name) => Ok(params.param(alloc, name.as_str())?),
+        Expr::Param(name) => params.param(alloc, name.as_str()),
         Expr::Member(name, field) => Ok(params.member(alloc, name.as_str(), field.as_str())?),
         Expr::Not(a) => {
             let a = eval(alloc, a.get(), row, params, steps)?;

@@ -21,11 +21,11 @@ use Rattle.plain_groups.specs.Groups.{firsts_behind, firsts}
 use Rattle.plain_groups.proofs.PlaceLemmas.{by_cases, same_are_equal, same_itself}
 use Rattle.plain_facets.specs.declared.copies.DividedBy.{DividedBy}
 use Rattle.plain_facets.specs.Facets.{key_of, is_key, AreDifferent, home_among, cells_in, pairs_in, by_beside, first_beside, cells_of_field, by_places, places_among}
-use Rattle.plain_facets.specs.Facets.{choices, cells_of_fields, cells_of_rows}
+use Rattle.plain_facets.specs.Facets.{choices, cells_of_fields, cells_of_rows, cells_with_rows}
 use Rattle.plain_facets.specs.Laws.{CopiesAreDifferent, EachIsAtHome}
 use Rattle.plain_facets.proofs.OrderLemmas.{by_ordering}
 
-abbrev Differ : {X : Type 0} → List X → Type 0
+abbrev pub Differ : {X : Type 0} → List X → Type 0
 Differ xs = AllPairs (λ a b. a ≢ b) xs
 
 -- ---- pairs of a list
@@ -195,6 +195,14 @@ pub copies_are_different : CopiesAreDifferent
 copies_are_different d rows =
     cond_both d.crosses (choices (cells_of_fields d rows)) (cells_of_rows d rows) Differ
     (λ _. choices_differ (cells_of_fields d rows) (fields_differ d rows)) (λ _. rows_differ d rows)
+
+pub with_rows_are_different : (d : DividedBy) (rows : List Datum) → AreDifferent (cells_with_rows d rows)
+with_rows_are_different d rows =
+    cond_both d.crosses (firsts is_key (map (key_of d.fields) rows)) (cells_of_rows d rows) Differ
+    (λ _. firsts_differ is_key same_itself [] (map (key_of d.fields) rows)) (λ _. rows_differ d rows)
+
+pub choices_are_different : (d : DividedBy) (rows : List Datum) → AreDifferent (choices (cells_of_fields d rows))
+choices_are_different d rows = choices_differ (cells_of_fields d rows) (fields_differ d rows)
 
 -- ---- the place of each copy
 

@@ -6,3 +6,5 @@ pub mod DifferentLemmas
 mod RepeatLemmas
 pub mod PartLaw
 pub mod PartLemmas
+pub mod SumLemmas
+pub mod CountLemmas

@@ -146,7 +146,7 @@ module _ (cell : Cell) where
       either true e = refl
       either false e = ap (λ c. cond c (Some x) (find has later)) e
 
-by_beside_exact : (descending : Bool) (beside : Cell → Cell) (a b : Cell) → by_beside descending beside a b ≡ Equal → a ≡ b
+pub by_beside_exact : (descending : Bool) (beside : Cell → Cell) (a b : Cell) → by_beside descending beside a b ≡ Equal → a ≡ b
 by_beside_exact true beside a b e = only_equal_cells_tie a b (last_equal (cell_cmp (beside b) (beside a)) (cell_cmp a b) e)
 by_beside_exact false beside a b e = only_equal_cells_tie a b (last_equal (cell_cmp (beside a) (beside b)) (cell_cmp a b) e)
 

@@ -1,5 +1,5 @@
 -- The cells of a facet: those of each of its fields, in their order, and those of its copies; and which rows each copy has.
-use Rattle.std.specs.Prelude.{◌≡◌, refl, ℕ, ◌+◌, ◌==◌, Bool, true, false, pos, Option, Some, None, List, [], ◌∷◌, map, flat_map, filter, find}
+use Rattle.std.specs.Prelude.{◌≡◌, refl, ℕ, ◌+◌, ◌-◌, ◌==◌, Bool, true, false, pos, Option, Some, None, List, [], ◌∷◌, map, flat_map, filter, find}
 use Rattle.std.specs.Prelude.{◌≢◌, AllPairs, length, slice_get, unwrap_or, is_some, codes, if◌then◌else◌}
 use Rattle.std.specs.Option.{option_map}
 use Rattle.std.specs.List.{position_from, enumerate_from}
@@ -110,6 +110,14 @@ cells_of_rows d rows =
 abbrev pub cells_of_copies : DividedBy → List Datum → List (List Cell)
 cells_of_copies d rows = if d.crosses then choices (cells_of_fields d rows) else cells_of_rows d rows
 
+-- the cells of the copies that have rows: where fields are crossed, the different cells that rows have, by their first rows
+abbrev pub cells_with_rows : DividedBy → List Datum → List (List Cell)
+cells_with_rows d rows = if d.crosses then distinct_keys (map (key_of d.fields) rows) else cells_of_rows d rows
+
+-- how many copies have no rows
+abbrev pub count_without_rows : DividedBy → List Datum → ℕ
+count_without_rows d rows = length (cells_of_copies d rows) - length (cells_with_rows d rows)
+
 -- The rules at work.
 
 -- a row with cells in `a`, `b` and `v`
@@ -168,6 +176,12 @@ pairs_by_an_order = refl
 
 every_pair : unordered a_and_b true ≡ (y ∷ p ∷ []) ∷ (y ∷ q ∷ []) ∷ (x ∷ p ∷ []) ∷ (x ∷ q ∷ []) ∷ (z ∷ p ∷ []) ∷ (z ∷ q ∷ []) ∷ []
 every_pair = refl
+
+-- y with p, x with q, y with q and z with p have rows; x with p and z with q have none
+pairs_with_rows : (cells_with_rows record { fields = a_and_b; sort = None; crosses = true } four_rows ≡ unordered a_and_b false)
+    × (count_without_rows record { fields = a_and_b; sort = None; crosses = true } four_rows ≡ 2)
+    × (count_without_rows record { fields = a_and_b; sort = None; crosses = false } four_rows ≡ 0)
+pairs_with_rows = (refl, refl, refl)
 
 -- without fields there is one copy where there is a row
 no_fields : (unordered [] false ≡ [] ∷ []) × (unordered [] true ≡ [] ∷ [])

@@ -1,11 +1,14 @@
 -- What holds of the cells of copies and of their rows.
-use Rattle.std.specs.Prelude.{◌≡◌, ℕ, Some, List, map, filter_map, slice_get}
+use Rattle.std.specs.Prelude.{◌≡◌, ℕ, Option, Some, List, [], ◌++◌, map, filter_map, slice_get, replicate}
+use Rattle.std.specs.List.{sum}
+use Rattle.std.specs.Option.{option_map}
+use Rattle.fixed_num.specs.Ranges.{all_found}
 use Rattle.cell_value.specs.declared.cell.Cell.{Cell}
 use Rattle.cell_value.specs.declared.state.Key.{Key}
 use Rattle.cell_value.specs.Datum.{Datum}
 use Rattle.plain_rows.specs.Rows.{AreKeys}
 use Rattle.plain_facets.specs.declared.copies.DividedBy.{DividedBy}
-use Rattle.plain_facets.specs.Facets.{key_of, part_of, home_among, members_from, AreDifferent, cells_of_copies}
+use Rattle.plain_facets.specs.Facets.{key_of, part_of, home_among, members_from, AreDifferent, cells_of_copies, cells_with_rows, count_without_rows}
 
 -- No two copies of a facet have the same cells, whether it crosses its fields or not, and with any order or none.
 abbrev pub CopiesAreDifferent : Type 0
@@ -29,3 +32,14 @@ keys_read rows = map (λ (row : Datum). row.key) rows
 -- Of a list of rows, those that have some cells are a list of rows again.
 abbrev pub PartsAreRows : Type 0
 PartsAreRows = (fields : List (List ℕ)) (key : List Cell) (rows : List Datum) → AreKeys (keys_read rows) → AreKeys (keys_read (part_of fields key rows))
+
+-- the sum of numbers; None where one of them isn't there
+abbrev pub total : List (Option ℕ) → Option ℕ
+total found = option_map sum (all_found found)
+
+-- Where copies without rows have the same number, the numbers of all copies sum up to those of the copies with rows, and that number as often
+-- as others are.
+abbrev pub CopiesAreSummed : Type 0
+CopiesAreSummed = (d : DividedBy) (rows : List Datum) (number : List Cell → Option ℕ) (bare : Option ℕ)
+    → ((key : List Cell) → part_of d.fields key rows ≡ [] → number key ≡ bare)
+    → total (map number (cells_of_copies d rows)) ≡ total (map number (cells_with_rows d rows) ++ replicate (count_without_rows d rows) bare)

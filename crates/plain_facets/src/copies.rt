@@ -63,8 +63,8 @@ fn rows_in_order(
     Ok(in_places(alloc, fields.as_slice(), keys.as_slice())?)
 }
 
-// The different cells that rows have in all fields, in their order.
-fn cells_of_rows(
+/// The different cells that rows have in all fields, in their order.
+pub(crate) fn cells_of_rows(
     alloc: Global,
     d: &DividedBy,
     rows: &[&Keyed],

@@ -3,6 +3,7 @@
 #![tactic(auto)]
 
 mod copies;
+mod counts;
 mod crossed;
 mod distinct;
 mod fields;
@@ -16,6 +17,7 @@ mod ranks;
 mod sets;
 
 pub use copies::{DividedBy, cells_of_copies, cells_of_fields};
+pub use counts::{CellsCounted, count_cells};
 pub use crossed::choices;
 pub use homes::{homes_of, members_of};
 pub use laws::laws_of_facets;

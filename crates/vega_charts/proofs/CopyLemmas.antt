@@ -18,7 +18,7 @@ use Rattle.cell_value.specs.Datum.{Datum, datum_of}
 use Rattle.cell_value.specs.State.{Dataset, dataset_of, greatest_id}
 use Rattle.plain_rows.specs.Rows.{AreRows, AreKeys, keys_of}
 use Rattle.plain_facets.specs.declared.copies.DividedBy.{DividedBy}
-use Rattle.plain_facets.specs.Facets.{part_of, is_key, key_of, cells_of_fields, cells_of_copies}
+use Rattle.plain_facets.specs.Facets.{part_of, is_key, key_of, cells_of_fields, cells_of_copies, cells_with_rows}
 use Rattle.plain_facets.specs.Rows.{data_of, HaveIds}
 use Rattle.plain_facets.specs.Laws.{keys_read}
 use Rattle.plain_facets.proofs.PartLaw.{parts_are_rows}
@@ -34,8 +34,9 @@ use Rattle.vega_lists.specs.Products.{Products, KeysFit}
 use Rattle.vega_charts.specs.declared.copies.CopyOf.{CopyOf}
 use Rattle.vega_charts.specs.declared.names.NamesAt.{NamesAt}
 use Rattle.vega_charts.specs.Outlines.{facet_in}
-use Rattle.vega_charts.specs.Facets.{Copy, part_named, copy_with, only_copy, copies_by, copies_of, divided_by, rows_divided, second_of_two, across_by}
+use Rattle.vega_charts.specs.Facets.{Copy, part_named, copy_with, only_copy, copies_of, divided_by, rows_divided, second_of_two, across_by}
 use Rattle.vega_charts.specs.Built.{with_part_products, products_in_copy}
+use Rattle.vega_charts.specs.inner.Counted.{copies_with_rows}
 use Rattle.vega_charts.specs.inner.Levels.{rows_at, rows_behind, parts_over, AreNames, AreParts}
 use Rattle.vega_charts.specs.inner.Outlined.{group_object}
 use Rattle.vega_charts.specs.inner.Copied.{copy_seen, scope_at, copy_at, parts_at, parts_read, IsCopy}
@@ -179,17 +180,24 @@ module _ (names : NamesAt) (sort : Option Sort) (f : Facet) (d : DividedBy) (row
   divided_rows : data_of rows ≡ flat_map (scope_at names) lists → lists ≡ texts_in f.data_ → data_of rows ≡ rows_divided (scope_at names) f
   divided_rows read listed = read ∙ ap (flat_map (scope_at names)) listed
 
-  pub copies_are : (keys : List (List Cell)) (fields own : List (List ℕ)) (tables : List (List (List (Bor Keyed)))) (copies : List CopyOf)
-      → d ≡ divided_by sort f → data_of rows ≡ flat_map (scope_at names) lists → keys ≡ cells_of_copies d (data_of rows)
+  -- the copies with some of the cells
+  pub copies_are : (cells : DividedBy → List Datum → List (List Cell)) (keys : List (List Cell)) (fields own : List (List ℕ))
+      (tables : List (List (List (Bor Keyed)))) (copies : List CopyOf)
+      → d ≡ divided_by sort f → data_of rows ≡ flat_map (scope_at names) lists → keys ≡ cells d (data_of rows)
       → fields ≡ f.groupby → own ≡ texts_in f.name → lists ≡ texts_in f.data_
       → map (map data_of) tables ≡ map (parts_read names fields keys) lists
       → map copy_seen copies ≡ map (copy_at fields own tables) (enumerate_from 0 keys)
-      → map copy_seen copies ≡ copies_by (scope_at names) sort f
-  copies_are keys fields own tables copies divided read celled by_fields owned listed parted made =
+      → map copy_seen copies ≡ map (copy_with (scope_at names) f) (cells (divided_by sort f) (rows_divided (scope_at names) f))
+  copies_are cells keys fields own tables copies divided read celled by_fields owned listed parted made =
       made
       ∙ copies_from names fields keys own lists tables parted [] keys 0 refl refl
       ∙ (λ i. map (copy_from names (by_fields i) (owned i) (listed i)) keys)
-      ∙ ap (map (copy_with (scope_at names) f)) (celled ∙ (λ i. cells_of_copies (divided i) (divided_rows read listed i)))
+      ∙ ap (map (copy_with (scope_at names) f)) (celled ∙ (λ i. cells (divided i) (divided_rows read listed i)))
+
+  -- a number by the rows that are divided
+  pub number_is : (count : DividedBy → List Datum → ℕ) (n : ℕ) → d ≡ divided_by sort f → data_of rows ≡ flat_map (scope_at names) lists
+      → lists ≡ texts_in f.data_ → n ≡ count d (data_of rows) → n ≡ count (divided_by sort f) (rows_divided (scope_at names) f)
+  number_is count n divided read listed is = is ∙ (λ i. count (divided i) (divided_rows read listed i))
 
   pub across_are : (across : Option ℕ) → d ≡ divided_by sort f → data_of rows ≡ flat_map (scope_at names) lists → lists ≡ texts_in f.data_
       → across ≡ cond d.crosses (second_of_two (cells_of_fields d (data_of rows))) None → across ≡ across_by (scope_at names) sort f
@@ -315,14 +323,23 @@ module _ (names : NamesAt) (m : VgMark-F Group VgMark) (are : AreNames names) wh
       no_copies [] e = refl
       no_copies (c ∷ cs) e = absurd (cc)
 
-  by_facet : (f : Option Facet) (sort : Option Sort) (copies : List CopyOf)
-      → map copy_seen copies ≡ option_map_or (copies_by (scope_at names) sort) f (only_copy ∷ []) → All (Sound f) copies
-  by_facet None sort copies e = each_without copies e
-  by_facet (Some f) sort copies e = each_with_facet f copies _ e
+  by_facet : (keys : Facet → List (List Cell)) (f : Option Facet) (copies : List CopyOf)
+      → map copy_seen copies ≡ option_map_or (λ f. map (copy_with (scope_at names) f) (keys f)) f (only_copy ∷ []) → All (Sound f) copies
+  by_facet keys None copies e = each_without copies e
+  by_facet keys (Some f) copies e = each_with_facet f copies (keys f) e
+
+  sound_copies : (copies : List CopyOf) → All (Sound (facet_in m.from)) copies → All (IsCopy names m) copies
+  unfolding Sound
+  sound_copies copies sound k d lt =
+      let here = sound k d lt in
+      record { parts = here.0; folds = here.1 }
 
   -- what holds of each copy of a group
   pub copies_sound : (copies : List CopyOf) → map copy_seen copies ≡ copies_of (scope_at names) (group_object 0 m) → All (IsCopy names m) copies
-  unfolding Sound
-  copies_sound copies e k d lt =
-      let here = by_facet (facet_in m.from) m.sort copies e k d lt in
-      record { parts = here.0; folds = here.1 }
+  copies_sound copies e =
+      sound_copies copies (by_facet (λ f. cells_of_copies (divided_by m.sort f) (rows_divided (scope_at names) f)) (facet_in m.from) copies e)
+
+  -- and of each that has rows
+  pub with_rows_sound : (copies : List CopyOf) → map copy_seen copies ≡ copies_with_rows (scope_at names) (group_object 0 m) → All (IsCopy names m) copies
+  with_rows_sound copies e =
+      sound_copies copies (by_facet (λ f. cells_with_rows (divided_by m.sort f) (rows_divided (scope_at names) f)) (facet_in m.from) copies e)

@@ -1,11 +1,9 @@
 -- Counts of plots in facets, up to the greatest number of 64 bits.
-use Rattle.std.proofs.Common.{◌≡◌, ℕ, zero, suc, ◌+◌, ◌<◌, ◌≤◌, ◌||◌, min, Bool, true, false, cond, Option, Some, None, List, [], ◌∷◌, map, length, drop, get_or, is_some}
-use Rattle.std.proofs.Common.{Err, refl, sym, ap, ap₂, ◌∙◌, subst, arith}
-use Rattle.std.specs.List.{sum}
+use Rattle.std.proofs.Common.{◌≡◌, ℕ, zero, suc, ◌+◌, ◌<◌, ◌≤◌, min, Bool, true, false, cond, Option, Some, None, List, [], ◌∷◌, map, length, drop, get_or}
+use Rattle.std.proofs.Common.{Result, Err, refl, sym, ap, ap₂, ◌∙◌, subst, arith}
 use Rattle.std.specs.Option.{option_map}
 use Rattle.std.proofs.lemmas.List.{drop_more}
-use Rattle.std.proofs.lemmas.List.Sums.{sum_by-cons}
-use Rattle.fixed_num.specs.Ranges.{◌>>=◌, all_found}
+use Rattle.fixed_num.specs.Ranges.{◌>>=◌}
 use Rattle.cell_value.specs.State.{Dataset, dataset_of}
 use Rattle.expr_eval.specs.declared.error.EvalError.{EvalError}
 use Rattle.expr_eval.specs.declared.error.EvalError.TheVariants.{Overflow, Memory}
@@ -15,14 +13,13 @@ use Rattle.vega_spec.specs.declared.spec.VgMark.{VgMark, VgMark-F, out-VgMark}
 use Rattle.vega_charts.specs.declared.copies.CopyOf.{CopyOf}
 use Rattle.vega_charts.specs.declared.names.Level.{Level}
 use Rattle.vega_charts.specs.declared.names.NamesAt.{NamesAt}
-use Rattle.vega_charts.specs.Outlines.{facet_in, object_here}
+use Rattle.vega_charts.specs.Outlines.{object_here}
 use Rattle.vega_charts.specs.Scopes.{Names, names_in_object}
-use Rattle.vega_charts.specs.Facets.{Copy, copies_of}
 use Rattle.vega_charts.specs.Panels.{plots_in_facets}
 use Rattle.vega_charts.specs.inner.Levels.{names_at, names_over, names_with_level}
 use Rattle.vega_charts.specs.inner.Outlined.{marks_of, is_group, group_object}
 use Rattle.vega_charts.specs.inner.Copied.{copy_seen}
-use Rattle.vega_charts.specs.inner.Counted.{most_counted, counted, is_panel, plots_inside, plots_in_copy, plots_of_copy}
+use Rattle.vega_charts.specs.inner.Counted.{most_counted, counted, is_panel, plots_inside, plots_with_level, plots_of_copy}
 use Rattle.vega_lists.specs.Inside.{RowsByName}
 use Rattle.vega_charts.specs.inner.Standing.{MayStand}
 use Rattle.vega_charts.proofs.OutlineLemmas.{plain_first, group_first}
@@ -60,88 +57,19 @@ module _ {X : Type 0} (f : X → Option ℕ) (xs : List X) (i : ℕ) (x : X) (wi
   stops_at count whole error so_far e = one_stops count (f x) (map f (drop (i + 1) xs)) whole error (ap (counted_from count) (sym left) ∙ so_far) e
 
 -- sums that stop at a greatest number
-capped : (most c a k : ℕ) → min (min (c + min a most) most + k) most ≡ min (c + (a + k)) most
+pub capped : (most c a k : ℕ) → min (min (c + min a most) most + k) most ≡ min (c + (a + k)) most
 capped most c a k = grind arith
 
-below : (most n : ℕ) → min n most ≤ most
+pub below : (most n : ℕ) → min n most ≤ most
 below most n = grind arith
 
--- ---- the copies of a group
-
-module _ {X : Type 0} (b : Bool) (f : X → Option ℕ) where
-  abbrev one : ℕ
-  one = cond b 1 0
-
-  abbrev all_of : List ℕ → ℕ
-  all_of ns = cond b (length ns) 0 + sum ns + 0
-
-  one_of : (n : ℕ) (ns : List ℕ) → (one + n) + all_of ns ≡ all_of (n ∷ ns)
-  one_of n ns = by_flag b
-    where
-      by_flag : (b : Bool) → (cond b 1 0 + n) + (cond b (length ns) 0 + sum ns + 0) ≡ cond b (suc (length ns)) 0 + sum (n ∷ ns) + 0
-      by_flag true = let parts = sum_by-cons (λ k. k) n ns in omega (arith, parts)
-      by_flag false = let parts = sum_by-cons (λ k. k) n ns in omega (arith, parts)
-
-  none_of : (c : ℕ) → c ≤ most_counted → c ≡ min (c + all_of []) most_counted
-  none_of c small = by_flag b
-    where
-      alone : (most c k : ℕ) → c ≤ most → k ≡ 0 → c ≡ min (c + k) most
-      alone most c k small none = grind (arith, small, none)
-
-      by_flag : (b : Bool) → c ≡ min (c + (cond b 0 0 + 0 + 0)) most_counted
-      by_flag true = alone most_counted c _ small (omega arith)
-      by_flag false = alone most_counted c _ small (omega arith)
-
-  pub copies_counted : (xs : List X) (c : ℕ) → c ≤ most_counted
-      → counted_from c (map (λ x. counted (option_map (λ n. one + n) (f x))) xs)
-      ≡ option_map (λ ns. min (c + all_of ns) most_counted) (all_found (map f xs))
-  copies_counted [] c small = ap Some (none_of c small)
-  copies_counted (x ∷ xs) c small =
-      by_first (f x) (all_found (map f xs)) (λ n. copies_counted xs (min (c + min (one + n) most_counted) most_counted) (below most_counted _))
-    where
-      by_others : (n : ℕ) (others : Option (List ℕ))
-          → option_map (λ ns. min (min (c + min (one + n) most_counted) most_counted + all_of ns) most_counted) others
-          ≡ option_map (λ ns. min (c + all_of ns) most_counted) (others >>= λ ns. Some (n ∷ ns))
-      by_others n None = refl
-      by_others n (Some ns) = ap Some (capped most_counted c (one + n) (all_of ns) ∙ ap (λ k. min (c + k) most_counted) (one_of n ns))
-
-      by_first : (o : Option ℕ) (others : Option (List ℕ))
-          → ((n : ℕ) → counted_from (min (c + min (one + n) most_counted) most_counted) (map (λ x. counted (option_map (λ n. one + n) (f x))) xs)
-          ≡ option_map (λ ns. min (min (c + min (one + n) most_counted) most_counted + all_of ns) most_counted) others)
-          → (counted (option_map (λ n. one + n) o) >>= λ k. counted_from (min (c + k) most_counted) (map (λ x. counted (option_map (λ n. one + n) (f x))) xs))
-          ≡ option_map (λ ns. min (c + all_of ns) most_counted) (o >>= λ n. others >>= λ ns. Some (n ∷ ns))
-      by_first None others h = refl
-      by_first (Some n) others h = h n ∙ by_others n others
-
--- what a group counts without others
-alone : (b : Bool) (found : Option (List ℕ))
-    → option_map (λ ns. min (0 + (cond b (length ns) 0 + sum ns + 0)) most_counted) found
-    ≡ counted (found >>= λ ns. Some (cond b (length ns) 0 + sum ns + 0))
-alone b None = refl
-alone b (Some ns) = ap (λ k. Some (min k most_counted)) (omega arith)
-
-seen_twice : {X Y Z : Type 0} (f : Y → Z) (see : X → Y) (xs : List X) → map (λ x. f (see x)) xs ≡ map f (map see xs)
+pub seen_twice : {X Y Z : Type 0} (f : Y → Z) (see : X → Y) (xs : List X) → map (λ x. f (see x)) xs ≡ map f (map see xs)
 seen_twice f see [] = refl
 seen_twice f see (x ∷ xs) = ap (λ l. f (see x) ∷ l) (seen_twice f see xs)
 
 -- the plots of a held copy
 abbrev pub plots_held : List Dataset → Bool → Bool → VgMark-F Group VgMark → Names → CopyOf → Option ℕ
 plots_held sources in_facet in_grid m names copy = counted (plots_of_copy sources in_facet in_grid m names (copy_seen copy))
-
--- the copies of a group give its plots
-pub group_counts : (sources : List Dataset) (m : VgMark) (in_facet in_grid deeper : Bool) (names : Names) (copies : List CopyOf) → is_group (out-VgMark m) ≡ true
-    → deeper ≡ (in_facet || is_some (facet_in (out-VgMark m).from)) → map copy_seen copies ≡ copies_of names.lists (group_object 0 (out-VgMark m))
-    → counted_from 0 (map (plots_held sources deeper in_grid (out-VgMark m) names) copies)
-    ≡ counted (plots_in_facets sources (marks_of (m ∷ [])) in_facet in_grid names)
-group_counts sources m in_facet in_grid deeper names copies e deep are =
-    ap (counted_from 0) (seen_twice (λ (c : Copy). counted (plots_of_copy sources deeper in_grid (out-VgMark m) names c)) copy_seen copies)
-    ∙ ap (λ (cs : List Copy). counted_from 0 (map (λ (c : Copy). counted (plots_of_copy sources deeper in_grid (out-VgMark m) names c)) cs)) are
-    ∙ ap (λ d. counted_from 0 (map (λ (c : Copy). counted (plots_of_copy sources d in_grid (out-VgMark m) names c)) (copies_of names.lists (group_object 0 (out-VgMark m))))) deep
-    ∙ copies_counted (is_panel (in_facet || is_some (facet_in (out-VgMark m).from)) in_grid (out-VgMark m))
-    (plots_in_copy sources (in_facet || is_some (facet_in (out-VgMark m).from)) (out-VgMark m) names) (copies_of names.lists (group_object 0 (out-VgMark m))) 0 (omega arith)
-    ∙ alone (is_panel (in_facet || is_some (facet_in (out-VgMark m).from)) in_grid (out-VgMark m))
-    (all_found (map (plots_in_copy sources (in_facet || is_some (facet_in (out-VgMark m).from)) (out-VgMark m) names) (copies_of names.lists (group_object 0 (out-VgMark m)))))
-    ∙ ap (λ ms. counted (plots_in_facets sources ms in_facet in_grid names)) (sym (group_first m (marks_of []) e))
 
 -- ---- marks one after the other
 
@@ -175,6 +103,21 @@ module _ (sources : List Dataset) (in_facet in_grid : Bool) (names : Names) wher
           ap (λ row. plots_in_facets sources row in_facet in_grid names) (plain_first m (marks_of ms) e)
           ∙ nothing_before (plots ms)
           ∙ ap (λ row. plots_in_facets sources row in_facet in_grid names >>= λ a. plots ms >>= λ b. Some (a + b)) (sym (plain_first m (marks_of []) e))
+
+  -- what stops one mark stops all
+  pub mark_stops : (marks : List VgMark) (i : ℕ) (m : VgMark) (error : EvalError) → i < length marks → m ≡ get_or marks i m
+      → Evaluates {X = ℕ} (Err error) (plots (m ∷ [])) → Evaluates {X = ℕ} (Err error) (plots marks)
+  mark_stops marks i m Memory within at stops = tt
+  mark_stops [] i m Overflow within at stops = absurd (omega (arith, within))
+  mark_stops (x ∷ xs) zero m Overflow within at stops =
+      first_counted x xs ∙ ap (λ o. o >>= λ a. plots xs >>= λ b. Some (a + b)) (ap (λ y. plots (y ∷ [])) (sym at) ∙ stops)
+  mark_stops (x ∷ xs) (suc i) m Overflow within at stops =
+      first_counted x xs ∙ ap (λ o. plots (x ∷ []) >>= λ a. o >>= λ b. Some (a + b)) (mark_stops xs i m Overflow (omega (arith, within)) at stops)
+      ∙ nothing_behind (plots (x ∷ []))
+    where
+      nothing_behind : (o : Option ℕ) → (o >>= λ a. None >>= λ b. Some (a + b)) ≡ None
+      nothing_behind None = refl
+      nothing_behind (Some a) = refl
 
   capped_sum : (c : ℕ) (first others : Option ℕ) (rest : List (Option ℕ))
       → ((n : ℕ) → counted_from (min (c + min n most_counted) most_counted) rest
@@ -230,10 +173,20 @@ pub plain_counts : (sources : List Dataset) (in_facet in_grid : Bool) (names : N
 plain_counts sources in_facet in_grid names m e = ap (λ row. counted (plots_in_facets sources row in_facet in_grid names)) (plain_first m (marks_of []) e)
 
 -- names that are lacking count nothing
-pub names_stop : (b : Bool) (inside : Names → Option ℕ) (found : Option Names) (error : EvalError) → Evaluates {X = Names} (Err error) found
-    → Evaluates {X = ℕ} (Err error) (counted (option_map (λ k. cond b 1 0 + k) (found >>= inside)))
-names_stop b inside found Overflow e = ap (λ o. counted (option_map (λ k. cond b 1 0 + k) (o >>= inside))) e
+names_stop : (b : Bool) (inside : Names → Option ℕ) (found : Option Names) (error : EvalError) → Evaluates {X = Names} (Err error) found
+    → Evaluates {X = ℕ} (Err error) (option_map (λ k. cond b 1 0 + k) (found >>= inside))
+names_stop b inside found Overflow e = ap (λ o. option_map (λ k. cond b 1 0 + k) (o >>= inside)) e
 names_stop b inside found Memory e = tt
+
+-- nor what can't be counted in a copy
+none_inside : (b : Bool) (inside : Option ℕ) (error : EvalError) → Evaluates {X = ℕ} (Err error) inside
+    → Evaluates {X = ℕ} (Err error) (option_map (λ k. cond b 1 0 + k) inside)
+none_inside b inside Overflow e = ap (option_map (λ k. cond b 1 0 + k)) e
+none_inside b inside Memory e = tt
+
+pub stops_counted : (plots : Option ℕ) (error : EvalError) → Evaluates {X = ℕ} (Err error) plots → Evaluates {X = ℕ} (Err error) (counted plots)
+stops_counted plots Overflow e = ap counted e
+stops_counted plots Memory e = tt
 
 -- each of some marks may stand where all may
 pub stand_at : (rows : RowsByName) (marks : List VgMark) (i : ℕ) (m : VgMark) → MayStand rows marks → i < length marks → m ≡ get_or marks i m → MayStand rows (m ∷ [])
@@ -249,15 +202,15 @@ module _ (outer : NamesAt) (m : VgMark) (copy : CopyOf) (in_facet in_grid : Bool
   abbrev named : Option Names
   named = names_in_object sources_read (names_over outer copy.parts) (object_here (out-Group (out-VgMark m).group))
 
-  abbrev counts : Option ℕ
-  counts = plots_held sources_read in_facet in_grid (out-VgMark m) (names_at outer.sources.now outer.levels.now) copy
+  abbrev plots_here : Option ℕ
+  plots_here = plots_of_copy sources_read in_facet in_grid (out-VgMark m) (names_at outer.sources.now outer.levels.now) (copy_seen copy)
 
-  by_names : counts ≡ counted (option_map (λ k. cond (is_panel in_facet in_grid (out-VgMark m)) 1 0 + k) (named >>= plots_inside sources_read in_facet (out-VgMark m)))
+  by_names : plots_here ≡ option_map (λ k. cond (is_panel in_facet in_grid (out-VgMark m)) 1 0 + k) (named >>= plots_inside sources_read in_facet (out-VgMark m))
   by_names =
-      ap (λ (found : Option Names). counted (option_map (λ k. cond (is_panel in_facet in_grid (out-VgMark m)) 1 0 + k) (found >>= plots_inside sources_read in_facet (out-VgMark m))))
+      ap (λ (found : Option Names). option_map (λ k. cond (is_panel in_facet in_grid (out-VgMark m)) 1 0 + k) (found >>= plots_inside sources_read in_facet (out-VgMark m)))
       (names_of_copy sources_read outer (group_object 0 (out-VgMark m)) copy)
 
-  pub copy_stops : (error : EvalError) → Evaluates {X = Names} (Err error) named → Evaluates {X = ℕ} (Err error) counts
+  pub copy_stops : (error : EvalError) → Evaluates {X = Names} (Err error) named → Evaluates {X = ℕ} (Err error) plots_here
   copy_stops error e =
       subst (Evaluates {X = ℕ} (Err error)) (sym by_names)
       (names_stop (is_panel in_facet in_grid (out-VgMark m)) (plots_inside sources_read in_facet (out-VgMark m)) named error e)
@@ -266,15 +219,16 @@ module _ (outer : NamesAt) (m : VgMark) (copy : CopyOf) (in_facet in_grid : Bool
     abbrev within : Option ℕ
     within = plots_inside sources_read in_facet (out-VgMark m) (names_with_level outer level)
 
-    by_level : counts ≡ counted (option_map (λ k. cond (is_panel in_facet in_grid (out-VgMark m)) 1 0 + k) within)
+    by_level : plots_here ≡ option_map (λ k. cond (is_panel in_facet in_grid (out-VgMark m)) 1 0 + k) within
     by_level =
         by_names
-        ∙ ap (λ (found : Option Names). counted (option_map (λ k. cond (is_panel in_facet in_grid (out-VgMark m)) 1 0 + k) (found >>= plots_inside sources_read in_facet (out-VgMark m)))) are
+        ∙ ap (λ (found : Option Names). option_map (λ k. cond (is_panel in_facet in_grid (out-VgMark m)) 1 0 + k) (found >>= plots_inside sources_read in_facet (out-VgMark m))) are
 
-    pub copy_counts : (n one whole : ℕ) → counted within ≡ Some n → one ≡ cond (is_panel in_facet in_grid (out-VgMark m)) 1 0
-        → whole ≡ min (n + one) most_counted → counts ≡ Some whole
-    copy_counts n one whole e o w = by_level ∙ with_itself (is_panel in_facet in_grid (out-VgMark m)) within n one whole e o w
+    -- what was counted in it
+    pub copy_counts : (result : Result ℕ EvalError)
+        → Evaluates result (counted (plots_with_level sources_read in_facet in_grid (out-VgMark m) (names_with_level outer level))) → Evaluates result (counted plots_here)
+    copy_counts result counts = subst (λ o. Evaluates result (counted o)) (sym by_level) counts
 
-    pub inside_stops : (error : EvalError) → Evaluates {X = ℕ} (Err error) (counted within) → Evaluates {X = ℕ} (Err error) counts
+    pub inside_stops : (error : EvalError) → Evaluates {X = ℕ} (Err error) within → Evaluates {X = ℕ} (Err error) plots_here
     inside_stops error e =
-        subst (Evaluates {X = ℕ} (Err error)) (sym by_level) (none_with_itself (is_panel in_facet in_grid (out-VgMark m)) within error e)
+        subst (Evaluates {X = ℕ} (Err error)) (sym by_level) (none_inside (is_panel in_facet in_grid (out-VgMark m)) within error e)

@@ -107,7 +107,7 @@ module _ (outer : HeldFrame) (copy : CopyMade) (unit number : ℕ) (m : VgMark)
   kept_is = kept_in_made outer.names.sources.now outer.names.levels.now m copy is number
 
   pub copy_stops : keeps_signals names_here here ≡ false → drawn ≡ None
-  copy_stops lost = none_by (sources_of outer) (frame_seen outer) unit number (out-VgMark m) (out-CopyMade copy).cells names_found (kept_is false lost)
+  copy_stops lacking = none_by (sources_of outer) (frame_seen outer) unit number (out-VgMark m) (out-CopyMade copy).cells names_found (kept_is false lacking)
 
   pub copy_named : (levels : List (Bor Level)) (cells : Option (Bor (List (List ℕ × Cell)))) → keeps_signals names_here here ≡ true
       → levels_behind levels ≡ (out-CopyMade copy).level ∷ levels_behind outer.names.levels.now

@@ -21,7 +21,7 @@ use Rattle.mark_encode.specs.declared.channels.ChannelName.{ChannelName}
 use Rattle.mark_encode.specs.declared.looks.Look.{Look}
 use Rattle.mark_encode.specs.declared.runs.Stop.{Stop}
 use Rattle.mark_encode.specs.Channels.{ScaledValue, channel_values}
-use Rattle.mark_encode.specs.Looks.{default_stroke_width, look_for, looks_of}
+use Rattle.mark_encode.specs.Looks.{default_stroke_width, look_for, looks_of, painted_on}
 use Rattle.mark_encode.specs.Orders.{rows_in_order}
 use Rattle.mark_encode.specs.Paths.{PathValues, stops_for, path_look_for, path_item, path_over, is_closed, path_values_of}
 use Rattle.mark_encode.specs.Runs.{points_of}
@@ -72,11 +72,11 @@ module _ (unit : ℕ) where
   of_path default path values (first ∷ others) =
       path_drawn path.closed (stops_for path values (first ∷ others)) (path_look_for default path.looks values first.cell)
 
-  of_row : (key : Option Key) (found : Option (Option Shape)) (painted : Option (Option Look))
-      → IfSome (found >>= λ shape. painted >>= λ look. Some (item_with unit key shape look)) (λ o. IfSome o IsOf)
-  of_row key None painted = tt
-  of_row key (Some shape) None = tt
-  of_row key (Some shape) (Some look) = shape_of key shape look
+  of_row : (type : MarkType) (key : Option Key) (found : Option (Option Shape)) (painted : Option (Option Look))
+      → IfSome (found >>= λ shape. painted >>= λ look. Some (item_with unit key shape (painted_on type look))) (λ o. IfSome o IsOf)
+  of_row type key None painted = tt
+  of_row type key (Some shape) None = tt
+  of_row type key (Some shape) (Some look) = shape_of key shape (painted_on type look)
 
   one_more : (o : Option (Option Item)) (rest : Option (List (Option Item))) → IfSome o (λ o. IfSome o IsOf)
       → AllOf (option_map (filter_map (λ found. found)) rest)
@@ -95,7 +95,7 @@ module _ (unit : ℕ) where
   of_mark true type width height channels values rows = of_path (default_stroke_width type) (path_values_of (is_closed type) channels) values rows
   of_mark false type width height channels values rows =
       of_rows (item_for type unit width height channels values)
-      (λ row. of_row (picked_key type row.key) (shape_for type width height channels row.cell values)
+      (λ row. of_row type (picked_key type row.key) (shape_for type width height channels row.cell values)
       (look_for (default_stroke_width type) row.cell values (looks_of channels))) rows
 
   in_plot : (frame : Frame) (m : PlainMark) (rows : List Datum) → AllOf (items_in_plot frame unit m rows)

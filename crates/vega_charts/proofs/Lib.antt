@@ -32,3 +32,6 @@ pub mod ItemOrder
 pub mod OnePlot
 pub mod OnePlotLaw
 pub mod MadeLemmas
+pub mod PanelLemmas
+pub mod BareLemmas
+pub mod AlikeLemmas

@@ -9,7 +9,6 @@ use Rattle.cell_value.specs.State.{Dataset, dataset_of}
 use Rattle.cell_value.specs.declared.state.Named.{Named}
 use Rattle.vega_lists.specs.Held.{scope_read, AreAllRows}
 use Rattle.vega_lists.specs.Inside.{RowsByName, rows_inside}
-use Rattle.vega_signals.specs.Lost.{is_among}
 use Rattle.vega_signals.specs.Settling.{values_inside}
 use Rattle.vega_spec.specs.declared.spec.Group.{out-Group}
 use Rattle.vega_spec.specs.declared.spec.VgMark.{VgMark, out-VgMark}
@@ -28,7 +27,7 @@ use Rattle.vega_charts.specs.inner.Made.{levels_behind, rows_under, names_under,
 use Rattle.vega_charts.specs.inner.Outlined.{marks_in, marks_of, is_group, group_object}
 use Rattle.vega_charts.specs.inner.Standing.{MayStand, MarksMayFold}
 use Rattle.vega_charts.proofs.OutlineLemmas.{plain_first, group_first}
-use Rattle.vega_charts.proofs.StandLemmas.{rows_are_under, values_are_under, lost_are_under, names_of_copy, rows_entered, marks_kept}
+use Rattle.vega_charts.proofs.StandLemmas.{rows_are_under, values_are_under, names_of_copy, rows_entered, marks_kept}
 
 -- ---- names under levels
 
@@ -36,7 +35,6 @@ pub names_are_under : (sources : List Named) (levels : List (Bor Level)) → nam
 names_are_under sources levels = λ i. record {
   lists = scope_read (rows_are_under sources levels i);
   values = values_are_under levels i;
-  is_lost = lost_are_under levels i;
 }
 
 pub rows_with_under : (outer : NamesAt) (level : Level)
@@ -49,7 +47,6 @@ pub names_with_under : (outer : NamesAt) (level : Level)
 names_with_under outer level = λ i. record {
   lists = scope_read (rows_with_under outer level i);
   values = values_inside level.signals (values_are_under outer.levels.now i);
-  is_lost = is_among level.lost;
 }
 
 -- ---- what was made of marks, the first and the others
@@ -256,7 +253,7 @@ module _ (sources : List Named) (outer : List (Bor Level)) (m : VgMark) (made : 
       ap (λ (names : Names). names_in_copy (map dataset_of sources) names (group_object number (out-VgMark m)) (made_seen made)) (names_are_under sources outer)
       ∙ is.names
 
-  -- the same where none of its own signals is lost, or one is
+  -- the same where each of its own signals has a value, or one has none
   pub kept_in_made : (number : ℕ) (b : Bool)
       → keeps_signals (names_under sources ((out-CopyMade made).level ∷ levels_behind outer)) (group_object number (out-VgMark m)) ≡ b
       → kept_names (group_object number (out-VgMark m))

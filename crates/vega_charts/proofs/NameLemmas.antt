@@ -20,13 +20,14 @@ use Rattle.plain_rows.specs.Rows.{AreRows}
 use Rattle.vega_lists.specs.Held.{AreAllRows, scope_read}
 use Rattle.vega_lists.specs.Scopes.{Scope}
 use Rattle.vega_lists.specs.Lists.{lists_of}
-use Rattle.vega_signals.specs.Lost.{IsLost, is_among, lost_inside, set_reads_lost}
-use Rattle.vega_signals.specs.Settling.{has_value, Valued, settled_own, values_inside}
+use Rattle.vega_signals.specs.Extents.{Settled}
+use Rattle.vega_signals.specs.Lacking.{set_lacks}
+use Rattle.vega_signals.specs.Settling.{is_own, Valued, settled_own, values_inside}
 use Rattle.vega_charts.specs.Outlines.{Object}
-use Rattle.vega_charts.specs.Scopes.{Names}
+use Rattle.vega_charts.specs.Scopes.{Names, names_with}
 use Rattle.vega_charts.specs.declared.names.NamesAt.{NamesAt}
 use Rattle.vega_charts.specs.declared.names.Level.{Level}
-use Rattle.vega_charts.specs.inner.Levels.{part_named, parts_over, rows_here, rows_at, values_at, lost_at, names_with_parts, AreParts}
+use Rattle.vega_charts.specs.inner.Levels.{part_named, parts_over, rows_here, rows_at, values_at, names_over, names_with_parts, AreParts}
 
 -- the rows of a part, or those round it
 pub part_found : (parts : List Named) (rows : RowsByName) (name : List ℕ)
@@ -56,7 +57,7 @@ here_or_outside sources level outer name =
 -- no selection is read
 pub no_member : (levels : List (Bor Level)) (name field : List ℕ) → Null ≡ (values_at levels).member name field
 no_member [] name field = refl
-no_member (level ∷ outer) name field = here (has_value level.now.signals name) (no_member outer name field)
+no_member (level ∷ outer) name field = here (is_own level.now.signals name) (no_member outer name field)
   where
     here : (b : Bool) → Null ≡ (values_at outer).member name field → Null ≡ cond b Null ((values_at outer).member name field)
     here true e = refl
@@ -94,10 +95,10 @@ parts_are_rows (part ∷ others) rows each round name =
     here true own outside x y = x
     here false own outside x y = y
 
--- the names of an object in others, by the values of its own signals and those that are lost
-module _ (outer : NamesAt) (parts : List Named) (o : Object) (own : Valued) (lost : List (List ℕ)) where
+-- the names of an object in others, by the values of its own signals
+module _ (outer : NamesAt) (parts : List Named) (o : Object) (own : Settled) where
   abbrev pub read_as : Scope → Names
-  read_as lists = record { lists = lists; values = values_inside own (values_at outer.levels.now); is_lost = is_among lost }
+  read_as lists = record { lists = lists; values = values_inside own (values_at outer.levels.now) }
 
   abbrev pub lists_found : Option Scope
   lists_found =
@@ -107,20 +108,11 @@ module _ (outer : NamesAt) (parts : List Named) (o : Object) (own : Valued) (los
   pub names_are : (given : Valued) (found : Bool)
       → own ≡ settled_own (map dataset_of outer.sources.now) (scope_read (parts_over parts (rows_at outer.sources.now outer.levels.now)))
       (values_at outer.levels.now) given o.signals o.sets
-      → ((name : List ℕ) → is_among lost name ≡ lost_inside (values_at outer.levels.now) (lost_at outer.levels.now) own o.signals name)
-      → found ≡ list_any (set_reads_lost (is_among lost)) o.sets
+      → found ≡ list_any (set_lacks (values_inside own (values_at outer.levels.now))) o.sets
       → names_with_parts outer parts o given ≡ cond found None (option_map read_as lists_found)
-  names_are given found settled each any =
-      ap (λ v. with_own v (lost_inside (values_at outer.levels.now) (lost_at outer.levels.now) v o.signals)) (sym settled)
-      ∙ ap (with_own own) (λ i name. sym (each name) i)
+  names_are given found settled any =
+      ap (names_with (map dataset_of outer.sources.now) (names_over outer parts) o) (sym settled)
       ∙ ap (λ b. cond b None (option_map read_as lists_found)) (sym any)
-    where
-      with_own : Valued → IsLost → Option Names
-      with_own v is_lost =
-          cond (list_any (set_reads_lost is_lost) o.sets) None
-          (option_map (λ lists. record { lists = lists; values = values_inside v (values_at outer.levels.now); is_lost = is_lost })
-          (lists_of (values_inside v (values_at outer.levels.now)) (map dataset_of outer.sources.now)
-          (scope_read (parts_over parts (rows_at outer.sources.now outer.levels.now))) o.sets))
 
 -- what fails below fails above
 pub fails_with : {X Y : Type 0} (f : X → Y) (error : EvalError) (given : Option X) (whole : Option Y) → whole ≡ option_map f given

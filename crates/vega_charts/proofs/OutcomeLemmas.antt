@@ -1,5 +1,5 @@
 -- Why what is answered is what comes of drawing.
-use Rattle.std.proofs.Common.{◌≡◌, ℕ, ◌-◌, ◌^◌, min, nat_lt, false, true, cond, List, [], Option, Some, None, Result, Ok, Err, refl, sym, ap, ◌∙◌, subst, arith}
+use Rattle.std.proofs.Common.{◌≡◌, ℕ, ◌-◌, ◌^◌, min, nat_lt, false, true, cond, is_some, List, [], Option, Some, None, Result, Ok, Err, refl, sym, ap, ◌∙◌, subst, arith}
 use Rattle.std.proofs.lemmas.Bool.Decides.{nat_tests}
 use Rattle.std.proofs.lemmas.Option.{same_Some}
 use Rattle.std.specs.Option.{option_map}
@@ -40,6 +40,17 @@ named r o f n is h = subst (λ o. Comes (in_reach o >>= f) r) (sym is) h
 
 -- ---- the count of plots in facets
 
+pub is_counted : (found : Option ℕ) (n : ℕ) → option_map (λ n. min n (2 ^ 64 - 1)) found ≡ Some n → is_some found ≡ true
+is_counted None n e = absurd (cc)
+is_counted (Some k) n e = refl
+
+-- where plots can be counted, nothing that is made of them is out of range
+pub none_stopped : {X : Type 0} (found : Option ℕ) (e : EvalError) → is_some found ≡ true → Evaluates {X = ℕ} (Err e) found
+    → (o : Option X) → Evaluates {X = X} (Err e) o
+none_stopped found Memory can stops o = tt
+none_stopped None Overflow can stops o = absurd (cc)
+none_stopped (Some n) Overflow can stops o = absurd (cc)
+
 abbrev most : ℕ
 most = 2 ^ 64 - 1
 
@@ -78,7 +89,7 @@ from_top g params sources = ap (λ top. drawn_from g top no_values params source
 -- what names stand for at the top, where these are parts of lists
 abbrev pub names_round : List Dataset → List Named → Valued → Object → Option Names
 names_round sources parts params o =
-    let around : Names = record { lists = scope_read (parts_over parts no_rows); values = no_values; is_lost = λ name. false } in
+    let around : Names = record { lists = scope_read (parts_over parts no_rows); values = no_values } in
     names_with sources around o (settled_in sources around params o)
 
 -- the top has none

@@ -15,7 +15,6 @@ use Rattle.vega_lists.specs.Inside.{RowsByName, rows_inside, AllKeysFit, SetsMay
 use Rattle.vega_lists.specs.Products.{Products, products_after}
 use Rattle.vega_lists.specs.Scopes.{Scope}
 use Rattle.vega_lists.specs.Transforms.{OfTransforms, is_kept}
-use Rattle.vega_signals.specs.Lost.{is_among}
 use Rattle.vega_signals.specs.Settling.{values_inside}
 use Rattle.vega_signals.specs.Signals.{data_of}
 use Rattle.vega_charts.specs.declared.copies.CopyOf.{CopyOf}
@@ -27,11 +26,11 @@ use Rattle.vega_charts.specs.Facets.{Copy, with_parts}
 use Rattle.vega_charts.specs.Scales.{ScaleHere, own_scale, and_outer}
 use Rattle.vega_charts.specs.Copies.{Frame, copy_in, inside_of, names_in_copy, of_no_chart, more_cells, with_scales}
 use Rattle.vega_charts.specs.Built.{KeepsObject, KeepsMarks, FoldsFitIn, products_in_copy}
-use Rattle.vega_charts.specs.inner.Levels.{parts_over, rows_at, values_at, lost_at, names_at, names_over, names_with_level, rows_with_level, kept_names, AreNames, AreLevels}
+use Rattle.vega_charts.specs.inner.Levels.{parts_over, rows_at, values_at, names_at, names_over, names_with_level, rows_with_level, kept_names, AreNames, AreLevels}
 use Rattle.vega_charts.specs.inner.Copied.{copy_seen, IsCopy}
 use Rattle.vega_charts.specs.inner.Outlined.{marks_in, marks_of, is_group, plain_of, group_object, object_numbered, AreFew}
 use Rattle.vega_charts.specs.inner.Drawn.{scaled_in}
-use Rattle.vega_charts.specs.inner.Made.{levels_behind, rows_under, values_under, lost_under}
+use Rattle.vega_charts.specs.inner.Made.{levels_behind, rows_under, values_under}
 use Rattle.vega_charts.specs.inner.Standing.{MayStand, MarksMayFold}
 use Rattle.vega_charts.proofs.OutlineLemmas.{plain_first, group_first, counted_first, grouped_first, group_counted, group_grouped}
 
@@ -186,10 +185,6 @@ pub values_are_under : (levels : List (Bor Level)) → values_at levels ≡ valu
 values_are_under [] = refl
 values_are_under (level ∷ outer) = ap (values_inside level.now.signals) (values_are_under outer)
 
-pub lost_are_under : (levels : List (Bor Level)) → lost_at levels ≡ lost_under (levels_behind levels)
-lost_are_under [] = refl
-lost_are_under (level ∷ outer) = refl
-
 module _ (outer : NamesAt) (level : Level) (levels : List (Bor Level)) (more : map (λ l. l.now) levels ≡ level ∷ map (λ l. l.now) outer.levels.now) where
   pub rows_entered : rows_at outer.sources.now levels ≡ rows_with_level outer level
   rows_entered =
@@ -201,11 +196,8 @@ module _ (outer : NamesAt) (level : Level) (levels : List (Bor Level)) (more : m
   values_entered =
       values_are_under levels ∙ ap values_under more ∙ ap (values_inside level.signals) (sym (values_are_under outer.levels.now))
 
-  lost_entered : lost_at levels ≡ is_among level.lost
-  lost_entered = lost_are_under levels ∙ ap lost_under more
-
   pub names_entered : names_at outer.sources.now levels ≡ names_with_level outer level
-  names_entered = λ i. record { lists = scope_read (rows_entered i); values = values_entered i; is_lost = lost_entered i }
+  names_entered = λ i. record { lists = scope_read (rows_entered i); values = values_entered i }
 
   pub levels_entered : AreNames outer → AreAllRows (rows_with_level outer level) → AreLevels outer.sources.now levels
   levels_entered names rows = record { sources_are = names.sources_are; rows = subst AreAllRows (sym rows_entered) rows }
@@ -260,7 +252,7 @@ module _ (outer : Frame) (o : Object) (copy : Copy) where
   abbrev pub named_in : Names → Frame
   named_in names = record outer { names = names; cells = more_cells outer.cells copy.cells }
 
-  -- a copy of an object: its names, none of its own signals lost, and then its scales
+  -- a copy of an object: its names, each of its own signals with a value, and then its scales
   pub copy_by_names : {X : Type 0} (sources : List Dataset) (next : Frame → Option X)
       → (copy_in sources outer o copy >>= next)
       ≡ (kept_names o (names_in_copy sources outer.names o copy) >>= λ names. scaled_in o (named_in names) >>= next)

@@ -200,8 +200,8 @@ module _ (g : VgSpec) (sources : List Dataset) (names : Names) where
   top_is_grid l is kept =
       (λ i. by_layout (is i) (kept i)) ∙ grid_by_scales l (all_found (map (own_scale (of_chart (Some l)) names) (top_of g).object.scales))
 
-  pub top_is_lost : keeps_signals names (top_of g).object ≡ false → drawing_over g sources (top_of g) names ≡ None
-  top_is_lost lost = ap (by_layout (top_of g).object.layout) lost
+  pub top_lacks : keeps_signals names (top_of g).object ≡ false → drawing_over g sources (top_of g) names ≡ None
+  top_lacks lacking = ap (by_layout (top_of g).object.layout) lacking
 
   module _ (scales : List ScaleHere) where
     abbrev sizes : Values

@@ -136,10 +136,10 @@ module _ (outer : Place) (unit number : ℕ) (mark : VgMark) (copy : CopyMade)
 
   pub copy_stops : keeps_signals names_here (group_object number (out-VgMark mark)) ≡ false
       → view_at (place_seen outer) outer unit number (out-VgMark mark) (made_seen copy) ≡ None
-  copy_stops lost =
+  copy_stops lacking =
       copy_by_kept
       ∙ ap (λ o. o >>= λ names. view_named (named_in_copy names) outer unit number (out-VgMark mark))
-      (kept_in_made outer.frame.names.sources.now outer.frame.names.levels.now mark copy is number false lost)
+      (kept_in_made outer.frame.names.sources.now outer.frame.names.levels.now mark copy is number false lacking)
 
   -- the same once the names are known
   pub copy_entered : (levels : List (Bor Level)) (cells : Option (Bor (List (List ℕ × Cell)))) (headers : List Header)

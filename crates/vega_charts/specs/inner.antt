@@ -5,6 +5,7 @@ pub mod Outlined
 pub mod Kept
 pub mod Framed
 pub mod Copied
+pub mod Alike
 pub mod Counted
 pub mod Standing
 pub mod Made

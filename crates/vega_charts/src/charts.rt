@@ -23,12 +23,13 @@ ghost use Rattle.vega_charts.specs.inner.Standing.{MayStand};
 ghost use Rattle.vega_charts.specs.inner.Framed.{frame_seen, IsFrame};
 ghost use Rattle.vega_charts.specs.inner.Kept.{axis_seen, kept_seen, scale_seen, AreKeptAxes, IsKeptScale};
 ghost use Rattle.vega_charts.specs.inner.Levels.{names_at, rows_at, AreNames};
-ghost use Rattle.vega_charts.specs.inner.Outcomes.{answered, drawn_within, stopped, with_counted};
+ghost use Rattle.vega_charts.specs.inner.Outcomes.{answered, can_be_counted, drawn_within, stopped, with_counted};
 ghost use Rattle.vega_charts.specs.inner.Outlined.{marks_in};
 ghost use Rattle.vega_charts.specs.inner.Topped.{drawn_grid, drawn_plot, grid_with_axes, held_top, is_of_chart, names_on_top, rows_on_top};
 ghost use Rattle.vega_charts.specs.inner.Topped.{scaled_grid, scaled_plot, sized_plot, top_of, top_seen, with_axes, IsTop};
 
 use crate::axes::{and_axes, axes_in};
+use crate::counts::count_plots;
 use crate::frames::{Frame, Sizing};
 use crate::grids::{Place, grid_view, plot_view};
 use crate::levels::{keeps_signals, level_with, with_level};
@@ -349,7 +350,7 @@ fn grid_over(
     }
 }
 
-// What is drawn where the names of the top are known, and none of its signals is lost.
+// What is drawn where the names of the top are known, and each of its signals has a value.
 fn drawing_over(
     alloc: Global,
     g: &VgSpec,
@@ -384,7 +385,7 @@ fn drawing_kept(
     ensures { Evaluates result (drawing_over g.now (map dataset_of names.entry.sources.now) (top_of g.now)
         (names_at names.entry.sources.now names.entry.levels.now)) }
 {
-    if keeps_signals(level, &g.group) {
+    if keeps_signals(&[], level, &g.group) {
         drawing_over(alloc, g, names, made)
     } else {
         Err(EvalError::Overflow)
@@ -411,26 +412,47 @@ fn answered(drawn: Result<Drawing, EvalError>) -> Result<Drawing, DrawError>
     }
 }
 
-// What comes of drawing where the names of the top are known, its groups have these copies, and so many plots stand in facets.
+// What is drawn where the names of the top are known, and its plots in facets can be counted.
+fn drawing_made(
+    alloc: Global,
+    g: &VgSpec,
+    level: &Level,
+    names: NamesAt,
+) -> Result<Drawing, EvalError>
+    requires kept { KeepsRules g.now }
+    requires names { AreNames names }
+    requires marks { MayStand (rows_at names.sources.now names.levels.now) (marks_in (out-Group g.now.group)) }
+    requires level { names_at names.sources.now names.levels.now ≡ names_on_top names.sources.now level.now }
+    requires counted { can_be_counted (map dataset_of names.sources.now) g.now (names_at names.sources.now names.levels.now) ≡ true }
+    ensures { Evaluates result (drawing_over g.now (map dataset_of names.entry.sources.now) (top_of g.now)
+        (names_at names.entry.sources.now names.entry.levels.now)) }
+{
+    match made_in(alloc, &names, marks_in(&g.group)) {
+        Ok(made) => drawing_kept(alloc, g, level, names, made.as_slice()),
+        Err(error) => Err(error),
+    }
+}
+
+// What comes of drawing where the names of the top are known, and so many plots stand in facets. Copies are made for at most 400.
 fn drawing_counted(
     alloc: Global,
     g: &VgSpec,
     level: &Level,
     names: NamesAt,
-    made: &[CopiesMade],
     plots: u64,
 ) -> Result<Drawing, DrawError>
     requires kept { KeepsRules g.now }
     requires names { AreNames names }
-    requires marks { HaveCopies names.sources.now names.levels.now (marks_in (out-Group g.now.group)) made.now }
+    requires marks { MayStand (rows_at names.sources.now names.levels.now) (marks_in (out-Group g.now.group)) }
     requires level { names_at names.sources.now names.levels.now ≡ names_on_top names.sources.now level.now }
+    requires counted { can_be_counted (map dataset_of names.sources.now) g.now (names_at names.sources.now names.levels.now) ≡ true }
     ensures { Comes (with_counted plots (in_reach (drawing_over g.now (map dataset_of names.entry.sources.now) (top_of g.now)
         (names_at names.entry.sources.now names.entry.levels.now)))) result }
 {
     if plots > MOST_PANELS {
         Err(DrawError::Panels(plots))
     } else {
-        answered(drawing_kept(alloc, g, level, names, made))
+        answered(drawing_made(alloc, g, level, names))
     }
 }
 
@@ -448,14 +470,14 @@ fn drawing_within(
     ensures { Comes (drawn_within (map dataset_of names.entry.sources.now) g.now
         (names_at names.entry.sources.now names.entry.levels.now)) result }
 {
-    match made_in(
+    match count_plots(
         alloc,
         &names,
         marks_in(&g.group),
         false,
         g.group.layout.is_some(),
     ) {
-        Ok(found) => drawing_counted(alloc, g, level, names, found.made.as_slice(), found.plots),
+        Ok(plots) => drawing_counted(alloc, g, level, names, plots),
         Err(error) => Err(stopped(error)),
     }
 }
@@ -488,7 +510,8 @@ fn drawing_at(
 /// What is drawn of a specification over sources of rows and values of the parameters that can be set: the picture with its panels, and
 /// the scales of its plots. `Overflow` comes exactly where a data set or a signal that one reads is out of range; else `Panels` exactly
 /// where more than 400 plots stand in facets, with their count up to the greatest number of 64 bits; else `Overflow` exactly where any other
-/// number is out of range. Each list, scale and facet is made once in each copy of its object; the scales that have names in a plot are laid
+/// number is out of range. The plots are counted before copies are made: for more than 400 it takes memory for the rows alone. Each list,
+/// scale and facet is made once in each copy of its object, after its plots were counted; the scales that have names in a plot are laid
 /// anew over its size. The time is near linear in what is drawn, for each copy in the rows that it reads and the domains of its own scales,
 /// for each plot in the domains of the scales that have names in it, and for each axis and legend in the domain of its scale.
 pub fn drawing_of(

@@ -1,5 +1,5 @@
 // The copies of a group by its facet.
-ghost use Rattle.std.specs.Prelude.{◌≡◌, ◌∷◌, [], None, All, IfOk, map, flat_map, zip, slice_get, option_copied, unwrap_or, if◌then◌else◌};
+ghost use Rattle.std.specs.Prelude.{◌≡◌, ◌∷◌, [], None, All, IfOk, map, flat_map, zip, min, length, slice_get, option_copied, unwrap_or, if◌then◌else◌};
 ghost use Rattle.std.specs.Option.{option_map};
 ghost use Rattle.std.specs.List.{enumerate_from};
 ghost use Rattle.plain_facets.specs.Facets.{part_of, cells_of_fields, cells_of_copies, AreDifferent};
@@ -11,11 +11,13 @@ ghost use Rattle.vega_charts.specs.Facets.{crosses, divided_by, second_of_two, o
 ghost use Rattle.vega_charts.specs.Outlines.{facet_in};
 ghost use Rattle.vega_charts.specs.inner.Levels.{rows_behind, rows_at, AreNames};
 ghost use Rattle.vega_charts.specs.inner.Outlined.{group_object};
+ghost use Rattle.vega_charts.specs.declared.names.NamesAt.{NamesAt as HeldNames};
 ghost use Rattle.vega_charts.specs.inner.Copied.{copy_seen, copy_at, parts_at, parts_read, scope_at, IsCopy};
+ghost use Rattle.vega_charts.specs.inner.Counted.{most_counted, with_rows_by, without_rows_by, copies_with_rows, count_bare, bare_named, parts_of_bare, bare_copy};
 
 use crate::names::NamesAt;
 use cell_value::{Cell, Keyed, Named, Rows};
-use plain_facets::{DividedBy, cells_of_copies, cells_of_fields, choices, parts_of};
+use plain_facets::{DividedBy, cells_of_copies, cells_of_fields, choices, count_cells, parts_of};
 use plain_rows::SortBy;
 use std::alloc::Global;
 use text_kit::{OutOfMemory, Seq, Text, copy_list};
@@ -358,4 +360,156 @@ pub(crate) fn copies_of(
     ensures sound { IfOk result (λ found. All (IsCopy names.now (out-VgMark mark.now)) found.copies) }
 {
     Ok(copies_found(alloc, names, mark)?)
+}
+
+/// The copies of a group, those that have rows and the number of the others.
+#[derive(Drop)]
+pub struct CopiesCounted {
+    /// The copies that have rows.
+    pub with_rows: Seq<CopyOf>,
+    /// How many copies have none, up to the greatest number of 64 bits.
+    pub without_rows: u64,
+}
+
+// The copies by a facet that have rows, and how many have none.
+fn count_by(
+    alloc: Global,
+    names: &NamesAt,
+    sort: &Option<Sort>,
+    facet: &Facet,
+) -> Result<CopiesCounted, OutOfMemory>
+    requires names { AreNames names.now }
+    ensures with_rows { IfOk result (λ found. map copy_seen found.with_rows ≡ with_rows_by (scope_at names.now) sort.now facet.now) }
+    ensures without_rows { IfOk result (λ found. found.without_rows
+        ≡ min (without_rows_by (scope_at names.now) sort.now facet.now) most_counted) }
+{
+    let d = divided_by(alloc, sort, facet)?;
+    let lists = texts_in(&facet.data_);
+    let rows = rows_divided(alloc, names, lists)?;
+    let cells = count_cells(alloc, &d, rows.as_slice())?;
+    let fields = facet.groupby.as_slice();
+    let tables = all_parts_named(alloc, names, fields, cells.with_rows.as_slice(), lists)?;
+    Ok(CopiesCounted {
+        with_rows: copies_with(
+            alloc,
+            fields,
+            cells.with_rows.as_slice(),
+            texts_in(&facet.name),
+            tables.as_slice(),
+        )?,
+        without_rows: cells.without_rows,
+    })
+}
+
+// The one copy of a group without a facet, counted.
+fn only_counted(alloc: Global) -> Result<CopiesCounted, OutOfMemory>
+    ensures with_rows { IfOk result (λ found. map copy_seen found.with_rows ≡ only_copy ∷ []) }
+    ensures without_rows { IfOk result (λ found. found.without_rows ≡ min 0 most_counted) }
+{
+    Ok(CopiesCounted {
+        with_rows: only_copy(alloc)?.copies,
+        without_rows: 0,
+    })
+}
+
+// The copies of a group that have rows, and how many have none, by its facet or without one.
+fn copies_counted(
+    alloc: Global,
+    names: &NamesAt,
+    mark: &VgMark,
+) -> Result<CopiesCounted, OutOfMemory>
+    requires names { AreNames names.now }
+    ensures with_rows { IfOk result (λ found. map copy_seen found.with_rows
+        ≡ copies_with_rows (scope_at names.now) (group_object 0 (out-VgMark mark.now))) }
+    ensures without_rows { IfOk result (λ found. found.without_rows
+        ≡ min (count_bare (scope_at names.now) (group_object 0 (out-VgMark mark.now))) most_counted) }
+{
+    match facet_in(mark) {
+        Some(facet) => count_by(alloc, names, &mark.sort, facet),
+        None => only_counted(alloc),
+    }
+}
+
+/// The copies of a group that have rows, and how many have none, which aren't made. The time is near linear in the rows of the lists that
+/// the facet divides.
+pub(crate) fn count_copies(
+    alloc: Global,
+    names: &NamesAt,
+    mark: &VgMark,
+) -> Result<CopiesCounted, OutOfMemory>
+    requires names { AreNames names.now }
+    ensures with_rows { IfOk result (λ found. map copy_seen found.with_rows
+        ≡ copies_with_rows (scope_read (rows_at names.now.sources.now names.now.levels.now)) (group_object 0 (out-VgMark mark.now))) }
+    ensures without_rows { IfOk result (λ found. found.without_rows
+        ≡ min (count_bare (scope_read (rows_at names.now.sources.now names.now.levels.now)) (group_object 0 (out-VgMark mark.now))) most_counted) }
+    ensures sound { IfOk result (λ found. All (IsCopy names.now (out-VgMark mark.now)) found.with_rows) }
+{
+    Ok(copies_counted(alloc, names, mark)?)
+}
+
+// How many copies a facet makes, up to the greatest number of 64 bits.
+fn count_all_by(
+    alloc: Global,
+    names: &NamesAt,
+    sort: &Option<Sort>,
+    facet: &Facet,
+) -> Result<u64, OutOfMemory>
+    requires names { AreNames names.now }
+    ensures { IfOk result (λ count. count ≡ min (length (copies_by (scope_at names.now) sort.now facet.now)) most_counted) }
+{
+    let d = divided_by(alloc, sort, facet)?;
+    let rows = rows_divided(alloc, names, texts_in(&facet.data_))?;
+    let cells = count_cells(alloc, &d, rows.as_slice())?;
+    Ok((cells.with_rows.len() as u64).saturating_add(cells.without_rows))
+}
+
+/// How many copies a group has, up to the greatest number of 64 bits. The time is near linear in the rows of the lists that its facet
+/// divides; no copy is made.
+pub(crate) fn count_all_copies(
+    alloc: Global,
+    names: &NamesAt,
+    mark: &VgMark,
+) -> Result<u64, OutOfMemory>
+    requires names { AreNames names.now }
+    ensures { IfOk result (λ count. count ≡ min (length (copies_of (scope_at names.now) (group_object 0 (out-VgMark mark.now)))) most_counted) }
+{
+    match facet_in(mark) {
+        Some(facet) => count_all_by(alloc, names, &mark.sort, facet),
+        None => Ok(1),
+    }
+}
+
+// Lists without rows, by their names in a copy.
+fn bare_parts(alloc: Global, names: &[Text], lists: &[Text]) -> Result<Seq<Named>, OutOfMemory>
+    ensures { IfOk result (λ parts. parts ≡ map bare_named (zip names.now lists.now)) }
+{
+    let mut parts = Seq::new(alloc);
+    for (name, _) in names.iter().zip(lists) {
+        parts.push(Named {
+            name: name.copy()?,
+            rows: Seq::new(alloc),
+        })?;
+    }
+    Ok(parts)
+}
+
+// The lists of a copy without rows.
+fn parts_of_bare(alloc: Global, mark: &VgMark) -> Result<Seq<Named>, OutOfMemory>
+    ensures { IfOk result (λ parts. parts ≡ parts_of_bare (facet_in (out-VgMark mark.now).from)) }
+{
+    match facet_in(mark) {
+        Some(facet) => bare_parts(alloc, texts_in(&facet.name), texts_in(&facet.data_)),
+        None => Ok(Seq::new(alloc)),
+    }
+}
+
+/// A copy of a group without rows. Its cells aren't told: what is counted in it doesn't depend on them.
+pub(crate) fn copy_without_rows(alloc: Global, mark: &VgMark) -> Result<CopyOf, OutOfMemory>
+    ensures seen { IfOk result (λ copy. copy_seen copy ≡ bare_copy (facet_in (out-VgMark mark.now).from)) }
+    ensures sound { (names : HeldNames) → IfOk result (IsCopy names (out-VgMark mark.now)) }
+{
+    Ok(CopyOf {
+        cells: None,
+        parts: parts_of_bare(alloc, mark)?,
+    })
 }

@@ -64,7 +64,7 @@ fn length_of(scales: &[ScaleHere], name: &str) -> u64
 impl ParamReader for Sizing<'_, '_> {
     ghost values = { λ sizing. with_domains (map scale_seen sizing.scales.now) (values_at sizing.names.levels.now) };
 
-    fn param(&self, alloc: Global, name: &str) -> Result<Cell, OutOfMemory> {
+    fn param(&self, alloc: Global, name: &str) -> Result<Cell, EvalError> {
         self.names.param(alloc, name)
     }
 

@@ -328,14 +328,14 @@ fn copy_view<'s>(
     ensures value { Evaluates result (view_at (place_seen outer.now) outer.now unit number (out-VgMark mark.now) (made_seen copy.now)) }
     ensures legends { IfOk result HasLegends }
 {
-    if keeps_signals(&copy.level, &mark.group) {
+    if keeps_signals(outer.frame.names.levels, &copy.level, &mark.group) {
         kept_view(alloc, outer, mark, copy, unit, number)
     } else {
         Err(EvalError::Overflow)
     }
 }
 
-// The view of a copy of a group that has lost no signal of its own.
+// The view of a copy of a group in which each signal of its own has a value.
 #[cycle(viewing)]
 fn kept_view<'s>(
     alloc: Global,
@@ -350,7 +350,7 @@ fn kept_view<'s>(
     requires few { AreFew unit number (mark.now ∷ []) }
     requires group { is_group (out-VgMark mark.now) ≡ true }
     requires copy { IsCopyMade outer.now.frame.names.sources.now (levels_behind outer.now.frame.names.levels.now) (out-VgMark mark.now) copy.now }
-    requires kept { KeepsSignals (out-VgMark mark.now) copy.now }
+    requires kept { KeepsSignals (levels_behind outer.now.frame.names.levels.now) (out-VgMark mark.now) copy.now }
     ensures value { Evaluates result (view_at (place_seen outer.now) outer.now unit number (out-VgMark mark.now) (made_seen copy.now)) }
     ensures legends { IfOk result HasLegends }
 {

@@ -321,14 +321,14 @@ fn draw_copy<'s>(
         (drawn_copy (sources_of outer.now) (frame_seen outer.now) unit number (out-VgMark mark.now) (made_seen copy.now)) }
     ensures kept { IsInside out.old → OnOk result (IsInside out.new) }
 {
-    if keeps_signals(&copy.level, &mark.group) {
+    if keeps_signals(outer.names.levels, &copy.level, &mark.group) {
         draw_kept(alloc, outer, unit, number, mark, copy, out)
     } else {
         Err(EvalError::Overflow)
     }
 }
 
-// What a copy of a group draws that has lost no signal of its own.
+// What a copy of a group draws in which each signal of its own has a value.
 #[cycle(drawing)]
 fn draw_kept<'s>(
     alloc: Global,
@@ -342,7 +342,7 @@ fn draw_kept<'s>(
     requires frame { IsFrame outer.now }
     requires marks { MayStand (rows_in_frame outer.now) (mark.now ∷ []) }
     requires copy { IsCopyMade outer.now.names.sources.now (levels_behind outer.now.names.levels.now) (out-VgMark mark.now) copy.now }
-    requires kept { KeepsSignals (out-VgMark mark.now) copy.now }
+    requires kept { KeepsSignals (levels_behind outer.now.names.levels.now) (out-VgMark mark.now) copy.now }
     requires few { AreFew unit number (mark.now ∷ []) }
     requires group { is_group (out-VgMark mark.now) ≡ true }
     ensures value { DrawsMore result out.old out.new

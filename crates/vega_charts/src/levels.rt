@@ -1,11 +1,11 @@
 // The names of a copy of an object.
 ghost use Rattle.std.specs.Prelude.{◌≡◌, ◌∷◌, ◌++◌, not, unwrap_or, IfOk, OnOk, All, map, flat_map};
-ghost use Rattle.std.specs.List.{list_all, list_any};
+ghost use Rattle.std.specs.List.{list_all};
 ghost use Rattle.cell_value.specs.declared.cell.Cell.TheVariants.{Null};
 ghost use Rattle.vega_spec.specs.declared.signals.Signal.{Signal};
 ghost use Rattle.vega_spec.specs.Names.{signals_of};
 ghost use Rattle.vega_signals.specs.Extents.{is_computed};
-ghost use Rattle.vega_signals.specs.Lost.{is_among, set_reads_lost};
+ghost use Rattle.vega_signals.specs.Lacking.{lacks};
 ghost use Rattle.vega_charts.specs.inner.Results.{result_map};
 ghost use Rattle.cell_value.specs.State.{dataset_of};
 ghost use Rattle.expr_eval.specs.Answers.{Evaluates};
@@ -17,18 +17,17 @@ ghost use Rattle.vega_lists.specs.Transforms.{is_kept, OfTransforms};
 ghost use Rattle.vega_signals.specs.Signals.{data_of};
 ghost use Rattle.vega_charts.specs.Outlines.{object_here};
 ghost use Rattle.vega_charts.specs.Scopes.{written_here, names_in_object};
-ghost use Rattle.vega_charts.specs.inner.Levels.{parts_over, rows_at, names_over, names_with_level, rows_with_level, names_with_parts, lost_at, AreNames, AreParts};
+ghost use Rattle.vega_charts.specs.inner.Levels.{parts_over, rows_at, names_over, names_with_level, rows_with_level, names_with_parts, AreNames, AreParts};
+ghost use Rattle.vega_charts.specs.inner.Made.{levels_behind, values_under};
 
-use crate::names::{Level, NamesAt, part_named, referred};
+use crate::names::{Level, NamesAt, lacks_inside, part_named, referred};
 use cell_value::{Cell, Keyed, Named};
 use expr_eval::EvalError;
 use std::alloc::Global;
 use text_kit::{OutOfMemory, Seq, Text};
 use vega_lists::{ListReader, lists_inside};
-use vega_signals::{
-    Inside, data_of, is_among, lost_inside, own_values, set_reads_lost, signals_of,
-};
-use vega_spec::{DataSet, Group, Signal};
+use vega_signals::{Inside, any_set_lacks, data_of, own_values, signals_of};
+use vega_spec::{Group, Signal};
 
 /// The parts of lists that a facet gives, over what names stand for round its group.
 #[derive(Clone, Copy)]
@@ -89,30 +88,8 @@ fn written(alloc: Global, signals: &[Signal]) -> Result<Seq<(Text, Cell)>, OutOf
     Ok(out)
 }
 
-// The names of the signals that are lost round an object.
-fn lost_round<'a>(levels: &'a [&'a Level]) -> &'a [Text]
-    ensures { is_among result.now ≡ lost_at levels.now }
-{
-    match levels {
-        [innermost, ..] => innermost.lost.as_slice(),
-        [] => &[],
-    }
-}
-
-// Whether a data set among some reads one of these lost signals.
-fn any_reads_lost(alloc: Global, sets: &[DataSet], lost: &[Text]) -> Result<bool, OutOfMemory>
-    ensures { IfOk result (λ found. found ≡ list_any (set_reads_lost (is_among lost.now)) sets.now) }
-{
-    for set in sets {
-        if set_reads_lost(alloc, set, lost)? {
-            return Ok(true);
-        }
-    }
-    Ok(false)
-}
-
 /// The names of an object whose given signals have values, in others, where a facet gives parts of lists. `Overflow` comes exactly where one
-/// of its data sets overflows, or reads a signal that is lost.
+/// of its data sets overflows, or mentions a name without value.
 pub(crate) fn level_with(
     alloc: Global,
     outer: &NamesAt,
@@ -142,14 +119,7 @@ pub(crate) fn level_with(
         own: own.as_slice(),
         outer,
     };
-    let lost = lost_inside(
-        alloc,
-        outer,
-        lost_round(outer.levels),
-        own.as_slice(),
-        signals,
-    )?;
-    if any_reads_lost(alloc, sets, lost.as_slice())? {
+    if any_set_lacks(alloc, &inside, sets)? {
         return Err(EvalError::Overflow);
     }
     match lists_inside(alloc, outer.sources, &over, sets, &inside) {
@@ -157,14 +127,13 @@ pub(crate) fn level_with(
             parts,
             lists,
             signals: own,
-            lost,
         }),
         Err(error) => Err(error),
     }
 }
 
 /// The names of a copy of a group in the copy of the object round it. `Overflow` comes exactly where one of its data sets overflows, or
-/// reads a signal that is lost.
+/// mentions a name without value.
 pub(crate) fn level_in(
     alloc: Global,
     outer: &NamesAt,
@@ -202,18 +171,19 @@ pub(crate) fn with_level<'a>(
     Ok(levels)
 }
 
-// Whether a signal is none of those that are lost.
-fn is_kept_signal(level: &Level, signal: &Signal) -> bool
-    ensures { result ≡ not (is_among level.now.lost signal.now.name) }
+// Whether a signal has a value in a copy of an object, where these are the levels of names round it.
+#[tactic(auto, using(crate::proofs::StandLemmas::values_are_under))]
+fn is_kept_signal(outer: &[&Level], level: &Level, signal: &Signal) -> bool
+    ensures { result ≡ not (lacks (values_under (level.now ∷ levels_behind outer.now)) signal.now.name) }
 {
-    !is_among(level.lost.as_slice(), signal.name.as_str())
+    !lacks_inside(outer, level, signal.name.as_str())
 }
 
-/// Whether no own signal of an object is lost.
-pub(crate) fn keeps_signals(level: &Level, group: &Group) -> bool
-    ensures { result ≡ list_all (λ (s : Signal). not (is_among level.now.lost s.name)) (signals_of (out-Group group.now)) }
+/// Whether each own signal of an object has a value in a copy of it, where these are the levels of names round it.
+pub(crate) fn keeps_signals(outer: &[&Level], level: &Level, group: &Group) -> bool
+    ensures { result ≡ list_all (λ (s : Signal). not (lacks (values_under (level.now ∷ levels_behind outer.now)) s.name)) (signals_of (out-Group group.now)) }
 {
     signals_of(group)
         .iter()
-        .all(|signal| is_kept_signal(level, signal))
+        .all(|signal| is_kept_signal(outer, level, signal))
 }

@@ -1,10 +1,12 @@
 //! What is drawn of whole Vega specifications: their lists and signals, scales, facets, plots, grids and legends.
 #![tactic(auto)]
 
+mod alike;
 mod apart;
 mod axes;
 mod charts;
 mod copies;
+mod counts;
 mod folds;
 mod frames;
 mod grids;

@@ -1,14 +1,18 @@
 // What names stand for at a copy of an object: lists of rows, and the values of signals.
 ghost use Rattle.std.specs.Prelude.{◌≡◌, [], IfOk, map, option_copied};
 ghost use Rattle.cell_value.specs.declared.state.Named.{Named};
+ghost use Rattle.expr_eval.specs.Answers.{Evaluates};
+ghost use Rattle.vega_signals.specs.Lacking.{lacks};
+ghost use Rattle.vega_signals.specs.Settling.{values_inside};
 ghost use Rattle.vega_charts.specs.inner.Levels.{part_named, rows_here, rows_at, signal_named, values_at};
 
 use cell_value::{Cell, Keyed, Named, Steps};
-use expr_eval::{ParamReader, RowReader};
+use expr_eval::{EvalError, ParamReader, RowReader};
 use std::alloc::Global;
 use std::sync::ledger::Ledger;
 use text_kit::{OutOfMemory, Seq, Text};
 use vega_lists::{ListReader, Lists};
+use vega_signals::settled_value;
 
 /// The names that a copy of an object gives itself.
 #[derive(Drop)]
@@ -17,10 +21,8 @@ pub struct Level {
     pub parts: Seq<Named>,
     /// The lists of its data sets.
     pub lists: Lists,
-    /// Its signals with their values.
-    pub signals: Seq<(Text, Cell)>,
-    /// The signals that have no value here since a number is out of range, outer ones among them.
-    pub lost: Seq<Text>,
+    /// Its signals with their values; without one where its computation is out of range.
+    pub signals: Seq<(Text, Option<Cell>)>,
 }
 
 /// What names stand for at a copy of an object.
@@ -89,8 +91,11 @@ impl ListReader for NamesAt<'_> {
     }
 }
 
-// The value of the first of some signals that has the name, if one has it.
-fn signal_named<'a>(signals: &'a [(Text, Cell)], name: &str) -> Option<&'a (Text, Cell)>
+// The first of some signals that has the name, if one has it.
+fn signal_named<'a>(
+    signals: &'a [(Text, Option<Cell>)],
+    name: &str,
+) -> Option<&'a (Text, Option<Cell>)>
     ensures { option_copied result ≡ signal_named signals.now name.now }
 {
     for signal in signals {
@@ -101,22 +106,44 @@ fn signal_named<'a>(signals: &'a [(Text, Cell)], name: &str) -> Option<&'a (Text
     None
 }
 
-// The value of a signal; null where there is none.
-fn value_at(levels: &[&Level], name: &str) -> Result<Cell, OutOfMemory>
-    ensures { IfOk result (λ cell. cell ≡ (values_at levels.now).value name.now) }
+// The value of a signal; null where there is none of the name.
+fn value_at(levels: &[&Level], name: &str) -> Result<Cell, EvalError>
+    ensures { Evaluates result ((values_at levels.now).value name.now) }
 {
     for level in levels {
         if let Some(signal) = signal_named(level.signals.as_slice(), name) {
-            return signal.1.copy();
+            return settled_value(&signal.1);
         }
     }
     Ok(Cell::Null)
 }
 
+// Whether a name has no value.
+fn lacks_at(levels: &[&Level], name: &str) -> bool
+    ensures { result ≡ lacks (values_at levels.now) name.now }
+{
+    for level in levels {
+        if let Some(signal) = signal_named(level.signals.as_slice(), name) {
+            return signal.1.is_none();
+        }
+    }
+    false
+}
+
+/// Whether a name has no value with one more level inside.
+pub(crate) fn lacks_inside(outer: &[&Level], level: &Level, name: &str) -> bool
+    ensures { result ≡ lacks (values_inside level.now.signals (values_at outer.now)) name.now }
+{
+    match signal_named(level.signals.as_slice(), name) {
+        Some(signal) => signal.1.is_none(),
+        None => lacks_at(outer, name),
+    }
+}
+
 impl ParamReader for NamesAt<'_> {
     ghost values = { λ names. values_at names.levels.now };
 
-    fn param(&self, _: Global, name: &str) -> Result<Cell, OutOfMemory> {
+    fn param(&self, _: Global, name: &str) -> Result<Cell, EvalError> {
         value_at(self.levels, name)
     }
 

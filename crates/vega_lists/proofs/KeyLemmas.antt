@@ -38,7 +38,7 @@ use Rattle.vega_spec.specs.declared.transforms.Transform.{Transform}
 use Rattle.vega_spec.specs.declared.transforms.Transform.TheVariants as vega
 use Rattle.vega_lists.specs.Scopes.{Scope}
 use Rattle.vega_lists.specs.Operations.{group_settings, window_settings}
-use Rattle.vega_lists.specs.Settings.{bin_settings, fold_settings, lookup_settings, stack_settings, unit_settings}
+use Rattle.vega_lists.specs.Settings.{extent_in, bin_settings, fold_settings, lookup_settings, stack_settings, unit_settings}
 use Rattle.vega_lists.specs.Transforms.{transformed, all_transformed}
 use Rattle.vega_lists.specs.Products.{KeysFit, fold_length, fold_product, most_folded}
 
@@ -204,7 +204,8 @@ transformed_fits values scope (vega.Fold f) rows out n e fits =
     subst (λ (made : List Datum). KeysFit (n * length f.fields) (data_keys made)) (same_value _ out e) (fold_fits (fold_settings f) n rows fits)
 transformed_fits values scope (vega.Extent x) rows out n e fits = unchanged n rows out e fits
 transformed_fits values scope (vega.Bin b) rows out n e fits =
-    same_fits n (data_keys out) (data_keys rows) (binned_keys (bin_settings values b) rows out e) fits
+    let (taken, _, made) = after_some (extent_in values b.extent) _ out e in
+    same_fits n (data_keys out) (data_keys rows) (binned_keys (bin_settings taken b) rows out made) fits
 transformed_fits values scope (vega.Aggregate a) rows out n e fits =
     let g = group_settings a in
     let cells = λ (row : Datum). row.cell in

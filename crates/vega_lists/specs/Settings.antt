@@ -1,6 +1,6 @@
 -- What the transforms of a Vega specification ask of rows, with what stands for the members that are absent.
 use Rattle.std.specs.Prelude.{◌≡◌, refl, ℕ, ◌*◌, ℤ, pos, Option, Some, None, List, [], ◌∷◌, slice_get, unwrap_or, codes}
-use Rattle.std.specs.Option.{option_map_or}
+use Rattle.std.specs.Option.{option_map, option_map_or}
 use Rattle.fixed_num.specs.Number.{million}
 use Rattle.cell_value.specs.declared.cell.Cell.{Cell}
 use Rattle.cell_value.specs.declared.cell.Cell.TheVariants.{Null, Flag, Number, Text, Pair}
@@ -68,16 +68,17 @@ pair_in (Number n) = None
 pair_in (Text t) = None
 pair_in (Pair a b) = Some (a, b)
 
--- the two numbers that bins take in: those given, or those that a signal has; none where it has no two numbers
-abbrev pub extent_in : Values → BinExtent → Option (ℤ × ℤ)
-extent_in values (extent.Pair a b) = Some (a, b)
-extent_in values (extent.Signal name) = pair_in (values.value name)
+-- The two numbers that bins take in: those given, or those that a signal is; without any where it is no two numbers. None where the signal
+-- has no value.
+abbrev pub extent_in : Values → BinExtent → Option (Option (ℤ × ℤ))
+extent_in values (extent.Pair a b) = Some (Some (a, b))
+extent_in values (extent.Signal name) = option_map pair_in (values.value name)
 
--- there are at most 10 bins where it isn't said, and without names they are `bin0` and `bin1`
-abbrev pub bin_settings : Values → Bin → BinOf
-bin_settings values b = record {
+-- bins that take in these; there are at most 10 where it isn't said, and without names they are `bin0` and `bin1`
+abbrev pub bin_settings : Option (ℤ × ℤ) → Bin → BinOf
+bin_settings taken b = record {
   field = b.field;
-  extent = extent_in values b.extent;
+  extent = taken;
   step = b.step;
   maxbins = count_in (unwrap_or b.maxbins (pos (10 * million)));
   out = first_name b.as_ (codes "bin0");
@@ -130,13 +131,9 @@ a_fold_with_names = refl
 the_names_of_a_unit : (unit_settings record { field = codes "t"; units = 0; as_ = None }).out_end ≡ codes "unit1"
 the_names_of_a_unit = refl
 
--- bins of `v` with this extent
-abbrev bins_over : BinExtent → Bin
-bins_over taken = record { field = codes "v"; extent = taken; maxbins = None; step = None; as_ = None }
-
-bins_without_members : bin_settings no_values (bins_over (extent.Pair (pos 1) (pos 0))) ≡ record {
+bins_without_members : bin_settings None record { field = codes "v"; extent = extent.Pair (pos 1) (pos 0); maxbins = None; step = None; as_ = None } ≡ record {
   field = codes "v";
-  extent = Some (pos 1, pos 0);
+  extent = None;
   step = None;
   maxbins = 10;
   out = codes "bin0";
@@ -144,13 +141,14 @@ bins_without_members : bin_settings no_values (bins_over (extent.Pair (pos 1) (p
 }
 bins_without_members = refl
 
--- each signal is two numbers
-abbrev two_numbers : Values
-two_numbers = record no_values { value = λ name. Pair (pos 3) (pos 5) }
+-- each signal is this
+abbrev each_is : Option Cell → Values
+each_is value = record no_values { value = λ name. value }
 
-bins_over_a_signal : ((bin_settings two_numbers (bins_over (extent.Signal (codes "s")))).extent ≡ Some (pos 3, pos 5))
-    × ((bin_settings no_values (bins_over (extent.Signal (codes "s")))).extent ≡ None)
-bins_over_a_signal = (refl, refl)
+bins_over_a_signal : (extent_in (each_is (Some (Pair (pos 3) (pos 5)))) (extent.Signal (codes "s")) ≡ Some (Some (pos 3, pos 5)))
+    × (extent_in (each_is (Some Null)) (extent.Signal (codes "s")) ≡ Some None)
+    × (extent_in (each_is None) (extent.Signal (codes "s")) ≡ None)
+bins_over_a_signal = (refl, refl, refl)
 
 a_stack_without_members : stack_settings record { groupby = None; field = codes "v"; sort = None; offset = None; as_ = None }
     ≡ record { field = codes "v"; groupby = []; sort = []; offset = rows.Zero; out = codes "y0"; out_end = codes "y1" }

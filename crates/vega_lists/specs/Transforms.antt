@@ -17,11 +17,12 @@ use Rattle.plain_groups.specs.GroupRows.{data_aggregated, data_join_aggregated}
 use Rattle.plain_stacks.specs.Stacks.{data_stacked}
 use Rattle.plain_windows.specs.Windows.{data_windowed}
 use Rattle.vega_spec.specs.declared.data.DataSet.{DataSet}
+use Rattle.vega_spec.specs.declared.transforms.Bin.{Bin}
 use Rattle.vega_spec.specs.declared.transforms.Transform.{Transform}
 use Rattle.vega_spec.specs.declared.transforms.Transform.TheVariants as vega
 use Rattle.vega_lists.specs.Scopes.{Scope, no_lists}
 use Rattle.vega_lists.specs.Operations.{group_settings, window_settings}
-use Rattle.vega_lists.specs.Settings.{bin_settings, stack_settings, lookup_settings, fold_settings, unit_settings}
+use Rattle.vega_lists.specs.Settings.{extent_in, bin_settings, stack_settings, lookup_settings, fold_settings, unit_settings}
 
 -- what a specification that breaks no rule keeps: a lookup that names what it takes has as many names as it has values, and bins of a
 -- given width are over 0 wide
@@ -38,15 +39,19 @@ is_kept (vega.Window w) = true
 is_kept (vega.Lookup l) = nat_eq (length (unwrap_or l.as_ l.values)) (length l.values)
 is_kept (vega.Fold f) = true
 
--- The rows that a transform makes of rows, where names stand for lists; None where a number that it needs is out of range. A filter, a
--- formula, a time unit and a fold make of each row what it says by itself; bins besides by their extent, or else by the least and the
--- greatest number of all rows; a lookup by the row that it finds in the list that its `from` stands for; the others by the rows of a
--- group. An extent leaves the rows as they are.
+-- the rows with the bins of a field; None where the signal over which they reach has no value, or a number that they need is out of range
+abbrev pub binned : Values → Bin → List Datum → Option (List Datum)
+binned values b rows = extent_in values b.extent >>= λ taken. data_binned (bin_settings taken b) rows
+
+-- The rows that a transform makes of rows, where names stand for lists; None where a number that it needs is out of range, or a signal that
+-- it needs has no value. A filter, a formula, a time unit and a fold make of each row what it says by itself; bins besides by their extent,
+-- or else by the least and the greatest number of all rows; a lookup by the row that it finds in the list that its `from` stands for; the
+-- others by the rows of a group. An extent leaves the rows as they are.
 abbrev pub transformed : Values → Scope → Transform → List Datum → Option (List Datum)
 transformed values scope (vega.Filter f) rows = data_filtered values f.expr rows
 transformed values scope (vega.Formula f) rows = data_calculated values f.expr f.as_ rows
 transformed values scope (vega.Extent e) rows = Some rows
-transformed values scope (vega.Bin b) rows = data_binned (bin_settings values b) rows
+transformed values scope (vega.Bin b) rows = binned values b rows
 transformed values scope (vega.TimeUnit t) rows = Some (data_in_time_units (unit_settings t) rows)
 transformed values scope (vega.Aggregate a) rows = data_aggregated (group_settings a) rows
 transformed values scope (vega.JoinAggregate a) rows = data_join_aggregated (group_settings a) rows

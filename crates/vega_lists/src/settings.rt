@@ -2,6 +2,7 @@
 ghost use Rattle.std.specs.Prelude.{◌≡◌, ◌*◌, [], pos, IfOk, slice_get, unwrap_or, codes};
 ghost use Rattle.fixed_num.specs.Number.{million};
 ghost use Rattle.cell_value.specs.declared.cell.Cell.TheVariants.{Null};
+ghost use Rattle.expr_eval.specs.Answers.{Evaluates};
 ghost use Rattle.vega_spec.specs.declared.transforms.Offset.TheVariants as TheOffset;
 ghost use Rattle.vega_lists.specs.Operations.{count_in};
 ghost use Rattle.vega_lists.specs.Settings.{first_name, second_name, pair_in, extent_in, bin_settings, offset_of, stack_settings};
@@ -10,7 +11,7 @@ ghost use Rattle.vega_lists.specs.Settings.{lookup_settings, fold_settings, unit
 use crate::operations::{count_in, texts_or_empty};
 use crate::orders::sort_or_empty;
 use cell_value::{Cell, SharedText};
-use expr_eval::ParamReader;
+use expr_eval::{EvalError, ParamReader};
 use fixed_num::Num;
 use plain_rows::{BinOf, FoldOf, LookupOf, Offset as RowOffset, StackOf, TimeOf};
 use std::alloc::Global;
@@ -136,20 +137,20 @@ fn pair_in(cell: &Cell) -> Option<(Num, Num)>
     }
 }
 
-// The two numbers that bins take in: those given, or those that a signal has.
-fn extent_in<P: ParamReader>(
+/// The two numbers that bins take in: those given, or those that a signal is. `Overflow` comes exactly where the signal has no value.
+pub(crate) fn extent_in<P: ParamReader>(
     alloc: Global,
     extent: &BinExtent,
     params: &P,
-) -> Result<Option<(Num, Num)>, OutOfMemory>
-    ensures { IfOk result (λ given. given ≡ extent_in (P.values params.now) extent.now) }
+) -> Result<Option<(Num, Num)>, EvalError>
+    ensures { Evaluates result (extent_in (P.values params.now) extent.now) }
 {
     match extent {
         BinExtent::Pair(a, b) => Ok(Some((*a, *b))),
-        BinExtent::Signal(name) => {
-            let cell = params.param(alloc, name.as_str())?;
-            Ok(pair_in(&cell))
-        }
+        BinExtent::Signal(name) => match params.param(alloc, name.as_str()) {
+            Ok(cell) => Ok(pair_in(&cell)),
+            Err(error) => Err(error),
+        },
     }
 }
 
@@ -163,17 +164,17 @@ fn most_bins(given: Option<Num>) -> u32
     }
 }
 
-/// What bins ask of rows, where parameters and signals have these values.
-pub(crate) fn bin_settings<P: ParamReader>(
+/// What bins ask of rows that take in these numbers.
+pub(crate) fn bin_settings(
     alloc: Global,
     b: &Bin,
-    params: &P,
+    taken: Option<(Num, Num)>,
 ) -> Result<BinOf, OutOfMemory>
-    ensures { IfOk result (λ how. how ≡ bin_settings (P.values params.now) b.now) }
+    ensures { IfOk result (λ how. how ≡ bin_settings taken b.now) }
 {
     Ok(BinOf {
         field: b.field.copy()?,
-        extent: extent_in(alloc, &b.extent, params)?,
+        extent: taken,
         step: b.step,
         maxbins: most_bins(b.maxbins),
         out: first_name(alloc, &b.as_, "bin0")?,

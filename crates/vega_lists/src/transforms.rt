@@ -14,16 +14,17 @@ ghost use Rattle.plain_windows.specs.Windows.{data_windowed};
 ghost use Rattle.vega_lists.specs.Operations.{group_settings, window_settings};
 ghost use Rattle.vega_lists.specs.Settings.{bin_settings, stack_settings, lookup_settings, fold_settings, unit_settings};
 ghost use Rattle.vega_lists.specs.Products.{KeysFit, most_folded};
-ghost use Rattle.vega_lists.specs.Transforms.{is_kept, transformed};
+ghost use Rattle.vega_lists.specs.Transforms.{is_kept, binned, transformed};
 ghost use Rattle.vega_lists.specs.Held.{rows_named, scope_in, AreLists, MayFold};
 
 use crate::Lists;
 use crate::operations::{group_settings, window_settings};
 use crate::settings::{
-    bin_settings, fold_settings, lookup_settings, stack_settings, unit_settings,
+    bin_settings, extent_in, fold_settings, lookup_settings, stack_settings, unit_settings,
 };
 use cell_value::{Named, Rows};
 use expr_eval::{EvalError, ParamReader};
+use fixed_num::Num;
 use plain_bins::bin;
 use plain_groups::{aggregate, join_aggregate};
 use plain_rows::{LookupOf, calculate, filter, fold, lookup, time_unit};
@@ -32,6 +33,22 @@ use plain_windows::window;
 use std::alloc::Global;
 use text_kit::{OutOfMemory, Seq, copy_list};
 use vega_spec::{Aggregate, Bin, Fold, Lookup, Stack, TimeUnit, Transform, Window};
+
+// The rows with the bins of a field, which take in these numbers.
+fn binned_over(
+    alloc: Global,
+    rows: &Rows,
+    b: &Bin,
+    taken: Option<(Num, Num)>,
+) -> Result<Rows, EvalError>
+    requires rows { AreRows rows.now }
+    requires step { IsTrue (option_map_or (int_lt (pos 0)) b.now.step true) }
+    ensures read { GivesRows result (data_binned (bin_settings taken b.now) (map datum_of rows.now)) }
+    ensures rows { IfOk result AreRows }
+{
+    let how = bin_settings(alloc, b, taken)?;
+    bin(alloc, rows, &how)
+}
 
 // The rows with the bins of a field.
 fn binned<P: ParamReader>(
@@ -42,11 +59,13 @@ fn binned<P: ParamReader>(
 ) -> Result<Rows, EvalError>
     requires rows { AreRows rows.now }
     requires step { IsTrue (option_map_or (int_lt (pos 0)) b.now.step true) }
-    ensures read { GivesRows result (data_binned (bin_settings (P.values params.now) b.now) (map datum_of rows.now)) }
+    ensures read { GivesRows result (binned (P.values params.now) b.now (map datum_of rows.now)) }
     ensures rows { IfOk result AreRows }
 {
-    let how = bin_settings(alloc, b, params)?;
-    bin(alloc, rows, &how)
+    match extent_in(alloc, &b.extent, params) {
+        Ok(taken) => binned_over(alloc, rows, b, taken),
+        Err(error) => Err(error),
+    }
 }
 
 // The rows of groups.

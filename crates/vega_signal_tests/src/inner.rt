@@ -1,15 +1,16 @@
-// Values of the signals of an inner object, and which of them are lost. Before ` & ` stand the values of the signals round it, behind that a line
-// as those of a top object. Round the object each name stands for the same list of three rows without cells, whose ids are 1, 2 and 3.
+// Values of the signals of an inner object; `none` of one that has no value. Before ` & ` stand the signals round it, behind that a line as those
+// of a top object. Round the object each name stands for the same list of three rows without cells, whose ids are 1, 2 and 3.
 ghost use Rattle.std.specs.Prelude.{◌≡◌, All, IfOk, map};
 ghost use Rattle.vega_signal_tests.specs.Plain.{IsListed, IsPlainSet};
 
-use crate::signals::{Stop, bare, sets_of, shown, signals_of, word_of};
+use crate::signals::{Stop, bare, sets_of, signals_of, word_of};
 use cell_value::{Cell, Keyed, Rows};
+use expr_eval::{NoParams, ParamReader};
 use std::alloc::Global;
 use std::test::Fail;
 use text_kit::{OutOfMemory, Seq, Text};
 use vega_lists::ListReader;
-use vega_signals::{PlotParams, lost_inside, own_values};
+use vega_signals::{Inside, own_values};
 use vega_spec::{DataSet, Signal};
 
 const LINES: &str = "\
@@ -27,17 +28,16 @@ k: 2 & | u of o: datum._vgsid_ < k; extent _vgsid_ x -> x=[1,1]\n\
 k: 2 & k = 3 | u of o: datum._vgsid_ < k; extent _vgsid_ x -> k=3 x=[1,2]\n\
 x: 7 & | u of o: extent _vgsid_ x; bins _vgsid_ x; extent c y -> x=[1,3] y=[1.2,3]\n\
 & | u of o: k = null; a = 7; look o; extent a y -> y=null\n\
-& a = 1000000000000000 + 1 -> a=null\n";
-
-// The names that are lost inside, where `m` and `n` are lost round the object.
-const LOST: &str = "\
-k: 7 & a = k -> m n\n\
-& n: 1 -> m\n\
-& n = 2; a = n -> m\n\
-& a = m; b = a; c = 1 -> m n a b\n\
-& c = b; b = a; a = 1000000000000000 + 1 -> m n c b a\n\
-& n = m -> m n\n\
-k: 7 & a = k + 1000000000000000 -> m n a\n";
+& a = 1000000000000000 + 1 -> a=none\n\
+& a = 1000000000000000 + 1; b = true ? true : a; c = a ? 1 : 1; d = b ? 1 : a -> a=none b=true c=none d=1\n\
+& d = isValid(c); c = [b, 1]; b = a; a = 1000000000000000 + 1 -> d=none c=none b=none a=none\n\
+m = 1000000000000000 + 1 & a = k -> a=null\n\
+m = 1000000000000000 + 1 & a = m; b = a; c = 1 -> a=none b=none c=1\n\
+m = 1000000000000000 + 1 & a = true ? true : m; b = m -> a=true b=none\n\
+m = 1000000000000000 + 1 & m = 2; a = m -> m=2 a=2\n\
+m = 1000000000000000 + 1 & m: 2; a = m -> m=2 a=2\n\
+n = m; m = 1000000000000000 + 1 & m = n -> m=none\n\
+k: 7 & a = k + 1000000000000000 -> a=none\n";
 
 // References to rows.
 fn references_to<'a>(alloc: Global, rows: &'a [Keyed]) -> Result<Seq<&'a Keyed>, OutOfMemory>
@@ -77,90 +77,68 @@ fn three_rows(alloc: Global) -> Result<Rows, OutOfMemory>
 }
 
 // The values inside an object.
-fn values_inside(
+fn values_inside<P: ParamReader>(
     alloc: Global,
     rows: &[Keyed],
-    outer: &[(Text, Cell)],
+    outer: &P,
     given: &[(Text, Cell)],
     signals: &[Signal],
     sets: &[DataSet],
-) -> Result<Seq<(Text, Cell)>, OutOfMemory>
+) -> Result<Seq<(Text, Option<Cell>)>, OutOfMemory>
     requires rows { IsListed rows.now }
     requires plain { All IsPlainSet sets.now }
 {
-    let round = PlotParams {
-        params: outer,
-        lengths: &[],
-    };
-    own_values(alloc, &[], &EachName { rows }, &round, given, signals, sets)
+    own_values(alloc, &[], &EachName { rows }, outer, given, signals, sets)
+}
+
+// The values inside an object that a line says.
+fn values_of<P: ParamReader>(
+    alloc: Global,
+    rows: &[Keyed],
+    outer: &P,
+    line: &str,
+) -> Result<Seq<(Text, Option<Cell>)>, Stop>
+    requires { IsListed rows.now }
+{
+    let (signals, sets) = line.split_once("| ").unwrap_or((line, ""));
+    let mut given = Seq::new(alloc);
+    let signals = signals_of(alloc, signals.trim_end(), &mut given)?;
+    let sets = sets_of(alloc, sets)?;
+    Ok(values_inside(
+        alloc,
+        rows,
+        outer,
+        given.as_slice(),
+        signals.as_slice(),
+        sets.as_slice(),
+    )?)
+}
+
+// The values, each behind a blank.
+fn settled(alloc: Global, values: &[(Text, Option<Cell>)]) -> Result<Text, OutOfMemory> {
+    let mut out = Text::new(alloc);
+    for value in values {
+        out.push_str(" ")?;
+        out.push_str(value.0.as_str())?;
+        out.push_str("=")?;
+        match &value.1 {
+            Some(cell) => out.push_str(cell.display(alloc)?.as_str())?,
+            None => out.push_str("none")?,
+        }
+    }
+    Ok(out)
 }
 
 fn answered(alloc: Global, line: &str) -> Result<Text, Stop> {
     let rows = three_rows(alloc)?;
     let (round, line) = line.split_once("& ").ok_or(Stop::Shape)?;
-    let mut outer = Seq::new(alloc);
-    signals_of(alloc, round.trim_end(), &mut outer)?;
-    let (signals, sets) = line.split_once("| ").unwrap_or((line, ""));
-    let mut given = Seq::new(alloc);
-    let signals = signals_of(alloc, signals.trim_end(), &mut given)?;
-    let sets = sets_of(alloc, sets)?;
-    let values = values_inside(
-        alloc,
-        rows.as_slice(),
-        outer.as_slice(),
-        given.as_slice(),
-        signals.as_slice(),
-        sets.as_slice(),
-    )?;
-    Ok(shown(alloc, values.as_slice())?)
-}
-
-// Names, each behind a blank.
-fn listed(alloc: Global, names: &[Text]) -> Result<Text, OutOfMemory> {
-    let mut out = Text::new(alloc);
-    for name in names {
-        out.push_str(" ")?;
-        out.push_str(name.as_str())?;
-    }
-    Ok(out)
-}
-
-fn two_lost(alloc: Global) -> Result<Seq<Text>, OutOfMemory> {
-    let mut lost = Seq::new(alloc);
-    lost.push(Text::of(alloc, "m")?)?;
-    lost.push(Text::of(alloc, "n")?)?;
-    Ok(lost)
-}
-
-fn lost_in(alloc: Global, line: &str) -> Result<Text, Stop> {
-    let rows = three_rows(alloc)?;
-    let lost = two_lost(alloc)?;
-    let (round, line) = line.split_once("& ").ok_or(Stop::Shape)?;
-    let mut outer = Seq::new(alloc);
-    signals_of(alloc, round.trim_end(), &mut outer)?;
-    let mut given = Seq::new(alloc);
-    let signals = signals_of(alloc, line, &mut given)?;
-    let sets = sets_of(alloc, "")?;
-    let own = values_inside(
-        alloc,
-        rows.as_slice(),
-        outer.as_slice(),
-        given.as_slice(),
-        signals.as_slice(),
-        sets.as_slice(),
-    )?;
-    let round = PlotParams {
-        params: outer.as_slice(),
-        lengths: &[],
+    let outer = values_of(alloc, rows.as_slice(), &NoParams, round.trim_end())?;
+    let round = Inside {
+        own: outer.as_slice(),
+        outer: &NoParams,
     };
-    let names = lost_inside(
-        alloc,
-        &round,
-        lost.as_slice(),
-        own.as_slice(),
-        signals.as_slice(),
-    )?;
-    Ok(listed(alloc, names.as_slice())?)
+    let values = values_of(alloc, rows.as_slice(), &round, line)?;
+    Ok(settled(alloc, values.as_slice())?)
 }
 
 #[test]
@@ -168,16 +146,6 @@ fn inner_signals_settle(rt: HostRuntime) -> Result<(), Fail> {
     for line in LINES.lines() {
         let (given, wanted) = line.split_once(" ->").ok_or("a line without an answer")?;
         let word = word_of(rt.alloc(), answered(rt.alloc(), given))?;
-        assert_eq!(rt; word.as_str(), wanted, "{line}");
-    }
-    Ok(())
-}
-
-#[test]
-fn lost_signals(rt: HostRuntime) -> Result<(), Fail> {
-    for line in LOST.lines() {
-        let (given, wanted) = line.split_once(" ->").ok_or("a line without an answer")?;
-        let word = word_of(rt.alloc(), lost_in(rt.alloc(), given))?;
         assert_eq!(rt; word.as_str(), wanted, "{line}");
     }
     Ok(())

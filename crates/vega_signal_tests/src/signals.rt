@@ -34,6 +34,7 @@ e=5 j=10 b=2 i=9 g=7 a=1 f=6 h=8 d=4 c=3\n\
 a = b -> a=null\n\
 k: 1; a = datum.k === null ? k : 5 -> k=1 a=1\n\
 a = 1000000000000000 + 1 -> overflow\n\
+a = 1000000000000000 + 1; b = true ? 1 : a -> overflow\n\
 b = a > 0 ? 1000000000000000 + a : 0; a = 1 -> overflow\n\
 b = a === null ? 1000000000000000 + 1 : a; a = 1 -> b=1 a=1\n\
 | t: extent _vgsid_ x -> x=[1,3]\n\
@@ -296,7 +297,7 @@ fn top_of(sets: Seq<DataSet>, signals: Seq<Signal>) -> Group
 }
 
 // The values, each behind a blank.
-pub(crate) fn shown(alloc: Global, values: &[(Text, Cell)]) -> Result<Text, OutOfMemory> {
+fn shown(alloc: Global, values: &[(Text, Cell)]) -> Result<Text, OutOfMemory> {
     let mut out = Text::new(alloc);
     for value in values {
         out.push_str(" ")?;

@@ -13,18 +13,22 @@ use Rattle.expr_eval.specs.Operations.{negated, binary_of, paired}
 use Rattle.expr_eval.specs.Table.{called, chosen}
 use Rattle.expr_eval.specs.Value.{value_here, value_of}
 use Rattle.expr_eval.specs.Values.{Values}
-use Rattle.expr_eval.specs.Plain.{no_values}
 
--- two ways to read names agree on some of them
-abbrev pub AgreeOn : (List ℕ → Cell) → (List ℕ → Cell) → List (List ℕ) → Type 0
+-- a name reads the same in both
+pub record SameNamed (a b : Values) (name : List ℕ) : Type 0 where
+  pub value : a.value name ≡ b.value name
+  pub member : (field : List ℕ) → a.member name field ≡ b.member name field
+
+-- each of some names does
+abbrev pub AgreeOn : Values → Values → List (List ℕ) → Type 0
 AgreeOn a b [] = Unit {0}
-AgreeOn a b (name ∷ names) = (a name ≡ b name) × AgreeOn a b names
+AgreeOn a b (name ∷ names) = SameNamed a b name × AgreeOn a b names
 
--- what is read where parameters read so, and there is nothing else
-abbrev pub reading : (List ℕ → Cell) → Values
-reading a = record no_values { value = a }
+-- what is read where names read so, and all else as it is read round them
+abbrev pub reading : Values → Values → Values
+reading outer a = record outer { value = a.value; member = a.member }
 
-module _ (a b : List ℕ → Cell) where
+module _ (a b : Values) where
   pub front : (xs ys : List (List ℕ)) → AgreeOn a b (xs ++ ys) → AgreeOn a b xs
   front [] ys h = tt
   front (x ∷ xs) ys h = (h.0, front xs ys h.1)
@@ -33,12 +37,12 @@ module _ (a b : List ℕ → Cell) where
   back [] ys h = h
   back (x ∷ xs) ys h = back xs ys h.1
 
-module _ (a b : List ℕ → Cell) (row : CellAt) where
+module _ (outer a b : Values) (row : CellAt) where
   abbrev first : Expr → Option Cell
-  first = value_of row (reading a)
+  first = value_of row (reading outer a)
 
   abbrev second : Expr → Option Cell
-  second = value_of row (reading b)
+  second = value_of row (reading outer b)
 
   -- an expression has the same value where its names agree
   abbrev Same : Expr → Type 0
@@ -53,14 +57,14 @@ module _ (a b : List ℕ → Cell) (row : CellAt) where
 
     -- what a form gives for parts that have the same values
     layer : (y : Expr-F X) → AgreeOn a b (names_here (map-Expr Expr (List (List ℕ)) names_in (map-Expr X Expr part y)))
-        → value_here row (reading a) (map-Expr Expr (Option Cell) first (map-Expr X Expr part y)) ≡ value_here row (reading b) (map-Expr Expr (Option Cell) second (map-Expr X Expr part y))
+        → value_here row (reading outer a) (map-Expr Expr (Option Cell) first (map-Expr X Expr part y)) ≡ value_here row (reading outer b) (map-Expr Expr (Option Cell) second (map-Expr X Expr part y))
     layer form.Null h = refl
     layer (form.Flag f) h = refl
     layer (form.Number n) h = refl
     layer (form.Text t) h = refl
     layer (form.Field name) h = refl
-    layer (form.Param name) h = ap Some h.0
-    layer (form.Member name field) h = refl
+    layer (form.Param name) h = h.0.value
+    layer (form.Member name field) h = ap Some (h.0.member field)
     layer (form.Not x) h = ap (λ o. o >>= λ v. Some (Flag (not (truth v)))) (same x h)
     layer (form.Minus x) h = ap (λ o. o >>= negated) (same x h)
     layer (form.Plus x) h = ap (λ o. o >>= λ v. Some (number_or_null (cell_number v))) (same x h)
@@ -82,9 +86,9 @@ module _ (a b : List ℕ → Cell) (row : CellAt) where
     step : (y : Expr-F X) → Same (roll-Expr (map-Expr X Expr part y))
     step y h =
         let x = map-Expr X Expr part y in
-        fold-roll-Expr (Option Cell) (value_here row (reading a)) x
+        fold-roll-Expr (Option Cell) (value_here row (reading outer a)) x
         ∙ layer y (subst (AgreeOn a b) (fold-roll-Expr (List (List ℕ)) names_here x) h)
-        ∙ sym (fold-roll-Expr (Option Cell) (value_here row (reading b)) x)
+        ∙ sym (fold-roll-Expr (Option Cell) (value_here row (reading outer b)) x)
 
   -- an expression has the same value where its names agree
   pub same_value : (e : Expr) → Same e

@@ -4,7 +4,6 @@ use Rattle.std.specs.List.{cons_option, list_any}
 use Rattle.std.specs.Option.{option_map_or}
 use Rattle.std.specs.Str.{bytes_eq}
 use Rattle.std.proofs.lemmas.List.{drop_more, drop_all, append-nil}
-use Rattle.cell_value.specs.declared.cell.Cell.{Cell}
 use Rattle.cell_value.specs.declared.state.Keyed.{Keyed}
 use Rattle.cell_value.specs.declared.state.Named.{Named}
 use Rattle.cell_value.specs.State.{Dataset, dataset_of}
@@ -21,7 +20,7 @@ use Rattle.vega_lists.specs.Transforms.{transformed, transforms_of}
 use Rattle.vega_lists.specs.Products.{Products, KeysFit, fold_length, fold_product, begun_product, and_its_product}
 use Rattle.vega_lists.specs.Lists.{begun_rows}
 use Rattle.vega_lists.specs.Held.{scope_read, AreAllRows, AreSources, MayFold}
-use Rattle.vega_signals.specs.Extents.{extent_asked, data_extent, extent_over, extent_here, rows_left, all_left, extents_in, with_rows_left, set_extents}
+use Rattle.vega_signals.specs.Extents.{Settled, extent_asked, data_extent, extent_over, extent_here, rows_left, all_left, extents_in, with_rows_left, set_extents}
 use Rattle.vega_signals.specs.Outer.{Listed, ListedMayFold}
 use Rattle.vega_signals.specs.inner.Rows.{RowsByName, rows_of, scope_by, SetsMayFold, asks}
 use Rattle.vega_signals.proofs.KeyLemmas.{data_keys, keys_seen, transformed_fits}
@@ -69,15 +68,15 @@ others_may_fold values scope rows left t ts (n, fits, small) e =
     (n * fold_length t, subst (KeysFit (n * fold_length t)) (keys_seen left) after, λ k d lt. small (suc k) d (omega arith))
 
 -- the rows that were left so far and the extents that were found, and what they give with the transforms that are to come
-pub record IsOnTheWay (values : Values) (scope : Scope) (rows : List Datum) (extents : List (List ℕ × Cell)) (coming : List Transform) (left : List Keyed)
-    (found : List (List ℕ × Cell)) : Type 0 where
+pub record IsOnTheWay (values : Values) (scope : Scope) (rows : List Datum) (extents : Settled) (coming : List Transform) (left : List Keyed)
+    (found : Settled) : Type 0 where
   pub leaves : all_left values scope coming (map datum_of left) ≡ rows
   pub finds : found ++ extents_in values scope coming (map datum_of left) ≡ extents
   pub are : AreRows left
   pub folds : MayFold left coming
 
-module _ (values : Values) (scope : Scope) (rows : List Datum) (extents : List (List ℕ × Cell)) (all : List Transform) (i : ℕ) (t : Transform)
-    (left : List Keyed) (found : List (List ℕ × Cell)) (lt : i < length all) (at : t ≡ get_or all i t)
+module _ (values : Values) (scope : Scope) (rows : List Datum) (extents : Settled) (all : List Transform) (i : ℕ) (t : Transform)
+    (left : List Keyed) (found : Settled) (lt : i < length all) (at : t ≡ get_or all i t)
     (way : IsOnTheWay values scope rows extents (drop i all) left found) where
   here : IsOnTheWay values scope rows extents (t ∷ drop (i + 1) all) left found
   here = subst (λ coming. IsOnTheWay values scope rows extents coming left found) (drop_more all i t lt ∙ ap (λ x. x ∷ drop (i + 1) all) (sym at)) way
@@ -87,7 +86,7 @@ module _ (values : Values) (scope : Scope) (rows : List Datum) (extents : List (
   next_may_fold = first_may_fold left t (drop (i + 1) all) here.folds
 
   -- a transform more
-  pub one_more : (next : List Keyed) (more : List (List ℕ × Cell)) → map datum_of next ≡ rows_left values scope t (map datum_of left)
+  pub one_more : (next : List Keyed) (more : Settled) → map datum_of next ≡ rows_left values scope t (map datum_of left)
       → AreRows next → more ≡ found ++ extent_here t (map datum_of left) → IsOnTheWay values scope rows extents (drop (i + 1) all) next more
   one_more next more e are is = record {
     leaves = ap (all_left values scope (drop (i + 1) all)) e ∙ here.leaves;
@@ -100,8 +99,8 @@ module _ (values : Values) (scope : Scope) (rows : List Datum) (extents : List (
   }
 
 -- where no transform is to come
-module _ (values : Values) (scope : Scope) (rows : List Datum) (extents : List (List ℕ × Cell)) (all : List Transform) (i : ℕ) (left : List Keyed)
-    (found : List (List ℕ × Cell)) (past : length all ≤ i) (way : IsOnTheWay values scope rows extents (drop i all) left found) where
+module _ (values : Values) (scope : Scope) (rows : List Datum) (extents : Settled) (all : List Transform) (i : ℕ) (left : List Keyed)
+    (found : Settled) (past : length all ≤ i) (way : IsOnTheWay values scope rows extents (drop i all) left found) where
   over : IsOnTheWay values scope rows extents [] left found
   over = subst (λ coming. IsOnTheWay values scope rows extents coming left found) (drop_all i all past) way
 
@@ -123,14 +122,14 @@ fits_either true p q rows others x y = x
 fits_either false p q rows others x y = y
 
 -- the rows that names stand for so far and the extents that were found, and what they give with the data sets that are to come
-pub record SetsLeft (values : Values) (sources : List Named) (outer : Listed) (whole : List (List ℕ × Cell)) (coming : List DataSet) (lists : RowsByName)
-    (found : List (List ℕ × Cell)) : Type 0 where
+pub record SetsLeft (values : Values) (sources : List Named) (outer : Listed) (whole : Settled) (coming : List DataSet) (lists : RowsByName)
+    (found : Settled) : Type 0 where
   pub finds : found ++ set_extents values (map dataset_of sources) (scope_by outer lists) coming ≡ whole
   pub are : AreAllRows (rows_of outer lists)
   pub folds : SetsMayFold outer lists coming
 
-module _ (values : Values) (sources : List Named) (sound : AreSources sources) (outer : Listed) (whole : List (List ℕ × Cell)) (all : List DataSet) (i : ℕ) (set : DataSet)
-    (lists : RowsByName) (found : List (List ℕ × Cell)) (lt : i < length all) (at : set ≡ get_or all i set)
+module _ (values : Values) (sources : List Named) (sound : AreSources sources) (outer : Listed) (whole : Settled) (all : List DataSet) (i : ℕ) (set : DataSet)
+    (lists : RowsByName) (found : Settled) (lt : i < length all) (at : set ≡ get_or all i set)
     (way : SetsLeft values sources outer whole (drop i all) lists found) where
   set_here : SetsLeft values sources outer whole (set ∷ drop (i + 1) all) lists found
   set_here = subst (λ coming. SetsLeft values sources outer whole coming lists found) (drop_more all i set lt ∙ ap (λ s. s ∷ drop (i + 1) all) (sym at)) way
@@ -154,14 +153,14 @@ module _ (values : Values) (sources : List Named) (sound : AreSources sources) (
       subst (KeysFit (and_its_product products set other)) (keys_seen (rows_of outer next other)) now
 
   -- a data set more
-  pub set_more : (next : RowsByName) (more : List (List ℕ × Cell)) → scope_by outer next ≡ with_rows_left values (map dataset_of sources) (scope_by outer lists) set
+  pub set_more : (next : RowsByName) (more : Settled) → scope_by outer next ≡ with_rows_left values (map dataset_of sources) (scope_by outer lists) set
       → AreAllRows (rows_of outer next)
       → more ≡ found ++ extents_in values (scope_by outer lists) (transforms_of set) (begun_rows (map dataset_of sources) (scope_by outer lists) set)
       → SetsLeft values sources outer whole (drop (i + 1) all) next more
   set_more next more scope are is =
       let (products, fits, folds) = set_here.folds in
       let here = extents_in values (scope_by outer lists) (transforms_of set) (begun_rows (map dataset_of sources) (scope_by outer lists) set) in
-      let later : Scope → List (List ℕ × Cell) = λ s. set_extents values (map dataset_of sources) s (drop (i + 1) all) in
+      let later : Scope → Settled = λ s. set_extents values (map dataset_of sources) s (drop (i + 1) all) in
       record {
         finds = ap (λ l. l ++ later (scope_by outer next)) is ∙ append_assoc found here (later (scope_by outer next)) ∙ ap (λ s. found ++ (here ++ later s)) scope ∙ set_here.finds;
         are = are;
@@ -169,7 +168,7 @@ module _ (values : Values) (sources : List Named) (sound : AreSources sources) (
       }
 
 -- where no data set was read yet
-pub sets_begin : (values : Values) (sources : List Named) (outer : Listed) (sets : List DataSet) (lists : RowsByName) (found : List (List ℕ × Cell))
+pub sets_begin : (values : Values) (sources : List Named) (outer : Listed) (sets : List DataSet) (lists : RowsByName) (found : Settled)
     → ((outer : Listed) (name : List ℕ) → rows_of outer lists name ≡ outer name) → found ≡ [] → AreAllRows outer → ListedMayFold outer sets
     → SetsLeft values sources outer (set_extents values (map dataset_of sources) (scope_read outer) sets) sets lists found
 sets_begin values sources outer sets lists found nothing e are (products, fits, folds) = record {
@@ -180,8 +179,8 @@ sets_begin values sources outer sets lists found nothing e are (products, fits, 
 }
 
 -- where each was read
-pub sets_over : (values : Values) (sources : List Named) (outer : Listed) (whole : List (List ℕ × Cell)) (all : List DataSet) (i : ℕ) (lists : RowsByName)
-    (found : List (List ℕ × Cell)) → length all ≤ i → SetsLeft values sources outer whole (drop i all) lists found → found ≡ whole
+pub sets_over : (values : Values) (sources : List Named) (outer : Listed) (whole : Settled) (all : List DataSet) (i : ℕ) (lists : RowsByName)
+    (found : Settled) → length all ≤ i → SetsLeft values sources outer whole (drop i all) lists found → found ≡ whole
 sets_over values sources outer whole all i lists found past way =
     let over : SetsLeft values sources outer whole [] lists found = subst (λ coming. SetsLeft values sources outer whole coming lists found) (drop_all i all past) way in
     sym (append-nil found) ∙ over.finds

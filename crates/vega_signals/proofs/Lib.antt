@@ -4,5 +4,4 @@ mod ExtentLemmas
 mod RoundLemmas
 mod AgreeLemmas
 mod OrderLaw
-mod LostLemmas
 mod InnerLaw

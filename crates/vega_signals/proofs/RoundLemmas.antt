@@ -16,8 +16,8 @@ use Rattle.vega_spec.specs.declared.transforms.Transform.{Transform}
 use Rattle.vega_lists.specs.Scopes.{Scope}
 use Rattle.vega_lists.specs.Transforms.{transforms_of}
 use Rattle.vega_lists.specs.Lists.{begun_rows}
-use Rattle.vega_signals.specs.Extents.{is_computed, computed_here, extent_asked, extent_over, rows_left, extents_in, with_rows_left, set_extents, extent_names}
-use Rattle.vega_signals.specs.Settling.{Valued, values_inside, own_names, next_own, own_after, settled_own}
+use Rattle.vega_signals.specs.Extents.{Settled, is_computed, computed_here, extent_asked, extent_over, rows_left, extents_in, with_rows_left, set_extents, extent_names}
+use Rattle.vega_signals.specs.Settling.{values_inside, own_names, next_own, own_after}
 
 -- what is made of the last in each round
 module _ {X : Type 0} (next : X → X) (after : ℕ → X) (each : (n : ℕ) → after (suc n) ≡ next (after n)) where
@@ -34,15 +34,15 @@ module _ {X : Type 0} (next : X → X) (after : ℕ → X) (each : (n : ℕ) →
       same ∙ is ∙ sym (stays n (rounds - n) (ap next (sym is) ∙ sym e ∙ same ∙ is)) ∙ ap after back
 
 -- the names of values
-abbrev pub names : List (List ℕ × Cell) → List (List ℕ)
-names values = map (λ (value : List ℕ × Cell). value.0) values
+abbrev pub names : Settled → List (List ℕ)
+names values = map (λ (value : List ℕ × Option Cell). value.0) values
 
-more_computed : (s : Signal) (b : Bool) (cell : Cell) (rest : List (List ℕ × Cell)) (kept : List Signal) → names rest ≡ map (λ (s : Signal). s.name) kept
-    → names (cond b ((s.name, cell) ∷ []) [] ++ rest) ≡ map (λ (s : Signal). s.name) (cond b (s ∷ kept) kept)
-more_computed s true cell rest kept e = ap (λ (l : List (List ℕ)). s.name ∷ l) e
-more_computed s false cell rest kept e = e
+more_computed : (s : Signal) (b : Bool) (value : Option Cell) (rest : Settled) (kept : List Signal) → names rest ≡ map (λ (s : Signal). s.name) kept
+    → names (cond b ((s.name, value) ∷ []) [] ++ rest) ≡ map (λ (s : Signal). s.name) (cond b (s ∷ kept) kept)
+more_computed s true value rest kept e = ap (λ (l : List (List ℕ)). s.name ∷ l) e
+more_computed s false value rest kept e = e
 
-more_extents : (o : Option Extent) (rows : List Datum) (rest : List (List ℕ × Cell)) (kept : List Extent) → names rest ≡ map (λ (e : Extent). e.signal) kept
+more_extents : (o : Option Extent) (rows : List Datum) (rest : Settled) (kept : List Extent) → names rest ≡ map (λ (e : Extent). e.signal) kept
     → names (option_map_or (λ e. extent_over rows e ∷ []) o [] ++ rest) ≡ map (λ (e : Extent). e.signal) (cons_option o kept)
 more_extents None rows rest kept e = e
 more_extents (Some x) rows rest kept e = ap (λ (l : List (List ℕ)). x.signal ∷ l) e
@@ -62,20 +62,20 @@ module _ (values : Values) where
   set_names : (sources : List Dataset) (scope : Scope) (sets : List DataSet) → names (set_extents values sources scope sets) ≡ flat_map extent_names sets
   set_names sources scope [] = refl
   set_names sources scope (set ∷ sets) =
-      map-append (λ (value : List ℕ × Cell). value.0) (extents_in values scope (transforms_of set) (begun_rows sources scope set)) _
+      map-append (λ (value : List ℕ × Option Cell). value.0) (extents_in values scope (transforms_of set) (begun_rows sources scope set)) _
       ∙ ap₂ (λ (a b : List (List ℕ)). a ++ b) (names_in_set scope (transforms_of set) (begun_rows sources scope set)) (set_names sources (with_rows_left values sources scope set) sets)
 
-module _ (sources : List Dataset) (lists : Scope) (outer : Values) (params : Valued) (signals : List Signal) (sets : List DataSet) where
+module _ (sources : List Dataset) (lists : Scope) (outer : Values) (params : Settled) (signals : List Signal) (sets : List DataSet) where
   -- a round gives as many values as there are signals
-  pub counted : (now : List (List ℕ × Cell)) → length (next_own sources lists outer params signals sets now) ≡ length params + length (own_names signals sets)
+  pub counted : (now : Settled) → length (next_own sources lists outer params signals sets now) ≡ length params + length (own_names signals sets)
   counted now =
       let values = values_inside now outer in
       let computed = flat_map (computed_here values) signals in
       let extents = set_extents values sources lists sets in
       let first = map (λ (s : Signal). s.name) (filter is_computed signals) in
       let second = flat_map extent_names sets in
-      let a : length computed ≡ length first = sym (length-map computed (λ (value : List ℕ × Cell). value.0)) ∙ ap length (computed_names values signals) in
-      let b : length extents ≡ length second = sym (length-map extents (λ (value : List ℕ × Cell). value.0)) ∙ ap length (set_names values sources lists sets) in
+      let a : length computed ≡ length first = sym (length-map computed (λ (value : List ℕ × Option Cell). value.0)) ∙ ap length (computed_names values signals) in
+      let b : length extents ≡ length second = sym (length-map extents (λ (value : List ℕ × Option Cell). value.0)) ∙ ap length (set_names values sources lists sets) in
       omega (arith, length-append (params ++ computed) extents, length-append params computed, length-append first second, a, b)
 
   -- where there are no values but the settable ones, a round gives these
@@ -84,21 +84,21 @@ module _ (sources : List Dataset) (lists : Scope) (outer : Values) (params : Val
       let values = values_inside params outer in
       only params (flat_map (computed_here values) signals) (set_extents values sources lists sets) (omega (arith, counted params))
     where
-      only : (a b c : List (List ℕ × Cell)) → length (a ++ b ++ c) ≤ length a → a ++ b ++ c ≡ a
+      only : (a b c : Settled) → length (a ++ b ++ c) ≤ length a → a ++ b ++ c ≡ a
       only a [] [] le = append-nil (a ++ []) ∙ append-nil a
       only a [] (x ∷ c) le = absurd (omega (arith, le, length-append (a ++ []) (x ∷ c), length-append a []))
       only a (x ∷ b) c le = absurd (omega (arith, le, length-append (a ++ (x ∷ b)) c, length-append a (x ∷ b)))
 
-  by_count : (n rounds : ℕ) → length (own_names signals sets) ≡ n → rounds ≡ max 1 n → own_after sources lists outer params signals sets rounds ≡ settled_own sources lists outer params signals sets
+  by_count : (n rounds : ℕ) → length (own_names signals sets) ≡ n → rounds ≡ max 1 n → own_after sources lists outer params signals sets rounds ≡ own_after sources lists outer params signals sets (length (own_names signals sets))
   by_count zero rounds e is = ap (own_after sources lists outer params signals sets) is ∙ nothing_unset e ∙ sym (ap (own_after sources lists outer params signals sets) e)
   by_count (suc n) rounds e is =
       let same : rounds ≡ length (own_names signals sets) = omega arith in
       ap (own_after sources lists outer params signals sets) same
 
   -- as many rounds as there are values more than the settable ones, and one at least, settle them
-  pub settled_ok : (first : List (List ℕ × Cell)) (rounds : ℕ) (result : Result (List (List ℕ × Cell)) OutOfMemory) → first ≡ next_own sources lists outer params signals sets params
+  pub settled_ok : (first : Settled) (rounds : ℕ) (result : Result Settled OutOfMemory) → first ≡ next_own sources lists outer params signals sets params
       → rounds ≡ max 1 (length first - length params) → IfOk result (λ now. now ≡ own_after sources lists outer params signals sets rounds)
-      → IfOk result (λ now. now ≡ settled_own sources lists outer params signals sets)
+      → IfOk result (λ now. now ≡ own_after sources lists outer params signals sets (length (own_names signals sets)))
   settled_ok first rounds (Err refused) e is h = tt
   settled_ok first rounds (Ok now) e is h =
       let total : length first ≡ length params + length (own_names signals sets) = ap length e ∙ counted params in

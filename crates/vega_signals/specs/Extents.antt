@@ -32,9 +32,13 @@ is_computed s = is_some (update_of s)
 abbrev pub computed_value : Values → Signal → Option Cell
 computed_value values s = option_map_or (value_of null_row values) (update_of s) (Some Null)
 
--- a computed signal with its value, null where it overflows; nothing of another signal
-abbrev pub computed_here : Values → Signal → List (List ℕ × Cell)
-computed_here values s = if is_computed s then (s.name, unwrap_or (computed_value values s) Null) ∷ [] else []
+-- signals with their values; None for one that has none, since its computation is out of range
+abbrev pub Settled : Type 0
+Settled = List (List ℕ × Option Cell)
+
+-- a computed signal with its value; nothing of another signal
+abbrev pub computed_here : Values → Signal → Settled
+computed_here values s = if is_computed s then (s.name, computed_value values s) ∷ [] else []
 
 -- the extent for which a transform asks
 abbrev pub extent_asked : Transform → Option Extent
@@ -59,11 +63,11 @@ abbrev pub data_extent : List ℕ → List Datum → Option (ℤ × ℤ)
 data_extent field rows = extent_of (numbers_of (λ (datum : Datum). datum.cell) field rows)
 
 -- the signal of an extent with the extent of its field over rows
-abbrev pub extent_over : List Datum → Extent → List ℕ × Cell
-extent_over rows e = (e.signal, extent_cell (data_extent e.field rows))
+abbrev pub extent_over : List Datum → Extent → List ℕ × Option Cell
+extent_over rows e = (e.signal, Some (extent_cell (data_extent e.field rows)))
 
 -- the same of a transform that asks for an extent; nothing of another transform
-abbrev pub extent_here : Transform → List Datum → List (List ℕ × Cell)
+abbrev pub extent_here : Transform → List Datum → Settled
 extent_here transform rows = option_map_or (λ e. extent_over rows e ∷ []) (extent_asked transform) []
 
 -- the rows that a transform leaves: none where it overflows
@@ -76,7 +80,7 @@ all_left values scope [] rows = rows
 all_left values scope (transform ∷ others) rows = all_left values scope others (rows_left values scope transform rows)
 
 -- the signals of the extents among transforms, each with the extent of its field over the rows that the transforms before it leave
-abbrev pub extents_in : Values → Scope → List Transform → List Datum → List (List ℕ × Cell)
+abbrev pub extents_in : Values → Scope → List Transform → List Datum → Settled
 extents_in values scope [] rows = []
 extents_in values scope (transform ∷ others) rows =
     extent_here transform rows ++ extents_in values scope others (rows_left values scope transform rows)
@@ -87,7 +91,7 @@ with_rows_left values sources scope set =
     with_list set.name (all_left values scope (transforms_of set) (begun_rows sources scope set)) scope
 
 -- the extents of data sets, each read where those before it have their names
-abbrev pub set_extents : Values → List Dataset → Scope → List DataSet → List (List ℕ × Cell)
+abbrev pub set_extents : Values → List Dataset → Scope → List DataSet → Settled
 set_extents values sources scope [] = []
 set_extents values sources scope (set ∷ others) =
     extents_in values scope (transforms_of set) (begun_rows sources scope set)

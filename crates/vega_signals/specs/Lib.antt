@@ -4,7 +4,7 @@ pub mod Extents
 pub mod Settling
 pub mod Signals
 pub mod Needs
-pub mod Lost
+pub mod Lacking
 pub mod Laws
 pub mod Examples
 pub mod inner

@@ -5,16 +5,13 @@ use Rattle.std.specs.Str.{bytes_eq}
 use Rattle.expr_syntax.specs.Names.{names_in}
 use Rattle.vega_spec.specs.declared.data.DataSet.{DataSet}
 use Rattle.vega_spec.specs.declared.signals.Signal.{Signal}
-use Rattle.vega_spec.specs.declared.spec.Group.{Group, Group-F}
-use Rattle.vega_spec.specs.declared.spec.VgMark.{VgMark}
 use Rattle.vega_spec.specs.declared.transforms.BinExtent.{BinExtent}
 use Rattle.vega_spec.specs.declared.transforms.BinExtent.TheVariants as bounds
 use Rattle.vega_spec.specs.declared.transforms.Transform.{Transform}
 use Rattle.vega_spec.specs.declared.transforms.Transform.TheVariants as vega
-use Rattle.vega_spec.specs.Names.{signals_of}
 use Rattle.vega_lists.specs.Transforms.{transforms_of}
 use Rattle.vega_signals.specs.Extents.{update_of, is_computed, extent_asked}
-use Rattle.vega_signals.specs.Signals.{data_of, unset_names}
+use Rattle.vega_signals.specs.Settling.{own_names}
 
 -- a signal with those that it needs by itself
 abbrev pub Need : Type 0
@@ -75,9 +72,9 @@ set_needs reads (set ∷ others) =
 abbrev pub computed_needs : Signal → List Need
 computed_needs s = if is_computed s then (s.name, option_map_or names_in (update_of s) []) ∷ [] else []
 
--- the signals that aren't settable, each with those that it needs by itself
-abbrev pub needs_of : Group-F Group VgMark → List Need
-needs_of g = flat_map computed_needs (signals_of g) ++ set_needs no_reads (data_of g)
+-- the signals of an object that aren't given, each with those of its own that it needs by itself
+abbrev pub own_needs : List Signal → List DataSet → List Need
+own_needs signals sets = flat_map computed_needs signals ++ set_needs no_reads sets
 
 -- a signal has a place from 1 on, and what it needs has lesser places
 pub record IsPlaced (place : List ℕ → ℕ) (most : ℕ) (need : Need) : Type 0 where
@@ -85,7 +82,7 @@ pub record IsPlaced (place : List ℕ → ℕ) (most : ℕ) (need : Need) : Type
   pub bounded : place need.0 ≤ most
   pub lesser : All (λ name. place name < place need.0) need.1
 
--- The signals stand in an order, in which each needs only settable ones and those before it. The places of those that aren't settable
--- are counted from 1 to their number.
-abbrev pub AreInOrder : Group-F Group VgMark → (List ℕ → ℕ) → Type 0
-AreInOrder g place = All (IsPlaced place (length (unset_names g))) (needs_of g)
+-- The signals of an object stand in an order, in which each needs only given ones, those of outer objects and those before it. The places
+-- of those that aren't given are counted from 1 to their number.
+abbrev pub AreInOrder : List Signal → List DataSet → (List ℕ → ℕ) → Type 0
+AreInOrder signals sets place = All (IsPlaced place (length (own_names signals sets))) (own_needs signals sets)

@@ -1,5 +1,5 @@
 -- What the expressions of a plot read of parameters and of scales.
-use Rattle.std.specs.Prelude.{◌≡◌, refl, ℕ, true, List, [], ◌∷◌, find, codes}
+use Rattle.std.specs.Prelude.{◌≡◌, refl, ℕ, true, Some, List, [], ◌∷◌, find, codes}
 use Rattle.std.specs.Option.{option_map_or}
 use Rattle.std.specs.Str.{bytes_eq}
 use Rattle.cell_value.specs.declared.cell.Cell.{Cell}
@@ -17,9 +17,9 @@ length_named lengths name = option_map_or (λ (scale : List ℕ × ℕ). scale.1
 
 -- what is read where parameters have these values, the domains of scales are so long, and there is no selection
 abbrev pub values_with : List (List ℕ × Cell) → List (List ℕ × ℕ) → Values
-values_with params lengths = record no_values { value = value_named params; domain_length = length_named lengths }
+values_with params lengths = record no_values { value = λ name. Some (value_named params name); domain_length = length_named lengths }
 
 -- The rules at work.
 
-the_first_of_a_name : (values_with ((codes "k", Flag true) ∷ (codes "k", Null) ∷ []) []).value (codes "k") ≡ Flag true
+the_first_of_a_name : (values_with ((codes "k", Flag true) ∷ (codes "k", Null) ∷ []) []).value (codes "k") ≡ Some (Flag true)
 the_first_of_a_name = refl

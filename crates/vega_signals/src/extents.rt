@@ -61,19 +61,19 @@ fn ends_of(rows: &Rows, field: &Text) -> Option<(Num, Num)>
 }
 
 // The signal of an extent with the extent of its field over rows.
-fn extent_over(rows: &Rows, e: &Extent) -> Result<(Text, Cell), OutOfMemory>
+fn extent_over(rows: &Rows, e: &Extent) -> Result<(Text, Option<Cell>), OutOfMemory>
     requires { AreRows rows.now }
     ensures { IfOk result (λ named. named ≡ extent_over (map datum_of rows.now) e.now) }
 {
     let name = e.signal.copy()?;
-    Ok((name, extent_cell(ends_of(rows, &e.field))))
+    Ok((name, Some(extent_cell(ends_of(rows, &e.field)))))
 }
 
 // Adds the signal of a transform that asks for an extent.
 fn push_extent(
     transform: &Transform,
     rows: &Rows,
-    out: &mut Seq<(Text, Cell)>,
+    out: &mut Seq<(Text, Option<Cell>)>,
 ) -> Result<(), OutOfMemory>
     requires { AreRows rows.now }
     ensures { OnOk result (out.new ≡ out.old ++ extent_here transform.now (map datum_of rows.now)) }
@@ -93,7 +93,7 @@ fn run<O: ListReader, P: ParamReader>(
     transforms: &[Transform],
     rows: Rows,
     params: &P,
-    out: &mut Seq<(Text, Cell)>,
+    out: &mut Seq<(Text, Option<Cell>)>,
 ) -> Result<Rows, OutOfMemory>
     requires rows { AreRows rows }
     requires lists { AreAllRows (rows_of (O.named outer.now) lists.now) }
@@ -124,7 +124,7 @@ fn add_set<O: ListReader, P: ParamReader>(
     empty: &Lists,
     set: &DataSet,
     params: &P,
-    out: &mut Seq<(Text, Cell)>,
+    out: &mut Seq<(Text, Option<Cell>)>,
 ) -> Result<(), OutOfMemory>
     requires sources { AreSources sources.now }
     requires lists { AreAllRows (rows_of (O.named outer.now) lists.old) }
@@ -176,7 +176,7 @@ fn all_extents<O: ListReader, P: ParamReader>(
     empty: &Lists,
     sets: &[DataSet],
     params: &P,
-) -> Result<Seq<(Text, Cell)>, OutOfMemory>
+) -> Result<Seq<(Text, Option<Cell>)>, OutOfMemory>
     requires sources { AreSources sources.now }
     requires lists { AreAllRows (O.named outer.now) }
     requires empty { AreLists [] empty.now }
@@ -204,7 +204,7 @@ pub(crate) fn set_extents<O: ListReader, P: ParamReader>(
     empty: &Lists,
     sets: &[DataSet],
     params: &P,
-) -> Result<Seq<(Text, Cell)>, OutOfMemory>
+) -> Result<Seq<(Text, Option<Cell>)>, OutOfMemory>
     requires sources { AreSources sources.now }
     requires lists { AreAllRows (O.named outer.now) }
     requires empty { AreLists [] empty.now }

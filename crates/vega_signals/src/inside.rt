@@ -1,9 +1,10 @@
 // What is read inside an object.
 ghost use Rattle.std.specs.Prelude.{◌≡◌, option_copied};
-ghost use Rattle.vega_signals.specs.Settling.{first_named, has_value, values_inside};
+ghost use Rattle.expr_eval.specs.Answers.{Evaluates};
+ghost use Rattle.vega_signals.specs.Settling.{first_named, is_own, values_inside};
 
 use cell_value::{Cell, Steps};
-use expr_eval::{ParamReader, RowReader};
+use expr_eval::{EvalError, ParamReader, RowReader};
 use std::alloc::Global;
 use std::sync::ledger::Ledger;
 use text_kit::{OutOfMemory, Text};
@@ -12,14 +13,14 @@ use text_kit::{OutOfMemory, Text};
 /// is read as it is round the object.
 #[derive(Drop)]
 pub struct Inside<'a, P> {
-    /// The own signals with their values.
-    pub own: &'a [(Text, Cell)],
+    /// The own signals with their values, without one where it is out of range.
+    pub own: &'a [(Text, Option<Cell>)],
     /// What is read round the object.
     pub outer: &'a P,
 }
 
 // The first own signal of a name.
-fn own_entry<'a>(own: &'a [(Text, Cell)], name: &str) -> Option<&'a (Text, Cell)>
+fn own_entry<'a>(own: &'a [(Text, Option<Cell>)], name: &str) -> Option<&'a (Text, Option<Cell>)>
     ensures { option_copied result ≡ first_named own.now name.now }
 {
     for entry in own {
@@ -31,24 +32,34 @@ fn own_entry<'a>(own: &'a [(Text, Cell)], name: &str) -> Option<&'a (Text, Cell)
 }
 
 // Whether an own signal has the name.
-pub(crate) fn has_value(own: &[(Text, Cell)], name: &str) -> bool
-    ensures { result ≡ has_value own.now name.now }
+fn is_own(own: &[(Text, Option<Cell>)], name: &str) -> bool
+    ensures { result ≡ is_own own.now name.now }
 {
     own.iter().any(|entry| entry.0.as_str() == name)
+}
+
+/// A copy of the value of a signal. `Overflow` comes exactly where it has none.
+pub fn settled_value(value: &Option<Cell>) -> Result<Cell, EvalError>
+    ensures { Evaluates result value.now }
+{
+    match value {
+        Some(cell) => Ok(cell.copy()?),
+        None => Err(EvalError::Overflow),
+    }
 }
 
 impl<P: ParamReader> ParamReader for Inside<'_, P> {
     ghost values = { λ inside. values_inside inside.own.now (P.values inside.outer.now) };
 
-    fn param(&self, alloc: Global, name: &str) -> Result<Cell, OutOfMemory> {
+    fn param(&self, alloc: Global, name: &str) -> Result<Cell, EvalError> {
         match own_entry(self.own, name) {
-            Some(entry) => entry.1.copy(),
+            Some(entry) => settled_value(&entry.1),
             None => self.outer.param(alloc, name),
         }
     }
 
     fn member(&self, alloc: Global, name: &str, field: &str) -> Result<Cell, OutOfMemory> {
-        if has_value(self.own, name) {
+        if is_own(self.own, name) {
             return Ok(Cell::Null);
         }
         self.outer.member(alloc, name, field)

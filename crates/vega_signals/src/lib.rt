@@ -4,19 +4,19 @@
 mod evaluation;
 mod extents;
 mod inside;
+mod lacking;
 mod laws;
 mod lists;
 mod lookups;
-mod lost;
 mod params;
 mod rounds;
 mod signals;
 mod steps;
 
 pub use evaluation::eval_alone;
-pub use inside::Inside;
+pub use inside::{Inside, settled_value};
+pub use lacking::any_set_lacks;
 pub use laws::{law_of_inner_values, laws_of_signals};
-pub use lost::{is_among, lost_inside, set_reads_lost};
 pub use params::PlotParams;
 pub use rounds::{data_of, own_values, signals_of};
 pub use signals::signal_values;

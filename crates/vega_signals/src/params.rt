@@ -3,12 +3,12 @@ ghost use Rattle.std.specs.Prelude.{◌≡◌, IfOk};
 ghost use Rattle.vega_signals.specs.Parameters.{value_named, length_named, values_with};
 
 use cell_value::{Cell, Steps};
-use expr_eval::{ParamReader, RowReader};
+use expr_eval::{EvalError, ParamReader, RowReader};
 use std::alloc::Global;
 use std::sync::ledger::Ledger;
 use text_kit::{OutOfMemory, Text};
 
-/// The values of parameters, and how long the domains of scales are, each by its name. There is no selection.
+/// The values of parameters, each of which has one, and how long the domains of scales are, each by its name. There is no selection.
 #[derive(Clone, Copy)]
 pub struct PlotParams<'a> {
     /// The parameters.
@@ -44,8 +44,8 @@ fn length_named(lengths: &[(Text, u64)], name: &str) -> u64
 impl ParamReader for PlotParams<'_> {
     ghost values = { λ p. values_with p.params.now p.lengths.now };
 
-    fn param(&self, _: Global, name: &str) -> Result<Cell, OutOfMemory> {
-        value_named(self.params, name)
+    fn param(&self, _: Global, name: &str) -> Result<Cell, EvalError> {
+        Ok(value_named(self.params, name)?)
     }
 
     fn member(&self, _: Global, _: &str, _: &str) -> Result<Cell, OutOfMemory> {

@@ -1,6 +1,5 @@
 // The values of signals, computed all at once and again until they settle.
-ghost use Rattle.std.specs.Prelude.{◌≡◌, ◌≤◌, ◌-◌, max, length, ◌++◌, [], IsTrue, IfOk, OnOk, All, map, is_some, unwrap_or, option_copied, flat_map};
-ghost use Rattle.cell_value.specs.declared.cell.Cell.TheVariants.{Null};
+ghost use Rattle.std.specs.Prelude.{◌≡◌, ◌≤◌, ◌-◌, max, length, ◌++◌, [], IsTrue, IfOk, OnOk, All, Some, map, is_some, option_copied, flat_map};
 ghost use Rattle.cell_value.specs.State.{dataset_of};
 ghost use Rattle.expr_eval.specs.Answers.{Evaluates};
 ghost use Rattle.vega_spec.specs.declared.spec.Group.{out-Group};
@@ -9,7 +8,7 @@ ghost use Rattle.vega_lists.specs.Transforms.{is_kept, OfTransforms};
 ghost use Rattle.vega_lists.specs.Held.{scope_read, AreAllRows, AreLists, AreSources};
 ghost use Rattle.vega_signals.specs.Outer.{ListedMayFold};
 ghost use Rattle.vega_signals.specs.Extents.{update_of, computed_value, computed_here};
-ghost use Rattle.vega_signals.specs.Settling.{next_own, own_after, settled_own};
+ghost use Rattle.vega_signals.specs.Settling.{as_given, own_names, next_own, own_after, settled_own};
 ghost use Rattle.vega_signals.specs.Signals.{data_of};
 
 use crate::evaluation::eval_alone;
@@ -67,17 +66,17 @@ pub(crate) fn computed_value<P: ParamReader>(
     }
 }
 
-// The same, null where it overflows.
-fn value_or_null<P: ParamReader>(
+// The same, None where it overflows.
+fn value_if_any<P: ParamReader>(
     alloc: Global,
     signal: &Signal,
     params: &P,
-) -> Result<Cell, OutOfMemory>
-    ensures { IfOk result (λ cell. cell ≡ unwrap_or (computed_value (P.values params.now) signal.now) Null) }
+) -> Result<Option<Cell>, OutOfMemory>
+    ensures { IfOk result (λ value. value ≡ computed_value (P.values params.now) signal.now) }
 {
     match computed_value(alloc, signal, params) {
-        Ok(cell) => Ok(cell),
-        Err(EvalError::Overflow) => Ok(Cell::Null),
+        Ok(cell) => Ok(Some(cell)),
+        Err(EvalError::Overflow) => Ok(None),
         Err(EvalError::Memory) => Err(OutOfMemory),
     }
 }
@@ -87,14 +86,14 @@ fn push_computed<P: ParamReader>(
     alloc: Global,
     signal: &Signal,
     params: &P,
-    out: &mut Seq<(Text, Cell)>,
+    out: &mut Seq<(Text, Option<Cell>)>,
 ) -> Result<(), OutOfMemory>
     ensures { OnOk result (out.new ≡ out.old ++ computed_here (P.values params.now) signal.now) }
 {
     if update_of(signal).is_none() {
         return Ok(());
     }
-    out.push((signal.name.copy()?, value_or_null(alloc, signal, params)?))
+    out.push((signal.name.copy()?, value_if_any(alloc, signal, params)?))
 }
 
 // Adds the computed signals with their values.
@@ -102,7 +101,7 @@ fn push_all_computed<P: ParamReader>(
     alloc: Global,
     signals: &[Signal],
     params: &P,
-    out: &mut Seq<(Text, Cell)>,
+    out: &mut Seq<(Text, Option<Cell>)>,
 ) -> Result<(), OutOfMemory>
     ensures { OnOk result (out.new ≡ out.old ++ flat_map (computed_here (P.values params.now)) signals.now) }
 {
@@ -119,11 +118,11 @@ fn next_own<O: ListReader, P: ParamReader>(
     lists: &O,
     empty: &Lists,
     outer: &P,
-    given: &[(Text, Cell)],
+    given: &[(Text, Option<Cell>)],
     signals: &[Signal],
     sets: &[DataSet],
-    now: &[(Text, Cell)],
-) -> Result<Seq<(Text, Cell)>, OutOfMemory>
+    now: &[(Text, Option<Cell>)],
+) -> Result<Seq<(Text, Option<Cell>)>, OutOfMemory>
     requires sources { AreSources sources.now }
     requires lists { AreAllRows (O.named lists.now) }
     requires empty { AreLists [] empty.now }
@@ -139,22 +138,33 @@ fn next_own<O: ListReader, P: ParamReader>(
     Ok(next)
 }
 
-// Whether two named values are the same.
-fn is_same(a: &(Text, Cell), b: &(Text, Cell)) -> bool
+// Whether two values are the same, if there are any.
+fn is_same_value(a: &Option<Cell>, b: &Option<Cell>) -> bool
     ensures { IsTrue result → a.now ≡ b.now }
 {
-    a.0.as_str() == b.0.as_str() && a.1.same(&b.1)
+    match (a, b) {
+        (Some(a), Some(b)) => a.same(b),
+        (None, None) => true,
+        (Some(_), None) | (None, Some(_)) => false,
+    }
+}
+
+// Whether two named values are the same.
+fn is_same(a: &(Text, Option<Cell>), b: &(Text, Option<Cell>)) -> bool
+    ensures { IsTrue result → a.now ≡ b.now }
+{
+    a.0.as_str() == b.0.as_str() && is_same_value(&a.1, &b.1)
 }
 
 // Whether named values are the same one by one.
-fn are_same(a: &Seq<(Text, Cell)>, b: &Seq<(Text, Cell)>) -> bool
+fn are_same(a: &Seq<(Text, Option<Cell>)>, b: &Seq<(Text, Option<Cell>)>) -> bool
     ensures { IsTrue result → a.now ≡ b.now }
 {
     same_slices(a.as_slice(), b.as_slice())
 }
 
 // Whether slices of named values are the same one by one.
-fn same_slices(a: &[(Text, Cell)], b: &[(Text, Cell)]) -> bool
+fn same_slices(a: &[(Text, Option<Cell>)], b: &[(Text, Option<Cell>)]) -> bool
     ensures { IsTrue result → a.now ≡ b.now }
 {
     if a.len() != b.len() {
@@ -175,12 +185,12 @@ fn settle<O: ListReader, P: ParamReader>(
     lists: &O,
     empty: &Lists,
     outer: &P,
-    given: &[(Text, Cell)],
+    given: &[(Text, Option<Cell>)],
     signals: &[Signal],
     sets: &[DataSet],
-    first: Seq<(Text, Cell)>,
+    first: Seq<(Text, Option<Cell>)>,
     rounds: usize,
-) -> Result<Seq<(Text, Cell)>, OutOfMemory>
+) -> Result<Seq<(Text, Option<Cell>)>, OutOfMemory>
     requires sources { AreSources sources.now }
     requires lists { AreAllRows (O.named lists.now) }
     requires empty { AreLists [] empty.now }
@@ -214,11 +224,39 @@ fn settle<O: ListReader, P: ParamReader>(
 }
 
 // How many rounds there are where the first gives these values: as many as there are values more than those given, and one at least.
-fn rounds_after(first: &Seq<(Text, Cell)>, given: &[(Text, Cell)]) -> usize
+fn rounds_after(first: &Seq<(Text, Option<Cell>)>, given: &[(Text, Option<Cell>)]) -> usize
     ensures count { result ≡ max 1 (length first.now - length given.now) }
     ensures some { 1 ≤ result }
 {
     first.len().saturating_sub(given.len()).max(1)
+}
+
+// The values at which the signals of an object settle, whose given ones have these.
+fn settled_over<O: ListReader, P: ParamReader>(
+    alloc: Global,
+    sources: &[Named],
+    lists: &O,
+    empty: &Lists,
+    outer: &P,
+    given: &[(Text, Option<Cell>)],
+    signals: &[Signal],
+    sets: &[DataSet],
+) -> Result<Seq<(Text, Option<Cell>)>, OutOfMemory>
+    requires sources { AreSources sources.now }
+    requires lists { AreAllRows (O.named lists.now) }
+    requires empty { AreLists [] empty.now }
+    requires kept { All (OfTransforms is_kept) sets.now }
+    requires folds { ListedMayFold (O.named lists.now) sets.now }
+    ensures { IfOk result (λ now. now ≡ own_after (map dataset_of sources.now) (scope_read (O.named lists.now)) (P.values outer.now)
+        given.now signals.now sets.now (length (own_names signals.now sets.now))) }
+{
+    let first = next_own(
+        alloc, sources, lists, empty, outer, given, signals, sets, given,
+    )?;
+    let rounds = rounds_after(&first, given);
+    settle(
+        alloc, sources, lists, empty, outer, given, signals, sets, first, rounds,
+    )
 }
 
 // Lists of which there is none.
@@ -231,13 +269,31 @@ fn no_lists(alloc: Global) -> Result<Lists, OutOfMemory>
     }
 }
 
+// A copy of a given signal.
+fn given_copy(entry: &(Text, Cell)) -> Result<(Text, Option<Cell>), OutOfMemory>
+    ensures { IfOk result (λ copy. copy ≡ (entry.now.0, Some entry.now.1)) }
+{
+    Ok((entry.0.copy()?, Some(entry.1.copy()?)))
+}
+
+// Copies of the given signals.
+fn as_given(alloc: Global, given: &[(Text, Cell)]) -> Result<Seq<(Text, Option<Cell>)>, OutOfMemory>
+    ensures { IfOk result (λ copies. copies ≡ as_given given.now) }
+{
+    let mut copies = Seq::with_capacity(alloc, given.len())?;
+    for entry in given {
+        copies.push(given_copy(entry)?)?;
+    }
+    Ok(copies)
+}
+
 /// The values at which the signals of an object settle, each by its name: first those in `given` as they are, then the computed ones by
 /// their updates, then those of extents: the least and the greatest number of their field over the rows before them, null where there is
-/// no number. Signals may need each other in any order, and none needs itself. A name that no own signal has is read round the object, in
-/// `outer`, and a list that no data set before makes in `lists`. A computed signal or a transform that overflows counts as null or as
-/// leaving no rows. There are as many rounds as signals that aren't given, or fewer where one changes nothing. The sources are those of a
-/// state, a lookup has as many names as values, bins of a given width are over 0 wide, and on no path, from the sources over the outer
-/// lists, do folds multiply rows by more than 8.
+/// no number. A computed signal has none where its evaluation overflows, and so where it needs a name without value. Signals may need each
+/// other in any order, and none needs itself. A name that no own signal has is read round the object, in `outer`, and a list that no data
+/// set before makes in `lists`. A transform that overflows counts as leaving no rows. There are as many rounds as signals that aren't given,
+/// or fewer where one changes nothing. The sources are those of a state, a lookup has as many names as values, bins of a given width are
+/// over 0 wide, and on no path, from the sources over the outer lists, do folds multiply rows by more than 8.
 pub fn own_values<O: ListReader, P: ParamReader>(
     alloc: Global,
     sources: &[Named],
@@ -246,7 +302,7 @@ pub fn own_values<O: ListReader, P: ParamReader>(
     given: &[(Text, Cell)],
     signals: &[Signal],
     sets: &[DataSet],
-) -> Result<Seq<(Text, Cell)>, OutOfMemory>
+) -> Result<Seq<(Text, Option<Cell>)>, OutOfMemory>
     requires sources { AreSources sources.now }
     requires lists { AreAllRows (O.named lists.now) }
     requires kept { All (OfTransforms is_kept) sets.now }
@@ -255,11 +311,15 @@ pub fn own_values<O: ListReader, P: ParamReader>(
         given.now signals.now sets.now) }
 {
     let empty = no_lists(alloc)?;
-    let first = next_own(
-        alloc, sources, lists, &empty, outer, given, signals, sets, given,
-    )?;
-    let rounds = rounds_after(&first, given);
-    settle(
-        alloc, sources, lists, &empty, outer, given, signals, sets, first, rounds,
+    let given = as_given(alloc, given)?;
+    settled_over(
+        alloc,
+        sources,
+        lists,
+        &empty,
+        outer,
+        given.as_slice(),
+        signals,
+        sets,
     )
 }

@@ -7,30 +7,38 @@ ghost use Rattle.vega_spec.specs.declared.spec.Group.{out-Group};
 ghost use Rattle.vega_lists.specs.Transforms.{is_kept, OfTransforms};
 ghost use Rattle.vega_lists.specs.Products.{FoldsFit, no_folds};
 ghost use Rattle.vega_lists.specs.Held.{AreSources};
-ghost use Rattle.vega_signals.specs.Extents.{computed_value};
-ghost use Rattle.vega_signals.specs.Signals.{data_of, settled_values, signal_values};
+ghost use Rattle.vega_signals.specs.Signals.{data_of, settled_values, signal_values, valued_here};
 
-use crate::params::PlotParams;
-use crate::rounds::{computed_value, own_values, signals_of};
+use crate::inside::settled_value;
+use crate::rounds::{own_values, signals_of};
 use cell_value::{Cell, Keyed, Named};
-use expr_eval::{EvalError, NoParams, ParamReader};
+use expr_eval::{EvalError, NoParams};
 use std::alloc::Global;
 use text_kit::{OutOfMemory, Seq, Text};
 use vega_lists::ListReader;
-use vega_spec::{Group, Signal};
+use vega_spec::Group;
 
-// The values of the computed signals, and null for each other.
-fn computed_values<P: ParamReader>(
-    alloc: Global,
-    signals: &[Signal],
-    params: &P,
-) -> Result<Seq<Cell>, EvalError>
-    ensures { Evaluates result (all_found (map (computed_value (P.values params.now)) signals.now)) }
+// A copy of a signal with its value. `Overflow` comes exactly where it has none.
+fn valued_here(entry: &(Text, Option<Cell>)) -> Result<(Text, Cell), EvalError>
+    ensures { Evaluates result (valued_here entry.now) }
 {
-    let mut out = Seq::with_capacity(alloc, signals.len())?;
-    for signal in signals {
-        match computed_value(alloc, signal, params) {
-            Ok(cell) => out.push(cell)?,
+    match settled_value(&entry.1) {
+        Ok(cell) => Ok((entry.0.copy()?, cell)),
+        Err(error) => Err(error),
+    }
+}
+
+// Copies of signals with their values.
+fn all_valued(
+    alloc: Global,
+    settled: &[(Text, Option<Cell>)],
+) -> Result<Seq<(Text, Cell)>, EvalError>
+    ensures { Evaluates result (all_found (map valued_here settled.now)) }
+{
+    let mut out = Seq::with_capacity(alloc, settled.len())?;
+    for entry in settled {
+        match valued_here(entry) {
+            Ok(valued) => out.push(valued)?,
             Err(error) => return Err(error),
         }
     }
@@ -55,7 +63,7 @@ fn settled_values(
     top: &Group,
     sources: &[Named],
     params: &[(Text, Cell)],
-) -> Result<Seq<(Text, Cell)>, OutOfMemory>
+) -> Result<Seq<(Text, Option<Cell>)>, OutOfMemory>
     requires sources { AreSources sources.now }
     requires kept { All (OfTransforms is_kept) (data_of (out-Group top.now)) }
     requires folds { FoldsFit no_folds (data_of (out-Group top.now)) }
@@ -76,9 +84,9 @@ fn settled_values(
 /// The values of the signals of a specification's top object, each by its name: first the settable ones as they are given in `params`,
 /// then the computed ones by their updates, then those of extents: the least and the greatest number of their field over the rows
 /// before them, null where there is no number. Signals may need each other in any order, and none needs itself. What isn't a signal
-/// reads as null, and so does a selection. `Overflow` comes exactly where a computed signal overflows. A computed signal or a transform
-/// that overflows on the way counts as null or as leaving no rows. The sources are those of a state, a lookup has as many names as
-/// values, bins of a given width are over 0 wide, and on no path do folds multiply rows by more than 8.
+/// reads as null, and so does a selection. `Overflow` comes exactly where a computed signal overflows. A transform that overflows on the
+/// way counts as leaving no rows. The sources are those of a state, a lookup has as many names as values, bins of a given width are over 0
+/// wide, and on no path do folds multiply rows by more than 8.
 pub fn signal_values(
     alloc: Global,
     top: &Group,
@@ -91,12 +99,5 @@ pub fn signal_values(
     ensures { Evaluates result (signal_values (out-Group top.now) (map dataset_of sources.now) params.now) }
 {
     let settled = settled_values(alloc, top, sources, params)?;
-    let read = PlotParams {
-        params: settled.as_slice(),
-        lengths: &[],
-    };
-    match computed_values(alloc, signals_of(top), &read) {
-        Ok(_) => Ok(settled),
-        Err(error) => Err(error),
-    }
+    all_valued(alloc, settled.as_slice())
 }

@@ -1,5 +1,5 @@
 -- What levels of names stand for.
-use Rattle.std.specs.Prelude.{ℕ, false, All, Option, Some, None, List, [], ◌∷◌, map, find, if◌then◌else◌}
+use Rattle.std.specs.Prelude.{ℕ, All, Option, Some, None, List, [], ◌∷◌, map, find, if◌then◌else◌}
 use Rattle.std.specs.Option.{option_map, option_or}
 use Rattle.std.specs.Str.{bytes_eq}
 use Rattle.std.specs.Borrow.{Bor}
@@ -11,8 +11,8 @@ use Rattle.expr_eval.specs.Values.{Values}
 use Rattle.vega_lists.specs.Inside.{RowsByName, no_rows, rows_held, rows_inside}
 use Rattle.vega_lists.specs.Held.{scope_read, AreSources, AreAllRows}
 use Rattle.plain_rows.specs.Rows.{AreRows}
+use Rattle.vega_signals.specs.Extents.{Settled}
 use Rattle.vega_signals.specs.Settling.{values_inside, Valued}
-use Rattle.vega_signals.specs.Lost.{IsLost, is_among}
 use Rattle.vega_charts.specs.declared.names.Level.{Level}
 use Rattle.cell_value.specs.State.{dataset_of}
 use Rattle.vega_charts.specs.declared.names.NamesAt.{NamesAt}
@@ -25,8 +25,8 @@ abbrev pub part_named : List Named → List ℕ → Option Named
 part_named parts name = find (λ (part : Named). bytes_eq part.name name) parts
 
 -- the first signal of a name
-abbrev pub signal_named : List (List ℕ × Cell) → List ℕ → Option (List ℕ × Cell)
-signal_named signals name = find (λ (signal : List ℕ × Cell). bytes_eq signal.0 name) signals
+abbrev pub signal_named : Settled → List ℕ → Option (List ℕ × Option Cell)
+signal_named signals name = find (λ (signal : List ℕ × Option Cell). bytes_eq signal.0 name) signals
 
 -- the rows behind references
 abbrev pub rows_behind : List (Bor Keyed) → List Keyed
@@ -52,14 +52,9 @@ abbrev pub values_at : List (Bor Level) → Values
 values_at [] = no_values
 values_at (level ∷ outer) = values_inside level.now.signals (values_at outer)
 
--- the signals that are lost there
-abbrev pub lost_at : List (Bor Level) → IsLost
-lost_at [] = λ name. false
-lost_at (level ∷ outer) = is_among level.now.lost
-
 -- what names stand for there
 abbrev pub names_at : List Named → List (Bor Level) → Names
-names_at sources levels = record { lists = scope_read (rows_at sources levels); values = values_at levels; is_lost = lost_at levels }
+names_at sources levels = record { lists = scope_read (rows_at sources levels); values = values_at levels }
 
 -- what names stand for round a copy with parts of lists
 abbrev pub names_over : NamesAt → List Named → Names
@@ -77,7 +72,6 @@ abbrev pub names_with_level : NamesAt → Level → Names
 names_with_level outer level = record {
   lists = scope_read (rows_with_level outer level);
   values = values_inside level.signals (values_at outer.levels.now);
-  is_lost = is_among level.lost;
 }
 
 -- what names stand for in an object whose given signals have these values, where a facet gives parts of lists
@@ -86,7 +80,7 @@ names_with_parts outer parts o given =
     let around = names_over outer parts in
     names_with (map dataset_of outer.sources.now) around o (settled_in (map dataset_of outer.sources.now) around given o)
 
--- names of an object of which no own signal is lost
+-- names of an object of which each own signal has a value
 abbrev pub kept_names : Object → Option Names → Option Names
 kept_names o found = found >>= λ names. if keeps_signals names o then Some names else None
 

@@ -1,5 +1,5 @@
 -- The copies of groups as a tree that was made, as definitions see it.
-use Rattle.std.specs.Prelude.{◌≡◌, not, true, false, Some, None, List, [], ◌∷◌, map}
+use Rattle.std.specs.Prelude.{◌≡◌, not, true, Some, None, List, [], ◌∷◌, map}
 use Rattle.std.specs.Borrow.{Bor}
 use Rattle.std.specs.List.{All, AllZip, list_all}
 use Rattle.cell_value.specs.State.{dataset_of}
@@ -8,7 +8,7 @@ use Rattle.expr_eval.specs.Plain.{no_values}
 use Rattle.expr_eval.specs.Values.{Values}
 use Rattle.vega_lists.specs.Held.{scope_read, AreAllRows}
 use Rattle.vega_lists.specs.Inside.{RowsByName, no_rows, rows_inside}
-use Rattle.vega_signals.specs.Lost.{IsLost, is_among}
+use Rattle.vega_signals.specs.Lacking.{lacks}
 use Rattle.vega_signals.specs.Settling.{values_inside}
 use Rattle.vega_spec.specs.declared.signals.Signal.{Signal}
 use Rattle.vega_spec.specs.declared.spec.Group.{Group, out-Group}
@@ -37,13 +37,8 @@ abbrev pub values_under : List Level → Values
 values_under [] = no_values
 values_under (level ∷ outer) = values_inside level.signals (values_under outer)
 
-abbrev pub lost_under : List Level → IsLost
-lost_under [] = λ name. false
-lost_under (level ∷ outer) = is_among level.lost
-
 abbrev pub names_under : List Named → List Level → Names
-names_under sources levels =
-    record { lists = scope_read (rows_under sources levels); values = values_under levels; is_lost = lost_under levels }
+names_under sources levels = record { lists = scope_read (rows_under sources levels); values = values_under levels }
 
 -- ---- the tree
 
@@ -92,9 +87,10 @@ IsCopyMade sources levels m made =
     let inside = marks_of (marks_in (out-Group m.group)) in
     IsMade sources (group_object 0 m) inside (AreMade sources inside) levels made
 
--- no signal of a copy of a group itself is lost in it
-abbrev pub KeepsSignals : VgMark-F Group VgMark → CopyMade → Type 0
-KeepsSignals m made = list_all (λ (s : Signal). not (is_among (out-CopyMade made).level.lost s.name)) (group_object 0 m).signals ≡ true
+-- each signal of a copy of a group itself has a value in it
+abbrev pub KeepsSignals : List Level → VgMark-F Group VgMark → CopyMade → Type 0
+KeepsSignals levels m made =
+    list_all (λ (s : Signal). not (lacks (values_under ((out-CopyMade made).level ∷ levels)) s.name)) (group_object 0 m).signals ≡ true
 
 -- Marks that keep the rules, with what was made of each, where these are the levels of names.
 pub record HaveCopies (sources : List Named) (levels : List (Bor Level)) (marks : List VgMark) (found : List CopiesMade) : Type 0 where

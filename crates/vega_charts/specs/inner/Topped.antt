@@ -13,7 +13,6 @@ use Rattle.vega_spec.specs.declared.spec.VgSpec.{VgSpec}
 use Rattle.vega_lists.specs.Held.{scope_read}
 use Rattle.vega_lists.specs.Inside.{RowsByName, no_rows, rows_inside}
 use Rattle.vega_charts.specs.Sizes.{padding_round}
-use Rattle.vega_signals.specs.Lost.{is_among}
 use Rattle.vega_signals.specs.Settling.{values_inside}
 use Rattle.vega_scenes.specs.declared.scenes.Drawing.{Drawing}
 use Rattle.vega_scenes.specs.declared.views.Placed.{Placed}
@@ -105,5 +104,4 @@ abbrev pub names_on_top : List Named → Level → Names
 names_on_top sources level = record {
   lists = scope_read (rows_on_top sources level);
   values = values_inside level.signals no_values;
-  is_lost = is_among level.lost;
 }

@@ -3,11 +3,7 @@ use Rattle.std.specs.Option.{option_map}
 use Rattle.cell_value.specs.State.{dataset_of}
 use Rattle.expr_eval.specs.Answers.{Evaluates}
 use Rattle.scene_tree.specs.Outcome.{in_reach}
-use Rattle.std.specs.List.{AllZip}
 use Rattle.vega_spec.specs.declared.spec.Group.{out-Group}
-use Rattle.vega_spec.specs.declared.spec.VgMark.{VgMark}
-use Rattle.vega_charts.specs.declared.made.CopiesMade.{CopiesMade}
-use Rattle.vega_charts.specs.inner.Made.{levels_behind, OneMade}
 use Rattle.vega_charts.specs.Answers.{Comes}
 use Rattle.vega_charts.specs.Panels.{plots_in_facets}
 use Rattle.vega_charts.specs.Scenes.{drawing_over}
@@ -17,22 +13,20 @@ use Rattle.vega_charts.specs.inner.Outlined.{marks_in, marks_of}
 use Rattle.vega_charts.specs.inner.Standing.{MayStand}
 use Rattle.vega_charts.specs.inner.Topped.{top_of}
 use Rattle.vega_charts.proofs.NumberedPanels.{counted_alike}
-use Rattle.vega_charts.proofs.OutcomeLemmas.{after_count, not_counted}
+use Rattle.vega_charts.proofs.OutcomeLemmas.{after_count, is_counted, not_counted}
 use Rattle.vega_charts.proofs.charts.drawing_within.Goals as goal
 
-pub made_in-requires-clause-marks : goal.made_in-requires-clause-marks
-made_in-requires-clause-marks c =
+pub count_plots-requires-clause-marks : goal.count_plots-requires-clause-marks
+count_plots-requires-clause-marks c =
     subst (MayStand (rows_at c.args.names.sources.now c.args.names.levels.now)) (sym c.marks_in.ensures) c.requires.marks
 
-pub drawing_counted-requires-clause-marks : goal.drawing_counted-requires-clause-marks
-drawing_counted-requires-clause-marks c =
-    let one : VgMark → CopiesMade → Type 0 = OneMade c.args.names.sources.now (levels_behind c.args.names.levels.now) in
-    record {
-      stand = c.requires.marks;
-      made =
-          subst (AllZip one (marks_in (out-Group c.args.g.now.group))) (sym c.as_slice.ensures)
-          (subst (λ marks. AllZip one marks c.in-Ok.found.made) c.marks_in.ensures c.in-Ok.ensures.made);
-    }
+pub drawing_counted-requires-clause-counted : goal.drawing_counted-requires-clause-counted
+drawing_counted-requires-clause-counted c =
+    let g = c.args.g.now in
+    let sources = map dataset_of c.args.names.sources.now in
+    let names = names_at c.args.names.sources.now c.args.names.levels.now in
+    is_counted (plots_in_facets sources (marks_of (marks_in (out-Group g.group))) false (is_some (out-Group g.group).layout) names) c.in-Ok.plots
+    ((λ i. option_map (λ n. min n (2 ^ 64 - 1)) (plots_in_facets sources (marks_of (sym c.marks_in.ensures i)) false (sym c.is_some.ensures i) names)) ∙ c.in-Ok.ensures)
 
 pub returns-in-Ok : goal.returns-in-Ok
 returns-in-Ok c =
@@ -40,10 +34,10 @@ returns-in-Ok c =
     let sources = map dataset_of c.args.names.sources.now in
     let names = names_at c.args.names.sources.now c.args.names.levels.now in
     after_count (in_reach (drawing_over g sources (top_of g) names))
-    (plots_in_facets sources (top_of g).marks false (is_some (top_of g).object.layout) names) c.in-Ok.found.plots c.drawing_counted.result
+    (plots_in_facets sources (top_of g).marks false (is_some (top_of g).object.layout) names) c.in-Ok.plots c.drawing_counted.result
     (ap (option_map (λ n. min n (2 ^ 64 - 1))) (counted_alike sources (marks_of (marks_in (out-Group g.group))) 0 1 false _ names)
     ∙ (λ i. option_map (λ n. min n (2 ^ 64 - 1)) (plots_in_facets sources (marks_of (sym c.marks_in.ensures i)) false (sym c.is_some.ensures i) names))
-    ∙ c.in-Ok.ensures.counts)
+    ∙ c.in-Ok.ensures)
     c.drawing_counted.ensures
 
 pub returns-in-Err : goal.returns-in-Err
@@ -57,4 +51,4 @@ returns-in-Err c =
     (subst (Evaluates (Err c.in-Err.error))
     (sym (ap (option_map (λ n. min n (2 ^ 64 - 1))) (counted_alike sources (marks_of (marks_in (out-Group g.group))) 0 1 false _ names)
     ∙ (λ i. option_map (λ n. min n (2 ^ 64 - 1)) (plots_in_facets sources (marks_of (sym c.marks_in.ensures i)) false (sym c.is_some.ensures i) names))))
-    c.in-Err.ensures.counts))
+    c.in-Err.ensures))

@@ -10,7 +10,7 @@ use Rattle.vega_charts.proofs.copies.copies_by.Goals as goal
 pub returns : goal.returns
 returns c = record {
   copies =
-      copies_are c.args.names.now c.args.sort.now c.args.facet.now c.in_ok-d.d c.in_ok-rows.rows c.texts_in-lists.result.now c.in_ok-cells.cells.copies
+      copies_are c.args.names.now c.args.sort.now c.args.facet.now c.in_ok-d.d c.in_ok-rows.rows c.texts_in-lists.result.now cells_of_copies c.in_ok-cells.cells.copies
       c.as_slice-fields.result.now c.texts_in.result.now c.in_ok-tables.tables c.in_ok-copies_with.field-0 c.in_ok-d.ensures c.in_ok-rows.ensures.read
       (c.in_ok-cells.ensures.copies ∙ ap (λ rows. cells_of_copies c.in_ok-d.d (data_of rows)) c.as_slice.ensures)
       c.as_slice-fields.ensures c.texts_in.ensures c.texts_in-lists.ensures

@@ -246,7 +246,7 @@ pub copy_view-returns-else-keeps_signals-clause-value : goal.copy_view-returns-e
 copy_view-returns-else-keeps_signals-clause-value t c =
     copy_stops c.args.outer.now c.args.unit c.args.number c.args.mark.now c.args.copy.now c.requires.copy (sym c.keeps_signals.ensures ∙ c.if-keeps_signals.false)
 
--- a copy that has lost no signal of its own
+-- a copy in which each signal of its own has a value
 
 pub kept_view-entered_view-requires : goal.kept_view-entered_view-requires
 kept_view-entered_view-requires t c =

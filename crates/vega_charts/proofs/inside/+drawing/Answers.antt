@@ -204,7 +204,7 @@ pub draw_copy-returns-else-keeps_signals-clause-value : goal.draw_copy-returns-e
 draw_copy-returns-else-keeps_signals-clause-value t c =
     copy_stops c.args.outer.now c.args.copy.now c.args.unit c.args.number c.args.mark.now c.requires.copy (sym c.keeps_signals.ensures ∙ c.if-keeps_signals.false)
 
--- a copy that has lost no signal of its own
+-- a copy in which each signal of its own has a value
 
 pub draw_kept-draw_entered-requires : goal.draw_kept-draw_entered-requires
 draw_kept-draw_entered-requires t c =

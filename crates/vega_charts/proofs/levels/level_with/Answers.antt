@@ -9,7 +9,7 @@ use Rattle.vega_lists.specs.Products.{products_after}
 use Rattle.vega_lists.specs.Lists.{lists_of}
 use Rattle.vega_lists.specs.Scopes.{Scope}
 use Rattle.expr_eval.specs.Answers.{Evaluates}
-use Rattle.vega_signals.specs.Lost.{is_among, lost_inside, set_reads_lost}
+use Rattle.vega_signals.specs.Lacking.{set_lacks}
 use Rattle.vega_signals.specs.Settling.{settled_own, values_inside}
 use Rattle.vega_charts.specs.Outlines.{object_here}
 use Rattle.vega_charts.specs.inner.Levels.{parts_over, rows_at, values_at}
@@ -28,28 +28,24 @@ lists_inside-requires-clause-outer c =
 
 pub returns-then-branch-clause-value : goal.returns-then-branch-clause-value
 returns-then-branch-clause-value c =
-    names_are c.args.outer.now c.args.parts (object_here (out-Group c.args.group.now)) c.in_ok-own.own c.in_ok-lost.lost c.args.given.now true
+    names_are c.args.outer.now c.args.parts (object_here (out-Group c.args.group.now)) c.in_ok-own.own c.args.given.now true
     (c.in_ok-own.ensures
     ∙ (λ i. settled_own (map dataset_of c.args.outer.now.sources.now)
     (scope_read (parts_over (c.as_slice.ensures i) (rows_at c.args.outer.now.sources.now c.args.outer.now.levels.now)))
     (values_at c.args.outer.now.levels.now) c.args.given.now (c.signals_of-signals.ensures i) (c.data_of-sets.ensures i)))
-    (λ name. c.in_ok-lost.ensures name
-    ∙ (λ i. lost_inside (values_at c.args.outer.now.levels.now) (c.lost_round.ensures i) (c.as_slice-3.ensures i) (c.signals_of-signals.ensures i) name))
-    (sym c.if-branch.true ∙ c.in_ok-any_reads_lost.ensures
-    ∙ (λ i. list_any (set_reads_lost (is_among (c.as_slice-4.ensures i))) (c.data_of-sets.ensures i)))
+    (sym c.if-branch.true ∙ c.in_ok-any_set_lacks.ensures
+    ∙ (λ i. list_any (set_lacks (values_inside (c.as_slice-2.ensures i) (values_at c.args.outer.now.levels.now))) (c.data_of-sets.ensures i)))
 
 pub returns-in-Ok-clause-value : goal.returns-in-Ok-clause-value
 returns-in-Ok-clause-value c =
-    names_are c.args.outer.now c.args.parts (object_here (out-Group c.args.group.now)) c.in_ok-own.own c.in_ok-lost.lost c.args.given.now false
+    names_are c.args.outer.now c.args.parts (object_here (out-Group c.args.group.now)) c.in_ok-own.own c.args.given.now false
     (c.in_ok-own.ensures
     ∙ (λ i. settled_own (map dataset_of c.args.outer.now.sources.now)
     (scope_read (parts_over (c.as_slice.ensures i) (rows_at c.args.outer.now.sources.now c.args.outer.now.levels.now)))
     (values_at c.args.outer.now.levels.now) c.args.given.now (c.signals_of-signals.ensures i) (c.data_of-sets.ensures i)))
-    (λ name. c.in_ok-lost.ensures name
-    ∙ (λ i. lost_inside (values_at c.args.outer.now.levels.now) (c.lost_round.ensures i) (c.as_slice-3.ensures i) (c.signals_of-signals.ensures i) name))
-    (sym c.if-branch.false ∙ c.in_ok-any_reads_lost.ensures
-    ∙ (λ i. list_any (set_reads_lost (is_among (c.as_slice-4.ensures i))) (c.data_of-sets.ensures i)))
-    ∙ ap (option_map (read_as c.args.outer.now c.args.parts (object_here (out-Group c.args.group.now)) c.in_ok-own.own c.in_ok-lost.lost))
+    (sym c.if-branch.false ∙ c.in_ok-any_set_lacks.ensures
+    ∙ (λ i. list_any (set_lacks (values_inside (c.as_slice-2.ensures i) (values_at c.args.outer.now.levels.now))) (c.data_of-sets.ensures i)))
+    ∙ ap (option_map (read_as c.args.outer.now c.args.parts (object_here (out-Group c.args.group.now)) c.in_ok-own.own))
     (sym (λ i. lists_of (values_inside (c.as_slice-2.ensures i) (values_at c.args.outer.now.levels.now)) (map dataset_of c.args.outer.now.sources.now)
     (scope_read (parts_over (c.as_slice.ensures i) (rows_at c.args.outer.now.sources.now c.args.outer.now.levels.now))) (c.data_of-sets.ensures i))
     ∙ c.in-Ok.ensures.read
@@ -58,17 +54,15 @@ returns-in-Ok-clause-value c =
 
 pub returns-in-Err-clause-value : goal.returns-in-Err-clause-value
 returns-in-Err-clause-value c =
-    fails_with (read_as c.args.outer.now c.args.parts (object_here (out-Group c.args.group.now)) c.in_ok-own.own c.in_ok-lost.lost) c.in-Err.error
-    (lists_found c.args.outer.now c.args.parts (object_here (out-Group c.args.group.now)) c.in_ok-own.own c.in_ok-lost.lost) _
-    (names_are c.args.outer.now c.args.parts (object_here (out-Group c.args.group.now)) c.in_ok-own.own c.in_ok-lost.lost c.args.given.now false
+    fails_with (read_as c.args.outer.now c.args.parts (object_here (out-Group c.args.group.now)) c.in_ok-own.own) c.in-Err.error
+    (lists_found c.args.outer.now c.args.parts (object_here (out-Group c.args.group.now)) c.in_ok-own.own) _
+    (names_are c.args.outer.now c.args.parts (object_here (out-Group c.args.group.now)) c.in_ok-own.own c.args.given.now false
     (c.in_ok-own.ensures
     ∙ (λ i. settled_own (map dataset_of c.args.outer.now.sources.now)
     (scope_read (parts_over (c.as_slice.ensures i) (rows_at c.args.outer.now.sources.now c.args.outer.now.levels.now)))
     (values_at c.args.outer.now.levels.now) c.args.given.now (c.signals_of-signals.ensures i) (c.data_of-sets.ensures i)))
-    (λ name. c.in_ok-lost.ensures name
-    ∙ (λ i. lost_inside (values_at c.args.outer.now.levels.now) (c.lost_round.ensures i) (c.as_slice-3.ensures i) (c.signals_of-signals.ensures i) name))
-    (sym c.if-branch.false ∙ c.in_ok-any_reads_lost.ensures
-    ∙ (λ i. list_any (set_reads_lost (is_among (c.as_slice-4.ensures i))) (c.data_of-sets.ensures i))))
+    (sym c.if-branch.false ∙ c.in_ok-any_set_lacks.ensures
+    ∙ (λ i. list_any (set_lacks (values_inside (c.as_slice-2.ensures i) (values_at c.args.outer.now.levels.now))) (c.data_of-sets.ensures i))))
     (subst (λ given. Evaluates {X = Scope} (Err c.in-Err.error) given)
     (λ i. lists_of (values_inside (c.as_slice-2.ensures i) (values_at c.args.outer.now.levels.now)) (map dataset_of c.args.outer.now.sources.now)
     (scope_read (parts_over (c.as_slice.ensures i) (rows_at c.args.outer.now.sources.now c.args.outer.now.levels.now))) (c.data_of-sets.ensures i)) c.in-Err.ensures.read)

@@ -1,11 +1,13 @@
-use Rattle.std.proofs.Common.{map}
+use Rattle.std.proofs.Common.{◌≡◌, map, length, IfOk, ◌∙◌, subst}
 use Rattle.cell_value.specs.State.{dataset_of}
 use Rattle.vega_lists.specs.Held.{scope_read}
-use Rattle.vega_signals.proofs.RoundLemmas.{settled_ok}
+use Rattle.vega_signals.specs.Extents.{Settled}
+use Rattle.vega_signals.specs.Settling.{own_names, own_after}
 use Rattle.vega_signals.proofs.rounds.own_values.Goals as goal
 
 pub returns : goal.returns
 returns g c =
-    settled_ok (map dataset_of c.args.sources.now) (scope_read (g.O.ListReader.named c.args.lists.now)) (g.P.ParamReader.values c.args.outer.now) c.args.given.now
-    c.args.signals.now c.args.sets.now c.in_ok-first.first c.rounds_after-rounds.result c.settle.result c.in_ok-first.ensures c.rounds_after-rounds.ensures.count
-    c.settle.ensures
+    subst (λ (given : Settled). IfOk c.settled_over.result (λ now. now
+    ≡ own_after (map dataset_of c.args.sources.now) (scope_read (g.O.ListReader.named c.args.lists.now)) (g.P.ParamReader.values c.args.outer.now) given
+    c.args.signals.now c.args.sets.now (length (own_names c.args.signals.now c.args.sets.now))))
+    (c.as_slice.ensures ∙ c.in_ok-given.ensures) c.settled_over.ensures

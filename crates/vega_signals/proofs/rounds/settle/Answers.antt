@@ -1,7 +1,8 @@
 use Rattle.std.proofs.Common.{◌≤◌, map, refl, ap, ◌∙◌, arith}
 use Rattle.cell_value.specs.State.{dataset_of}
 use Rattle.vega_lists.specs.Held.{scope_read}
-use Rattle.vega_signals.specs.Settling.{Valued, next_own, own_after}
+use Rattle.vega_signals.specs.Extents.{Settled}
+use Rattle.vega_signals.specs.Settling.{next_own, own_after}
 use Rattle.vega_signals.proofs.RoundLemmas.{settled_at}
 use Rattle.vega_signals.proofs.rounds.settle.Goals as goal
 
@@ -10,7 +11,7 @@ returns-then-are_same g c =
     let sources = map dataset_of c.args.sources.now in
     let lists = scope_read (g.O.ListReader.named c.args.lists.now) in
     let outer = g.P.ParamReader.values c.args.outer.now in
-    let next : Valued → Valued = next_own sources lists outer c.args.given.now c.args.signals.now c.args.sets.now in
+    let next : Settled → Settled = next_own sources lists outer c.args.given.now c.args.signals.now c.args.sets.now in
     let within : c.loop-round.round ≤ c.args.rounds = omega arith in
     settled_at next (own_after sources lists outer c.args.given.now c.args.signals.now c.args.sets.now) (λ n. refl) c.loop-round.round c.args.rounds
     c.loop-round.now c.in_ok-next.next within c.loop-round.invariant (c.in_ok-next.ensures ∙ ap next c.as_slice.ensures) (c.are_same.ensures c.if-are_same.true)
