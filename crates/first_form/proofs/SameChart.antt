@@ -64,7 +64,6 @@ use Rattle.mark_encode.specs.Spans.{span_of}
 use Rattle.mark_encode.specs.Rects.{rect_over}
 use Rattle.mark_encode.specs.Items.{item_with, item_for, items_for}
 use Rattle.vega_signals.specs.Settling.{values_inside}
-use Rattle.vega_signals.specs.Lost.{lost_inside}
 use Rattle.vega_scenes.specs.declared.scenes.Drawing.{Drawing}
 use Rattle.vega_charts.specs.Sizes.{size_in, size_of}
 use Rattle.vega_charts.specs.Scopes.{Names, names_at_top}
@@ -298,7 +297,7 @@ module _ (form : FirstForm) where
   scope_over rows = with_list form.name (with_list form.name rows no_lists form.name) no_lists
 
   abbrev names_over : List Datum → Names
-  names_over rows = record { lists = scope_over rows; values = no_params; is_lost = lost_inside no_values (λ name. false) [] [] }
+  names_over rows = record { lists = scope_over rows; values = no_params }
 
   named : (rows : List Datum)
       → names_at_top no_values [] (record { name = form.name; rows = rows } ∷ []) (bars_object form) ≡ Some (names_over rows)

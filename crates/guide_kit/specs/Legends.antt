@@ -2,8 +2,8 @@
 use Rattle.std.specs.Prelude.{◌≡◌, refl, ℕ, ◌+◌, ◌*◌, min, max, false, if◌then◌else◌, List, [], ◌∷◌, ◌++◌, map, length, codes, ℤ, pos, Option, Some, None}
 use Rattle.unicode_width.proofs.Computing.{unicode_width}
 use Rattle.std.specs.Option.{option_map, option_map_or, is_some}
-use Rattle.std.specs.List.{enumerate_from}
-use Rattle.fixed_num.specs.Ranges.{◌>>=◌}
+use Rattle.std.specs.List.{enumerate_from, filter_map}
+use Rattle.fixed_num.specs.Ranges.{◌>>=◌, all_found}
 use Rattle.cell_value.specs.declared.cell.Cell.{Cell}
 use Rattle.scene_tree.specs.declared.scene.Item.{Item}
 use Rattle.scene_tree.specs.declared.shape.Anchor.TheVariants.{Start}
@@ -24,7 +24,7 @@ use Rattle.guide_kit.specs.Axes.{widest}
 use Rattle.guide_kit.specs.Items.{filled, words_at, label_style, title_style}
 use Rattle.guide_kit.specs.Measures.{pixels, farthest, plus, minus}
 use Rattle.guide_kit.specs.Signs.{sign_kind_of, sign_of, sign_at}
-use Rattle.guide_kit.specs.Ticks.{cells_shown, shows_of, each_that_has}
+use Rattle.guide_kit.specs.Ticks.{cells_shown, shows_of}
 
 -- the rows of a legend in pixels: how high each is, how far its centre is below its top, and where its sign has its centre and its label
 -- begins; in a size legend they are larger
@@ -34,21 +34,22 @@ rows_of kind.Opacity = record { height = 14; centre = 7; sign = 6; label = 16 }
 rows_of kind.Size = record { height = 22; centre = 11; sign = 11; label = 26 }
 rows_of kind.Shape = record { height = 14; centre = 7; sign = 6; label = 16 }
 
--- the entry of a cell with its sign, if it has one
-abbrev pub entry_with : Shows → Option (List ℕ) → Cell → Option Sign → Option Entry
-entry_with shows format v given = option_map (λ sign. record { sign = sign; label = label_of shows format v }) given
+-- the entry of a cell, with its sign if that can be drawn
+abbrev pub entry_with : Shows → Option (List ℕ) → Cell → Option Sign → Entry
+entry_with shows format v given = record { sign = given; label = label_of shows format v }
 
--- the entry of a cell
-abbrev pub entry_of : SignKind → Scale → Shows → Option (List ℕ) → Cell → Option (Option Entry)
+-- the entry of a cell; None where its place is out of range
+abbrev pub entry_of : SignKind → Scale → Shows → Option (List ℕ) → Cell → Option Entry
 entry_of shown s shows format v = option_map (entry_with shows format v) (sign_of shown s v)
 
 -- for how many ticks a legend asks
 abbrev pub legend_count : ℕ
 legend_count = 5
 
--- the entries of a legend: those of the cells that its scale shows
+-- the entries of a legend: those of all cells that its scale shows
 abbrev pub entries_of : SignKind → Scale → Option (List ℕ) → Option (List Entry)
-entries_of shown s format = cells_shown legend_count s >>= each_that_has (entry_of shown s (shows_of legend_count s) format)
+entries_of shown s format =
+    cells_shown legend_count s >>= λ cells. all_found (map (entry_of shown s (shows_of legend_count s) format) cells)
 
 -- how high a title is with the space below it
 abbrev pub title_height : Option (List ℕ) → ℕ
@@ -58,9 +59,9 @@ title_height title = if is_some title then 15 else 0
 abbrev pub centre_of : Rows → ℕ → ℕ → ℤ
 centre_of rows top number = pixels (min (top + number * rows.height + rows.centre) farthest)
 
--- the sign and the label of an entry with its number
-abbrev pub sign_item : List ℕ → Rows → ℕ → ℕ × Entry → Item
-sign_item color rows top entry = sign_at color (pixels rows.sign) (centre_of rows top entry.0) entry.1.sign
+-- the sign of an entry with its number, if it can be drawn, and the label
+abbrev pub sign_item : List ℕ → Rows → ℕ → ℕ × Entry → Option Item
+sign_item color rows top entry = option_map (sign_at color (pixels rows.sign) (centre_of rows top entry.0)) entry.1.sign
 
 abbrev pub label_item : Rows → ℕ → ℕ × Entry → Item
 label_item rows top entry =
@@ -91,7 +92,7 @@ abbrev pub block_with : LegendOf → Rows → List Entry → Block
 block_with l rows entries =
     let top = title_height l.title in
     record {
-      items = title_items l.title ++ map (sign_item l.colour rows top) (enumerate_from 0 entries)
+      items = title_items l.title ++ filter_map (sign_item l.colour rows top) (enumerate_from 0 entries)
           ++ map (label_item rows top) (enumerate_from 0 entries);
       width = pixels (block_width l.title rows entries);
       height = pixels (block_height l.title rows entries);
@@ -110,8 +111,8 @@ legend_of l s = sign_kind_of l.channel >>= λ shown. legend_with shown l s
 -- a colour legend with two entries
 abbrev two_entries : List Entry
 two_entries =
-    record { sign = sign_form.Painted (codes "#4c78a8"); label = codes "u" }
-    ∷ record { sign = sign_form.Painted (codes "#f58518"); label = codes "v" } ∷ []
+    record { sign = Some (sign_form.Painted (codes "#4c78a8")); label = codes "u" }
+    ∷ record { sign = Some (sign_form.Painted (codes "#f58518")); label = codes "v" } ∷ []
 
 abbrev title_c : Option (List ℕ)
 title_c = Some (codes "c")
@@ -131,6 +132,14 @@ the_items_of_a_legend : (block_with color_legend (rows_of kind.Color) two_entrie
     ∷ swatch (codes "#4c78a8") 1 17 ∷ swatch (codes "#f58518") 1 31 ∷ words (codes "u") 16 25 ∷ words (codes "v") 16 39 ∷ []
 unfolding plus minus
 the_items_of_a_legend = refl
+
+-- an entry whose sign can't be drawn keeps its place and its label
+an_entry_without_a_sign : (block_with color_legend (rows_of kind.Color)
+    (record { sign = None; label = codes "u" } ∷ record { sign = Some (sign_form.Painted (codes "#f58518")); label = codes "v" } ∷ [])).items
+    ≡ words_at (title_style false Start) (pos 0) (pixels 11) (codes "c")
+    ∷ swatch (codes "#f58518") 1 31 ∷ words (codes "u") 16 25 ∷ words (codes "v") 16 39 ∷ []
+unfolding plus minus
+an_entry_without_a_sign = refl
 
 the_size_of_a_legend : (block_width title_c (rows_of kind.Color) two_entries ≡ 22) × (block_height title_c (rows_of kind.Color) two_entries ≡ 43)
     × (block_width None (rows_of kind.Size) two_entries ≡ 32) × (block_height None (rows_of kind.Size) two_entries ≡ 44)

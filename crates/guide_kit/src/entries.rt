@@ -1,13 +1,13 @@
 // The entries of legends.
 ghost use Rattle.std.specs.Prelude.{◌≡◌, ◌+◌, ◌≤◌, ◌++◌, map, IfSome, IfOk, OnOk};
-ghost use Rattle.std.specs.List.{enumerate_from};
+ghost use Rattle.std.specs.List.{enumerate_from, filter_map};
 ghost use Rattle.std.specs.Option.{option_to_list};
+ghost use Rattle.fixed_num.specs.Ranges.{all_found};
 ghost use Rattle.scale_kit.specs.Scale.{IsScale};
 ghost use Rattle.guide_text.specs.Labels.{own_decimals};
 ghost use Rattle.guide_text.specs.Widths.{greatest_size};
 ghost use Rattle.guide_kit.specs.Answers.{Draws};
 ghost use Rattle.guide_kit.specs.Axes.{widest};
-ghost use Rattle.guide_kit.specs.Ticks.{each_that_has};
 ghost use Rattle.guide_kit.specs.Legends.{rows_of, entry_with, entry_of, entries_of, centre_of, sign_item, label_item, labels_in, entries_width};
 
 use crate::errors::GuideError;
@@ -32,8 +32,8 @@ const FARTHEST: u128 = 1_000_000_000_000_000;
 /// An entry of a legend.
 #[derive(Debug, Drop)]
 pub struct Entry {
-    /// Its sign.
-    pub sign: Sign,
+    /// Its sign, where it can be drawn.
+    pub sign: Option<Sign>,
     /// Its label.
     pub label: Text,
 }
@@ -71,27 +71,24 @@ pub fn rows_of(kind: SignKind) -> Rows
     }
 }
 
-// The entry of a cell with its sign, if it has one.
+// The entry of a cell, with its sign if that can be drawn.
 fn entry_with(
     alloc: Global,
     sign: Option<Sign>,
     shows: Shows,
     format: &Option<Text>,
     v: &Cell,
-) -> Result<Option<Entry>, OutOfMemory>
+) -> Result<Entry, OutOfMemory>
     requires { IfSome (own_decimals shows) (λ n. n ≤ 6) }
     ensures { IfOk result (λ entry. entry ≡ entry_with shows format.now v.now sign) }
 {
-    match sign {
-        Some(sign) => Ok(Some(Entry {
-            label: label_of(alloc, shows, format, v)?,
-            sign,
-        })),
-        None => Ok(None),
-    }
+    Ok(Entry {
+        label: label_of(alloc, shows, format, v)?,
+        sign,
+    })
 }
 
-// The entry of a cell; None where it has no sign.
+// The entry of a cell.
 fn entry_of(
     alloc: Global,
     kind: SignKind,
@@ -99,7 +96,7 @@ fn entry_of(
     shows: Shows,
     format: &Option<Text>,
     v: &Cell,
-) -> Result<Option<Entry>, GuideError>
+) -> Result<Entry, GuideError>
     requires { IfSome (own_decimals shows) (λ n. n ≤ 6) }
     ensures { Draws result (entry_of kind s.now shows format.now v.now) }
 {
@@ -107,17 +104,7 @@ fn entry_of(
     Ok(entry_with(alloc, sign, shows, format, v)?)
 }
 
-// Adds an entry, if there is one.
-fn add(entries: &mut Seq<Entry>, entry: Option<Entry>) -> Result<(), OutOfMemory>
-    ensures { OnOk result (entries.new ≡ entries.old ++ option_to_list entry) }
-{
-    match entry {
-        Some(entry) => entries.push(entry),
-        None => Ok(()),
-    }
-}
-
-// The entries of cells, in order, without those of cells that have no sign.
+// The entries of cells, in order.
 fn entries_at(
     alloc: Global,
     kind: SignKind,
@@ -127,19 +114,19 @@ fn entries_at(
     cells: &[Cell],
 ) -> Result<Seq<Entry>, GuideError>
     requires { IfSome (own_decimals shows) (λ n. n ≤ 6) }
-    ensures { Draws result (each_that_has (entry_of kind s.now shows format.now) cells.now) }
+    ensures { Draws result (all_found (map (entry_of kind s.now shows format.now) cells.now)) }
 {
     let mut entries = Seq::with_capacity(alloc, cells.len())?;
     for cell in cells {
         match entry_of(alloc, kind, s, shows, format, cell) {
-            Ok(entry) => add(&mut entries, entry)?,
+            Ok(entry) => entries.push(entry)?,
             Err(error) => return Err(error),
         }
     }
     Ok(entries)
 }
 
-/// The entries of a legend of a scale: those of the cells that it shows.
+/// The entries of a legend of a scale: those of all cells that it shows.
 pub fn entries_of(
     alloc: Global,
     kind: SignKind,
@@ -164,19 +151,25 @@ fn centre_of(rows: &Rows, top: u8, number: usize) -> Num
     pixels((above + u128::from(rows.centre)).min(FARTHEST) as u64)
 }
 
-// The sign of an entry by its number.
-fn sign_item(
+// Adds the sign of an entry by its number, where it can be drawn.
+fn push_sign(
     alloc: Global,
     color: &str,
     rows: &Rows,
     top: u8,
     number: usize,
     entry: &Entry,
-) -> Result<Item, OutOfMemory>
-    ensures { IfOk result (λ item. item ≡ sign_item color.now rows.now top (number, entry.now)) }
+    items: &mut Seq<Item>,
+) -> Result<(), OutOfMemory>
+    ensures { OnOk result (items.new ≡ items.old ++ option_to_list (sign_item color.now rows.now top (number, entry.now))) }
 {
-    let x = pixels(u64::from(rows.sign));
-    sign_at(alloc, color, x, centre_of(rows, top, number), &entry.sign)
+    match &entry.sign {
+        Some(sign) => {
+            let x = pixels(u64::from(rows.sign));
+            items.push(sign_at(alloc, color, x, centre_of(rows, top, number), sign)?)
+        }
+        None => Ok(()),
+    }
 }
 
 // The label of an entry by its number.
@@ -200,7 +193,7 @@ fn label_item(
     )
 }
 
-/// Adds the signs of entries below a top.
+/// Adds the signs of entries below a top, those that can be drawn.
 pub fn push_signs(
     alloc: Global,
     color: &str,
@@ -209,10 +202,10 @@ pub fn push_signs(
     entries: &[Entry],
     items: &mut Seq<Item>,
 ) -> Result<(), OutOfMemory>
-    ensures { OnOk result (items.new ≡ items.old ++ map (sign_item color.now rows.now top) (enumerate_from 0 entries.now)) }
+    ensures { OnOk result (items.new ≡ items.old ++ filter_map (sign_item color.now rows.now top) (enumerate_from 0 entries.now)) }
 {
     for (number, entry) in entries.iter().enumerate() {
-        items.push(sign_item(alloc, color, rows, top, number, entry)?)?;
+        push_sign(alloc, color, rows, top, number, entry, items)?;
     }
     Ok(())
 }

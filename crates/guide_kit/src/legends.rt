@@ -136,8 +136,8 @@ pub fn has_legend(channel: u16) -> bool
     sign_kind_of(channel).is_some()
 }
 
-/// The legend of a scale, with an entry for each cell that its scale shows and that has a sign. `Overflow` exactly where a tick or its
-/// place is out of range.
+/// The legend of a scale, with an entry for each cell that its scale shows; where its sign can't be drawn it has its label alone. `Overflow`
+/// exactly where a tick or its place is out of range.
 pub fn legend_of(alloc: Global, legend: &LegendOf, s: &Scale) -> Result<Block, GuideError>
     requires scale { IsScale s.now }
     requires channel { IsSome (sign_kind_of legend.now.channel) }

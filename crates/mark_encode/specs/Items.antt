@@ -21,7 +21,7 @@ use Rattle.vega_spec.specs.declared.spec.VgMark.{VgMark, out-VgMark}
 use Rattle.mark_encode.specs.declared.channels.ChannelName.{ChannelName}
 use Rattle.mark_encode.specs.declared.looks.Look.{Look}
 use Rattle.mark_encode.specs.Channels.{ScaledValue, channel_values}
-use Rattle.mark_encode.specs.Looks.{LookValues, default_stroke_width, look_for, looks_of, bar_look}
+use Rattle.mark_encode.specs.Looks.{LookValues, default_stroke_width, look_for, looks_of, painted_on, bar_look}
 use Rattle.mark_encode.specs.Rects.{across_of, down_of, rect_over, rect_for}
 use Rattle.mark_encode.specs.Symbols.{symbol_values_of, symbol_for}
 use Rattle.mark_encode.specs.Rules.{rule_values_of, rule_for}
@@ -82,7 +82,7 @@ abbrev pub item_by : MarkType → ℕ → (CellAt → Values → Option (Option 
 item_by type unit shape_of looks values datum = do
   shape ← shape_of datum.cell values
   look ← look_for (default_stroke_width type) datum.cell values looks
-  Some (item_with unit (picked_key type datum.key) shape look)
+  Some (item_with unit (picked_key type datum.key) shape (painted_on type look))
 
 -- the items of rows that have one, in the order of the rows
 abbrev pub items_with : (Datum → Option (Option Item)) → List Datum → Option (List Item)

@@ -1,5 +1,6 @@
 -- How items are painted. An outer None stands for a number out of range, an inner one for a colour or a number that is lacking.
 use Rattle.std.specs.Prelude.{◌≡◌, refl, ℕ, false, ℤ, pos, ◌*◌, Option, Some, None, List, codes}
+use Rattle.std.specs.Option.{option_map}
 use Rattle.fixed_num.specs.Number.{million}
 use Rattle.fixed_num.specs.Ranges.{◌>>=◌}
 use Rattle.cell_value.specs.Datum.{CellAt}
@@ -65,6 +66,20 @@ looks_of channels = record {
   opacity = channels name.Opacity;
 }
 
+-- how a text is painted: it has no line, whatever is encoded
+abbrev pub without_stroke : Look → Look
+without_stroke look = record { fill = look.fill; stroke = None; stroke_width = pos million; opacity = look.opacity }
+
+-- how the items of a mark of a type are painted by their looks
+abbrev pub painted_on : MarkType → Option Look → Option Look
+painted_on mark.Rect look = look
+painted_on mark.Symbol look = look
+painted_on mark.Line look = look
+painted_on mark.Area look = look
+painted_on mark.Rule look = look
+painted_on mark.Text look = option_map without_stroke look
+painted_on mark.Group look = look
+
 -- The rules at work.
 
 abbrev pub bar_look : Look
@@ -77,3 +92,11 @@ the_look_of_a_bar = refl
 -- a colour or a number that is encoded and lacks leaves none
 lacking_looks : (look_of 1 Lacking Absent Absent Absent ≡ None) × (look_of 1 Absent Absent Absent Lacking ≡ None)
 lacking_looks = (refl, refl)
+
+-- a line that is encoded is drawn round a rect, and not round a text; one that lacks its colour leaves none of both
+outlines : (painted_on mark.Rect (look_of 1 Absent (Given (codes "#000")) (Given (pos 2000000)) Absent)
+    ≡ Some (record { fill = None; stroke = Some (codes "#000"); stroke_width = pos 2000000; opacity = pos million }))
+    × (painted_on mark.Text (look_of 1 Absent (Given (codes "#000")) (Given (pos 2000000)) Absent)
+    ≡ Some (record { fill = None; stroke = None; stroke_width = pos million; opacity = pos million }))
+    × (painted_on mark.Text (look_of 1 Absent Lacking Absent Absent) ≡ None)
+outlines = (refl, refl, refl)

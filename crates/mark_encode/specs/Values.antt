@@ -1,5 +1,5 @@
 -- What channels show of a row. An outer None stands for a number out of range.
-use Rattle.std.specs.Prelude.{◌≡◌, refl, ℕ, Bool, true, false, not, ◌&&◌, ◌||◌, ℤ, pos, ◌*◌, ◌+ℤ◌, ◌*ℤ◌, Option, Some, None, List, [], ◌∷◌, codes, if◌then◌else◌}
+use Rattle.std.specs.Prelude.{◌≡◌, refl, ℕ, Bool, true, false, not, ◌&&◌, ◌||◌, ℤ, pos, ◌*◌, ◌+ℤ◌, Option, Some, None, List, [], ◌∷◌, codes, if◌then◌else◌}
 use Rattle.std.specs.Option.{option_map, option_map_or, is_some}
 use Rattle.std.specs.Result.{result_ok}
 use Rattle.std.specs.Str.{bytes_eq}
@@ -15,7 +15,7 @@ use Rattle.expr_eval.specs.Value.{value_of, truth_of}
 use Rattle.scale_kit.specs.declared.scale.Scale.{Scale}
 use Rattle.scale_kit.specs.declared.scale.Scale.TheVariants.{Linear, Time, Band, Point, Ordinal, Ramp}
 use Rattle.scale_kit.specs.Places.{the_number, place_of, place_in_band_of, bands_of, base_of}
-use Rattle.scale_kit.specs.Bands.{width_of_band}
+use Rattle.scale_kit.specs.Bands.{widths_of_band}
 use Rattle.scale_kit.specs.Colors.{the_text, paint_of}
 use Rattle.vega_spec.specs.declared.encode.ChannelValue.{ChannelValue}
 use Rattle.mark_encode.specs.declared.shown.Shown.{Shown}
@@ -42,15 +42,15 @@ cell_for cells values v = cell_from cells values v.signal v.field v.value
 
 -- how much a share of the bands of a scale is; nothing on a scale without bands
 abbrev pub share_of_band : Scale → ℤ → ℤ
-share_of_band s share = option_map_or (λ bands. rounded (share *ℤ width_of_band bands) million) (bands_of s) (pos 0)
+share_of_band s share = option_map_or (λ bands. widths_of_band bands share) (bands_of s) (pos 0)
 
 -- how much the share is that is given, if one is
 abbrev pub share_given : Scale → Option ℤ → Option ℤ
 share_given s None = Some (pos 0)
 share_given s (Some share) = in_range (share_of_band s share)
 
--- The number on a scale: the place of the cell, on its band where a share is given. Without a cell so much of a band, or else the place of
--- null.
+-- The number on a scale: the place of the cell, on its band where a share is given, which is out of range by itself where so much of a
+-- band is. Without a cell so much of a band, or else the place of null.
 abbrev pub number_on : Scale → Option Cell → Option ℤ → Option (Option ℤ)
 number_on s (Some cell) (Some share) = result_ok (place_in_band_of s cell share)
 number_on s (Some cell) None = result_ok (place_of s cell)

@@ -14,7 +14,9 @@ ghost use Rattle.mark_encode.specs.Orders.{data_of, HaveIds};
 ghost use Rattle.mark_encode.specs.inner.Scaled.{look_values};
 ghost use Rattle.mark_encode.specs.inner.Shapes.{shape_by, row_item};
 
-use crate::looks::{Look, LookChannels, default_stroke_width, look_for, looks_of, shared_or_none};
+use crate::looks::{
+    Look, LookChannels, default_stroke_width, look_for, looks_of, painted_on, shared_or_none,
+};
 use crate::orders::{all_rows, rows_by_sort};
 use crate::paths::path_items;
 use crate::scales::IndexedSet;
@@ -115,7 +117,8 @@ fn row_item<P: ParamReader>(
     let default = default_stroke_width(mark.type_);
     let look = look_for(alloc, default, &mark.looks, row, params)?;
     let key = picked_key(mark.type_, row.key);
-    Ok(item_with(alloc, pool, unit, key, shape, look)?)
+    let painted = painted_on(mark.type_, look);
+    Ok(item_with(alloc, pool, unit, key, shape, painted)?)
 }
 
 // Adds an item at the end, if it is there.

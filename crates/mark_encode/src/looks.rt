@@ -5,7 +5,8 @@ ghost use Rattle.cell_value.specs.Datum.{cell_at};
 ghost use Rattle.cell_value.specs.State.{greatest_id};
 ghost use Rattle.expr_eval.specs.Answers.{Evaluates};
 ghost use Rattle.mark_encode.specs.Channels.{channel_values};
-ghost use Rattle.mark_encode.specs.Looks.{color_or_none, default_stroke_width, look_of, look_for, looks_of};
+ghost use Rattle.mark_encode.specs.Looks.{color_or_none, default_stroke_width, look_of, look_for, looks_of, without_stroke};
+ghost use Rattle.mark_encode.specs.Looks.{painted_on};
 ghost use Rattle.mark_encode.specs.inner.Scaled.{look_values};
 
 use crate::channels::{ChannelName, Scaled, channel_values};
@@ -142,4 +143,31 @@ pub fn look_for<P: ParamReader>(
     let stroke_width = number_shown(alloc, false, channels.stroke_width.as_slice(), row, params)?;
     let opacity = number_shown(alloc, false, channels.opacity.as_slice(), row, params)?;
     Ok(look_of(default, fill, stroke, stroke_width, opacity))
+}
+
+// How a text is painted by a look: it has no line.
+fn without_stroke(look: Look) -> Look
+    ensures { result ≡ without_stroke look }
+{
+    Look {
+        fill: look.fill,
+        stroke: None,
+        stroke_width: pixels(1),
+        opacity: look.opacity,
+    }
+}
+
+/// How an item of a mark of this type is painted by its look.
+pub fn painted_on(type_: MarkType, look: Option<Look>) -> Option<Look>
+    ensures { result ≡ painted_on type_ look }
+{
+    match type_ {
+        MarkType::Rect => look,
+        MarkType::Symbol => look,
+        MarkType::Line => look,
+        MarkType::Area => look,
+        MarkType::Rule => look,
+        MarkType::Text => Some(without_stroke(look?)),
+        MarkType::Group => look,
+    }
 }

@@ -16,6 +16,8 @@ const ALL_SHAPES: &str =
 <line x1=\"-5\" y1=\"80\" x2=\"0\" y2=\"80\" stroke=\"#888\" stroke-width=\"1\"/>
 <text x=\"-7\" y=\"83\" text-anchor=\"end\" font-size=\"10\" fill=\"#000\">0 &lt; &amp;\u{fffd}</text>
 <text transform=\"translate(-17,40) rotate(-90)\" text-anchor=\"middle\" font-size=\"11\" font-weight=\"bold\" fill=\"#000\">b</text>
+<rect x=\"0\" y=\"0\" width=\"50\" height=\"20\" fill=\"none\"/>
+<text x=\"-7\" y=\"83\" text-anchor=\"end\" font-size=\"10\" fill=\"none\">u</text>
 </g>
 </svg>
 ";
@@ -125,6 +127,8 @@ fn line() -> Shape {
 
 const BLACK: Style = ("#000", "", 1, 1_000_000);
 
+const OUTLINED: Style = ("", "#000", 2, 1_000_000);
+
 fn all_items(alloc: Global) -> Result<Seq<Item>, Fail> {
     let mut items = Seq::new(alloc);
     add(alloc, &mut items, rect(), ("#333", "", 1, 125_000))?;
@@ -138,6 +142,8 @@ fn all_items(alloc: Global) -> Result<Seq<Item>, Fail> {
     add(alloc, &mut items, line(), ("", "#888", 1, 1_000_000))?;
     add(alloc, &mut items, words(alloc, false, "0 < &\u{1}")?, BLACK)?;
     add(alloc, &mut items, words(alloc, true, "b")?, BLACK)?;
+    add(alloc, &mut items, rect(), ("", "", 1, 1_000_000))?;
+    add(alloc, &mut items, words(alloc, false, "u")?, OUTLINED)?;
     Ok(items)
 }
 

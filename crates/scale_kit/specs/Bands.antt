@@ -1,7 +1,9 @@
 -- Bands: steps of equal size along a range, each with a band and inner padding, and outer padding at both ends.
-use Rattle.std.specs.Prelude.{◌≡◌, refl, ℕ, ◌+◌, ◌*◌, ◌==◌, ℤ, pos, ◌+ℤ◌, ◌-ℤ◌, ◌*ℤ◌, int_lt, unsigned_abs, if◌then◌else◌}
+use Rattle.std.specs.Prelude.{◌≡◌, refl, ℕ, ◌+◌, ◌*◌, ◌==◌, ℤ, pos, neg_ℤ, ◌+ℤ◌, ◌-ℤ◌, ◌*ℤ◌, int_lt, unsigned_abs, Option, Some, None}
+use Rattle.std.specs.Prelude.{if◌then◌else◌}
 use Rattle.std.specs.Ordering.{int_eq}
 use Rattle.fixed_num.specs.Number.{million, rounded, floor_quotient}
+use Rattle.fixed_num.specs.Ranges.{◌>>=◌, in_range}
 use Rattle.fixed_num.specs.Bands.{steps_of}
 use Rattle.scale_kit.specs.declared.bands.Bands.{Bands}
 use Rattle.scale_kit.specs.Scale.{IsPadding, IsRange}
@@ -45,11 +47,16 @@ width_of_band b =
     then rounded (pos (unsigned_abs (b.r1 -ℤ b.r0)) *ℤ (pos million -ℤ b.inner)) (unsigned_abs (band_steps b))
     else pos 0)
 
--- the place on a band: its centre for one half; else so many widths from its lesser end
-abbrev pub place_on_band : Bands → ℕ → ℤ → ℤ
+-- how far so many widths of a band are
+abbrev pub widths_of_band : Bands → ℤ → ℤ
+widths_of_band b share = rounded (share *ℤ width_of_band b) million
+
+-- The place on a band: its centre for one half; else so many widths from its lesser end. It is None where those widths are out of range by
+-- themselves, and where the place is.
+abbrev pub place_on_band : Bands → ℕ → ℤ → Option ℤ
 place_on_band b index share =
-    if int_eq share (pos 500000) then centre_of_band b index
-    else (place_of_band b index +ℤ rounded (share *ℤ width_of_band b) million)
+    if int_eq share (pos 500000) then Some (centre_of_band b index)
+    else (in_range (widths_of_band b share) >>= λ way. in_range (place_of_band b index +ℤ way))
 
 -- The rules at work.
 
@@ -86,8 +93,18 @@ no_band : width_of_band (record { count = 0; inner = pos 0; outer = pos 500000; 
 no_band = refl
 
 -- on a band: its lesser end, its centre and a quarter of its width
-on_the_first_band : (place_on_band three_bands 0 (pos 0) ≡ pos (1 * million))
-    × (place_on_band three_bands 0 (pos 500000) ≡ pos (10 * million))
-    × (place_on_band three_bands 0 (pos 250000) ≡ pos 5500000)
+on_the_first_band : (place_on_band three_bands 0 (pos 0) ≡ Some (pos (1 * million)))
+    × (place_on_band three_bands 0 (pos 500000) ≡ Some (pos (10 * million)))
+    × (place_on_band three_bands 0 (pos 250000) ≡ Some (pos 5500000))
 unfolding rounded floor_quotient
 on_the_first_band = (refl, refl, refl)
+
+-- two bands of 10 pixels each
+abbrev two_wide_bands : Bands
+two_wide_bands = record { count = 2; inner = pos 0; outer = pos 0; r0 = pos 0; r1 = pos (20 * million) }
+
+-- From the second band 10^14 widths back lead to a number. Half a width further the widths are out of range, though the place is not.
+far_from_the_second_band : (place_on_band two_wide_bands 1 (neg_ℤ (pos 100000000000000000000)) ≡ Some (neg_ℤ (pos 999999999999990000000)))
+    × (place_on_band two_wide_bands 1 (neg_ℤ (pos 100000000000000500000)) ≡ None)
+unfolding rounded floor_quotient
+far_from_the_second_band = (refl, refl)

@@ -91,15 +91,19 @@ reached_place (Some z) = ok_or (option_map Some (in_range z)) (record {})
 abbrev pub place_of : Scale → Cell → Result (Option ℤ) Overflow
 place_of s v = reached_place (exact_place s v)
 
--- The place of a cell on its band, by where it stands in the domain: its centre for a share of one half, else so many widths from its
--- lesser end. Scales without bands give the place of the cell, whatever the share.
-abbrev pub exact_band_place_at : Scale → Cell → ℤ → Option ℕ → Option ℤ
-exact_band_place_at s v share index =
-    option_map_or (λ b. option_map (λ k. place_on_band b k share) index) (bands_of s) (exact_place_at s v index)
+-- the place on the band of an index as an answer, if there is one
+abbrev pub reached_on_band : Bands → ℤ → Option ℕ → Result (Option ℤ) Overflow
+reached_on_band b share None = Ok None
+reached_on_band b share (Some index) = ok_or (option_map Some (place_on_band b index share)) (record {})
 
--- the place of a cell on its band, as an answer
+-- The place of a cell on its band as an answer, by where it stands in the domain: its centre for a share of one half, else so many widths
+-- from its lesser end. Scales without bands give the place of the cell, whatever the share.
+abbrev pub band_place_at : Scale → Cell → ℤ → Option ℕ → Result (Option ℤ) Overflow
+band_place_at s v share index = option_map_or (λ b. reached_on_band b share index) (bands_of s) (reached_place (exact_place_at s v index))
+
+-- the place of a cell on its band
 abbrev pub place_in_band_of : Scale → Cell → ℤ → Result (Option ℤ) Overflow
-place_in_band_of s v share = reached_place (exact_band_place_at s v share (domain_index s v))
+place_in_band_of s v share = band_place_at s v share (domain_index s v)
 
 -- the width of the bands of a scale
 abbrev pub band_width_of : Scale → ℤ

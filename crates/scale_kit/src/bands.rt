@@ -4,7 +4,7 @@ ghost use Rattle.fixed_num.specs.Number.{million};
 ghost use Rattle.fixed_num.specs.Ranges.{in_range};
 ghost use Rattle.scale_kit.specs.Bands.{AreBands, band_steps, along_bands, band_beginning, band_end, place_of_band};
 ghost use Rattle.scale_kit.specs.Bands.{centre_of_band, width_of_band};
-ghost use Rattle.scale_kit.specs.Bands.{place_on_band};
+ghost use Rattle.scale_kit.specs.Bands.{widths_of_band, place_on_band};
 ghost use Rattle.scale_kit.specs.Scale.{IsRange};
 ghost use Rattle.scale_kit.specs.inner.Between.{IsBetween};
 
@@ -163,17 +163,36 @@ impl Bands {
         }
     }
 
-    /// The place on a band, so many widths from its lesser end or its centre; None exactly where it is out of range.
+    // How far so many widths of a band are; None exactly where that is out of range.
+    #[tactic(auto, using(fixed_num::proofs::RangeLemmas::in_range_from_exact))]
+    fn widths(&self, share: Num) -> Option<Num>
+        requires { AreBands self.now }
+        ensures { result ≡ in_range (widths_of_band self.now share) }
+    {
+        share.mul(self.width())
+    }
+
+    // The place so far from the lesser end of a band; None exactly where it is out of range.
+    #[tactic(auto, using(fixed_num::proofs::RangeLemmas::in_range_from_exact))]
+    fn place_after(&self, index: usize, way: Num) -> Option<Num>
+        requires bands { AreBands self.now }
+        requires there { index < self.now.count }
+        ensures { result ≡ in_range (place_of_band self.now index +ℤ way) }
+    {
+        self.place(index).add(way)
+    }
+
+    /// The place on a band, its centre for one half, else so many widths from its lesser end; None exactly where those widths are out of
+    /// range, or the place is.
     pub fn place_on(&self, index: usize, share: Num) -> Option<Num>
         requires bands { AreBands self.now }
         requires there { index < self.now.count }
-        ensures { result ≡ in_range (place_on_band self.now index share) }
+        ensures { result ≡ place_on_band self.now index share }
     {
         if share.millionths() == 500_000 {
-            Some(self.centre(index))
-        } else {
-            self.place(index)
-                .along(share.millionths(), self.width().millionths(), STEP)
+            return Some(self.centre(index));
         }
+        let way = self.widths(share)?;
+        self.place_after(index, way)
     }
 }

@@ -5,11 +5,12 @@ ghost use Rattle.std.specs.Option.{option_map, option_copied, ok_or};
 ghost use Rattle.fixed_num.specs.Ranges.{in_range, is_within};
 ghost use Rattle.cell_value.specs.Cell.{same_cells};
 ghost use Rattle.scale_kit.specs.Scale.{IsScale, HasBands, HasRange, HasInverse, IsRange};
-ghost use Rattle.scale_kit.specs.Bands.{AreBands, place_of_band, place_on_band};
+ghost use Rattle.scale_kit.specs.Bands.{AreBands, place_of_band};
 ghost use Rattle.scale_kit.specs.Lines as lines;
 ghost use Rattle.scale_kit.specs.Places.{the_number, in_time, the_instant, domain_cells, domain_index, bands_of, entry_at};
 ghost use Rattle.scale_kit.specs.Places.{entry_number, exact_place_at};
-ghost use Rattle.scale_kit.specs.Places.{reached, reached_place, place_of, exact_band_place_at, place_in_band_of, band_width_of};
+ghost use Rattle.scale_kit.specs.Places.{reached, reached_place, place_of, reached_on_band, band_place_at, place_in_band_of};
+ghost use Rattle.scale_kit.specs.Places.{band_width_of};
 ghost use Rattle.scale_kit.specs.Places.{base_of, inverse_of, inverse_within};
 ghost use Rattle.scale_kit.specs.inner.Between.{IsBelow};
 
@@ -155,7 +156,7 @@ fn bands_of(s: &Scale) -> Option<Bands>
 fn share_answer(bands: &Bands, share: Num, index: Option<usize>) -> Result<Option<Num>, Overflow>
     requires bands { AreBands bands.now }
     requires there { IsBelow bands.now.count index }
-    ensures { result ≡ reached_place (option_map (λ k. place_on_band bands.now k share) index) }
+    ensures { result ≡ reached_on_band bands.now share index }
 {
     match index {
         Some(index) => placed(bands.place_on(index, share)),
@@ -210,7 +211,7 @@ pub fn place_in_band_at(
 ) -> Result<Option<Num>, Overflow>
     requires scale { IsScale s.now }
     requires there { IsBelow (length (domain_cells s.now)) index }
-    ensures { result ≡ reached_place (exact_band_place_at s.now v.now share index) }
+    ensures { result ≡ band_place_at s.now v.now share index }
 {
     match bands_of(s) {
         Some(bands) => share_answer(&bands, share, index),
@@ -228,7 +229,8 @@ pub fn place(s: &Scale, v: &Cell) -> Result<Option<Num>, Overflow>
 }
 
 /// The place of a cell on its band, `share` widths from its lesser end, its centre for one half; on a scale without bands the place of the
-/// cell. None exactly where the cell has no place, and an error exactly where the place is out of range.
+/// cell. None exactly where the cell has no place, and an error exactly where so many widths are out of range by themselves, or the place
+/// is.
 pub fn place_in_band(s: &Scale, v: &Cell, share: Num) -> Result<Option<Num>, Overflow>
     requires { IsScale s.now }
     ensures { result ≡ place_in_band_of s.now v.now share }

@@ -12,8 +12,8 @@ use Rattle.chart_io.proofs.Written.{flat_map_split}
 use Rattle.chart_io.specs.Outside.{Rose, Appended, AppendedPrefix}
 use Rattle.scene_tree.specs.declared.shape.Point.{Point}
 use Rattle.scene_tree.specs.declared.shape.Shape.{Shape}
-use Rattle.scene_tree.specs.declared.shape.Shape.TheVariants.{Line}
-use Rattle.svg_text.specs.SceneText.{point_text, path_text, fill_text, opacity_text}
+use Rattle.scene_tree.specs.declared.shape.Shape.TheVariants.{Words}
+use Rattle.svg_text.specs.SceneText.{point_text, path_text, stroke_text, opacity_text}
 use lib.Seq.{take-add}
 use Rattle.svg_text.specs.inner.Printing.{printed, Grown, HoldsFront, Prints}
 
@@ -296,9 +296,9 @@ module _ {S T E : Type 0} {faults : S → ℕ} {held : S → Option (List ℕ)} 
 
 -- ---- texts
 
-pub no_fill : (shape : Shape) → [] ≡ fill_text shape None None
-no_fill (Line x1 y1 x2 y2) = refl
-no_fill shape = refl
+pub no_stroke : (shape : Shape) (width : ℤ) → [] ≡ stroke_text shape None width
+no_stroke (Words x y turned anchor size bold text) width = refl
+no_stroke shape width = refl
 
 pub opaque : (m : ℤ) → m ≡ pos 1000000 → [] ≡ opacity_text m
 opaque m e = rw e refl

@@ -52,6 +52,12 @@ a_brush : item_text (item (Rect (pixels 0) (pixels 0) (pixels 50) (pixels 20)) (
 unfolding spelling size_spelling fraction_spelling fraction_digits digits chars encode
 a_brush = refl
 
+-- without a fill an item is written so, whether it has a stroke or not
+an_unpainted_rect : item_text (item (Rect (pixels 0) (pixels 0) (pixels 50) (pixels 20)) None None (pixels 1) (pixels 1))
+    ≡ line (codes "<rect x=\"0\" y=\"0\" width=\"50\" height=\"20\" fill=\"none\"/>")
+unfolding spelling size_spelling fraction_spelling fraction_digits digits chars encode
+an_unpainted_rect = refl
+
 a_tick : item_text (item (Line (neg_ℤ (pixels 5)) (pixels 80) (pixels 0) (pixels 80)) None (Some (codes "#888")) (pixels 1) (pixels 1))
     ≡ line (codes "<line x1=\"-5\" y1=\"80\" x2=\"0\" y2=\"80\" stroke=\"#888\" stroke-width=\"1\"/>")
 unfolding spelling size_spelling fraction_spelling fraction_digits digits chars encode
@@ -62,6 +68,12 @@ a_turned_title : item_text (words (neg_ℤ (pixels 17)) (pixels 40) true 11 (cod
     ++ codes " font-size=\"11\" font-weight=\"bold\" fill=\"#000\">b</text>")
 unfolding spelling size_spelling fraction_spelling fraction_digits digits chars encode
 a_turned_title = refl
+
+-- a text has no stroke, also where the item has one
+a_stroked_text : item_text (item (Words (pixels 50) (neg_ℤ (pixels 5)) false Middle 10 false (codes "u")) None (Some (codes "#000")) (pixels 2) (pixels 1))
+    ≡ line (codes "<text x=\"50\" y=\"-5\" text-anchor=\"middle\" font-size=\"10\" fill=\"none\">u</text>")
+unfolding spelling size_spelling fraction_spelling fraction_digits digits chars encode
+a_stroked_text = refl
 
 -- whole pictures
 

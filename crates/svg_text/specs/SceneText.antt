@@ -122,21 +122,21 @@ shape_text (Line x1 y1 x2 y2) = codes "line" ++ numeric_attribute (codes "x1") x
     ++ numeric_attribute (codes "x2") x2 ++ numeric_attribute (codes "y2") y2
 shape_text (Words x y turned anchor size bold text) = words_text x y turned anchor size bold
 
--- the fill, or `none` where there is only a stroke; a line has none
-abbrev pub fill_text : Shape → Option (List ℕ) → Option (List ℕ) → List ℕ
-fill_text (Line x1 y1 x2 y2) fill stroke = []
-fill_text shape (Some fill) stroke = attribute (codes "fill") (xml_text fill)
-fill_text shape None (Some stroke) = attribute (codes "fill") (codes "none")
-fill_text shape None None = []
+-- the fill, `none` where there is none; a line never has one
+abbrev pub fill_text : Shape → Option (List ℕ) → List ℕ
+fill_text (Line x1 y1 x2 y2) fill = []
+fill_text shape (Some fill) = attribute (codes "fill") (xml_text fill)
+fill_text shape None = attribute (codes "fill") (codes "none")
 
 -- a stroke with its width
 abbrev pub outline_text : List ℕ → ℤ → List ℕ
 outline_text stroke width = attribute (codes "stroke") (xml_text stroke) ++ numeric_attribute (codes "stroke-width") width
 
--- the stroke, if there is one
-abbrev pub stroke_text : Option (List ℕ) → ℤ → List ℕ
-stroke_text (Some stroke) width = outline_text stroke width
-stroke_text None width = []
+-- the stroke, if there is one; a text never has one
+abbrev pub stroke_text : Shape → Option (List ℕ) → ℤ → List ℕ
+stroke_text (Words x y turned anchor size bold text) stroke width = []
+stroke_text shape (Some stroke) width = outline_text stroke width
+stroke_text shape None width = []
 
 -- the opacity, unless it is 1
 abbrev pub opacity_text : ℤ → List ℕ
@@ -150,7 +150,8 @@ end_text shape = codes "/>\n"
 
 -- the colours of an item
 abbrev pub paint_text : Item → List ℕ
-paint_text item = fill_text item.shape item.fill item.stroke ++ stroke_text item.stroke item.stroke_width ++ opacity_text item.opacity
+paint_text item =
+    fill_text item.shape item.fill ++ stroke_text item.shape item.stroke item.stroke_width ++ opacity_text item.opacity
 
 -- an item is one line
 abbrev pub item_text : Item → List ℕ

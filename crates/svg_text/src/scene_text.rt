@@ -38,13 +38,12 @@ fn put_unfilled<K: Sink>(out: &mut K, page: &mut Page) -> Result<(), WriteFault>
 
 // The fill of the item.
 fn put_fill<K: Sink>(out: &mut K, page: &mut Page, item: &Item) -> Result<(), WriteFault>
-    ensures { Prints K.faults K.held out.old page.old out.new page.new result (fill_text item.now.shape item.now.fill item.now.stroke) }
+    ensures { Prints K.faults K.held out.old page.old out.new page.new result (fill_text item.now.shape item.now.fill) }
 {
-    match (&item.shape, &item.fill, &item.stroke) {
-        (Shape::Line { .. }, _, _) => Ok(()),
-        (_, Some(fill), _) => put_filled(out, page, fill.as_text()),
-        (_, None, Some(_)) => put_unfilled(out, page),
-        (_, None, None) => Ok(()),
+    match (&item.shape, &item.fill) {
+        (Shape::Line { .. }, _) => Ok(()),
+        (_, Some(fill)) => put_filled(out, page, fill.as_text()),
+        (_, None) => put_unfilled(out, page),
     }
 }
 
@@ -72,12 +71,14 @@ fn put_outline<K: Sink>(
 
 // The stroke of the item.
 fn put_stroke<K: Sink>(out: &mut K, page: &mut Page, item: &Item) -> Result<(), WriteFault>
-    ensures { Prints K.faults K.held out.old page.old out.new page.new result (stroke_text item.now.stroke item.now.stroke_width) }
+    ensures { Prints K.faults K.held out.old page.old out.new page.new result
+        (stroke_text item.now.shape item.now.stroke item.now.stroke_width) }
 {
-    let Some(stroke) = &item.stroke else {
-        return Ok(());
-    };
-    put_outline(out, page, stroke.as_text(), item.stroke_width)
+    match (&item.shape, &item.stroke) {
+        (Shape::Words { .. }, _) => Ok(()),
+        (_, Some(stroke)) => put_outline(out, page, stroke.as_text(), item.stroke_width),
+        (_, None) => Ok(()),
+    }
 }
 
 // The opacity.

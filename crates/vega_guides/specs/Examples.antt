@@ -220,5 +220,5 @@ of_shapes_and_sizes = record {
 }
 
 blocks_by_channel : option_map (map (λ (b : Block). b.height)) (legends_of two_colors (of_shapes_and_sizes ∷ a_legend ∷ []))
-    ≡ Some (pixels 43 ∷ pixels 28 ∷ pixels 0 ∷ [])
+    ≡ Some (pixels 43 ∷ pixels 28 ∷ pixels 44 ∷ [])
 blocks_by_channel = refl

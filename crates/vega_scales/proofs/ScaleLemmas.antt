@@ -1,17 +1,18 @@
 -- Why the numbers of a scale stay within their bounds.
 use Rattle.std.proofs.Common.{◌≡◌, ◌↔◌, ◌&&◌, ◌||◌, ◌==◌, if◌then◌else◌, not, Bool, true, false, ℤ, pos, Option, Some, None, List, [], ◌∷◌, length, IfSome, IsTrue}
-use Rattle.std.proofs.Common.{unwrap_or, refl, sym, ap, subst, arith}
+use Rattle.std.proofs.Common.{unwrap_or, reverse, refl, sym, ap, ◌∙◌, subst, arith}
 use Rattle.std.specs.Option.{option_map}
 use Rattle.cell_value.specs.declared.cell.Cell.{Cell}
 use Rattle.std.proofs.lemmas.Bool.Decides.{Decides-eqb}
 use Rattle.std.proofs.lemmas.Int.{ints}
+use Rattle.std.proofs.lemmas.List.{reverse-reverse}
 use Rattle.std.proofs.lemmas.Option.{same_Some}
 use Rattle.vega_spec.specs.declared.scales.Range.{Range}
 use Rattle.vega_spec.specs.declared.scales.Range.TheVariants.{Cells, Width, Height, Category, Ramp, Symbol}
 use Rattle.vega_spec.specs.declared.scales.Scale.{Scale}
 use Rattle.scale_kit.specs.Scale.{IsPadding, IsPixel, IsRange}
 use Rattle.vega_scales.specs.Ranges.{two_numbers, ends_in, turned, padding_of}
-use Rattle.vega_scales.specs.Entries.{entries_of, category_colors, symbol_shapes}
+use Rattle.vega_scales.specs.Entries.{entries_of, entries_turned, category_colors, symbol_shapes}
 use Rattle.vega_scales.specs.Scales.{is_discrete, is_ordinal, is_set, ends_of, given_ends, has_entries, fits_range, is_built, ordinal}
 use Rattle.vega_scales.specs.Scales.{KeepsBounds, band, point, between, domain_size, cells_of_scale, numbers_of_scale}
 use Rattle.vega_scales.specs.Laws.{LengthIsSize}
@@ -63,16 +64,25 @@ entries_fit s built e =
     subst (λ k. fits_range k s.range ≡ true) ((Decides-eqb s.type_ ordinal).0 e) (front (fits_range s.type_ s.range) _ built)
 
 -- only over no cells does such a range have no entries
-pub entries_there : (range : Range) (cells : List Cell) → IsTrue (has_entries range) → entries_of range (length cells) ≡ [] → cells ≡ []
+some_there : (range : Range) (cells : List Cell) → IsTrue (has_entries range) → entries_of range (length cells) ≡ [] → cells ≡ []
 unfolding category_colors symbol_shapes
-entries_there (Cells []) cells h e = cc
-entries_there (Cells (first ∷ others)) cells h e = cc
-entries_there Width cells h e = cc
-entries_there Height cells h e = cc
-entries_there Category cells h e = cc
-entries_there Ramp [] h e = refl
-entries_there Ramp (first ∷ others) h e = cc
-entries_there Symbol cells h e = cc
+some_there (Cells []) cells h e = cc
+some_there (Cells (first ∷ others)) cells h e = cc
+some_there Width cells h e = cc
+some_there Height cells h e = cc
+some_there Category cells h e = cc
+some_there Ramp [] h e = refl
+some_there Ramp (first ∷ others) h e = cc
+some_there Symbol cells h e = cc
+
+none_turned : (turned : Bool) (entries : List Cell) → entries_turned turned entries ≡ [] → entries ≡ []
+none_turned false entries e = e
+none_turned true entries e = sym (reverse-reverse entries) ∙ ap reverse e
+
+-- turned round or not
+pub entries_there : (turned : Bool) (range : Range) (cells : List Cell) → IsTrue (has_entries range)
+    → entries_turned turned (entries_of range (length cells)) ≡ [] → cells ≡ []
+entries_there turned range cells h e = some_there range cells h (none_turned turned (entries_of range (length cells)) e)
 
 -- a list has entries exactly where it isn't empty
 pub entries_or_none : (cells : List Cell) (b : Bool) → (IsTrue b ↔ (cells ≡ [])) → not b ≡ has_entries (Cells cells)

@@ -26,7 +26,7 @@ use Rattle.vega_lists.specs.Scopes.{Scope}
 use Rattle.vega_scales.specs.declared.counting.Counting.TheVariants.{Instants, ListedInstants}
 use Rattle.vega_scales.specs.Counting.{listed_instant, counted, extent_among, pair_in, cut_in_time, widened_as_asked}
 use Rattle.vega_scales.specs.Domains.{cells_of_domain, raw_domain, extent_of_domain, widened_domain, continuous_domain}
-use Rattle.vega_scales.specs.Scales.{is_time, is_set, numbers_of_scale}
+use Rattle.vega_scales.specs.Scales.{is_time, is_set, takes_zero, numbers_of_scale}
 use Rattle.vega_scales.specs.inner.Extents.{with_number, extent_behind}
 use Rattle.vega_scales.proofs.NumberLemmas.{extent_one_more}
 
@@ -169,4 +169,4 @@ pub numbers_in_time : (values : Values) (scope : Scope) (s : Scale) (ends : ℤ 
     → IsTrue (is_time s) → AreInstants ends
 numbers_in_time values scope s ends e h =
     subst (λ (o : Option (ℤ × ℤ)). IfSome o AreInstants) e
-    (domain_in_time values scope (is_time s) s.domain_raw (is_set s.zero) (is_set s.nice) s.domain h)
+    (domain_in_time values scope (is_time s) s.domain_raw (takes_zero s) (is_set s.nice) s.domain h)

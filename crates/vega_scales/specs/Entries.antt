@@ -1,5 +1,5 @@
 -- What ordinal scales and ramps range over: lists of colours and of signs, and the colours of a ramp.
-use Rattle.std.specs.Prelude.{◌≡◌, refl, ℕ, ◌-◌, nat_lt, Bool, pos, List, [], ◌∷◌, map, codes, if◌then◌else◌}
+use Rattle.std.specs.Prelude.{◌≡◌, refl, ℕ, ◌-◌, nat_lt, Bool, true, pos, List, [], ◌∷◌, map, reverse, codes, if◌then◌else◌}
 use Rattle.std.specs.List.{range_with_len}
 use Rattle.fixed_num.specs.Number.{rounded, floor_quotient}
 use Rattle.cell_value.specs.declared.cell.Cell.{Cell}
@@ -53,6 +53,10 @@ entries_of Category n = map Text category_colors
 entries_of Ramp n = ramp_entries n
 entries_of Symbol n = map Text symbol_shapes
 
+-- entries in their order, or the other way round where that is asked
+abbrev pub entries_turned : Bool → List Cell → List Cell
+entries_turned turned entries = if turned then reverse entries else entries
+
 -- The rules at work.
 
 a_list_as_it_is : entries_of (Cells (Null ∷ Text (codes "red") ∷ [])) 9 ≡ Null ∷ Text (codes "red") ∷ []
@@ -70,3 +74,11 @@ one_entry_is_the_first_color = refl
 three_entries : entries_of Ramp 3 ≡ Text (codes "#deebf7") ∷ Text (codes "#739eca") ∷ Text (codes "#08519c") ∷ []
 unfolding rounded floor_quotient
 three_entries = refl
+
+a_list_turned_round : entries_turned true (entries_of (Cells (Null ∷ Text (codes "red") ∷ [])) 9) ≡ Text (codes "red") ∷ Null ∷ []
+a_list_turned_round = refl
+
+shapes_turned_round : entries_turned true (entries_of Symbol 2)
+    ≡ Text (codes "diamond") ∷ Text (codes "triangle-up") ∷ Text (codes "square") ∷ Text (codes "circle") ∷ []
+unfolding symbol_shapes
+shapes_turned_round = refl

@@ -22,7 +22,7 @@ use Rattle.scale_kit.specs.Scale.{IsPadding, IsRange, AreInstants}
 use Rattle.vega_scales.specs.declared.scaled.Scaled.{Scaled}
 use Rattle.vega_scales.specs.declared.scaled.Scaled.TheVariants.{Cells, Between}
 use Rattle.vega_scales.specs.Domains.{discrete_domain, continuous_domain}
-use Rattle.vega_scales.specs.Entries.{entries_of, color_from, color_to, first_color, last_color}
+use Rattle.vega_scales.specs.Entries.{entries_of, entries_turned, color_from, color_to, first_color, last_color}
 use Rattle.vega_scales.specs.Ranges.{two_numbers, ends_in, turned, padding_of}
 
 -- the codes of the kinds of scales
@@ -57,6 +57,10 @@ is_time s = s.type_ == time
 abbrev pub is_set : Option Bool → Bool
 is_set flag = unwrap_or flag false
 
+-- whether the domain of a scale takes in 0: as the scale says; one that says nothing does where it is linear
+abbrev pub takes_zero : VegaScale → Bool
+takes_zero s = unwrap_or s.zero (s.type_ == linear)
+
 -- the ends of a scale's range in a plot of this width and height; 0 and 0 for a range that has none
 abbrev pub ends_of : VegaScale → ℤ → ℤ → ℤ × ℤ
 ends_of s width height = turned (is_set s.reverse) (unwrap_or (ends_in (is_discrete s) width height s.range) (pos 0, pos 0))
@@ -67,7 +71,7 @@ cells_of_scale values scope s = discrete_domain values scope s.domain
 
 -- the numbers between which the domain of a continuous scale runs
 abbrev pub numbers_of_scale : Values → Scope → VegaScale → Option (ℤ × ℤ)
-numbers_of_scale values scope s = continuous_domain values scope (is_time s) s.domain_raw (is_set s.zero) (is_set s.nice) s.domain
+numbers_of_scale values scope s = continuous_domain values scope (is_time s) s.domain_raw (takes_zero s) (is_set s.nice) s.domain
 
 -- a band or a point for each cell
 abbrev pub banded : VegaScale → ℤ × ℤ → List Cell → Scale
@@ -75,9 +79,9 @@ banded s ends cells =
     if s.type_ == band then Band cells (padding_of s.padding_inner s.padding) (padding_of s.padding_outer s.padding) ends.0 ends.1
     else Point cells (padding_of s.padding_outer s.padding) ends.0 ends.1
 
--- an entry of the range for each cell; turning the range round changes nothing
+-- an entry of the range for each cell, of the range turned round where that is asked
 abbrev pub ordinal_over : VegaScale → List Cell → Scale
-ordinal_over s cells = Ordinal cells (entries_of s.range (length cells))
+ordinal_over s cells = Ordinal cells (entries_turned (is_set s.reverse) (entries_of s.range (length cells)))
 
 -- whether a range is the one of a ramp
 abbrev pub is_ramp : Range → Bool
@@ -254,10 +258,23 @@ a_ramp_turned_round : (values : Values) → in_a_plot values (a_scale linear ran
 unfolding step_of spaced floored ceiled floor_quotient
 a_ramp_turned_round values = refl
 
-an_ordinal_scale : (values : Values) → in_a_plot values (a_scale ordinal range.Ramp (Some true))
+an_ordinal_scale : (values : Values) → in_a_plot values (a_scale ordinal range.Ramp None)
     ≡ Some (Ordinal (Null ∷ Number (whole 43) ∷ []) (Text (codes "#deebf7") ∷ Text (codes "#08519c") ∷ []))
 unfolding rounded floor_quotient
 an_ordinal_scale values = refl
+
+an_ordinal_scale_turned_round : (values : Values) → in_a_plot values (a_scale ordinal range.Ramp (Some true))
+    ≡ Some (Ordinal (Null ∷ Number (whole 43) ∷ []) (Text (codes "#08519c") ∷ Text (codes "#deebf7") ∷ []))
+unfolding rounded floor_quotient
+an_ordinal_scale_turned_round values = refl
+
+-- without a word on it a linear scale takes in 0, a ramp too, and one of time doesn't; a linear one that says no doesn't
+scales_and_zero : (takes_zero (record (a_scale linear range.Width None) { zero = None }) ≡ true)
+    × (takes_zero (record (a_scale linear range.Ramp None) { zero = None }) ≡ true)
+    × (takes_zero (record (a_scale time range.Width None) { zero = None }) ≡ false)
+    × (takes_zero (record (a_scale linear range.Width None) { zero = Some false }) ≡ false)
+    × (takes_zero (a_scale time range.Width None) ≡ true)
+scales_and_zero = (refl, refl, refl, refl, refl)
 
 ranges_that_do_not_fit : (is_built (a_scale ordinal range.Width None) ≡ false) × (is_built (a_scale band range.Ramp None) ≡ false)
     × (is_built (a_scale linear range.Category None) ≡ false) × (is_built (a_scale ordinal (range.Cells []) None) ≡ false)

@@ -10,11 +10,11 @@ ghost use Rattle.vega_scales.specs.Domains.{cells_in, reference_of, cells_referr
 ghost use Rattle.vega_scales.specs.Domains.{cells_of_domain, counting_in, raw_domain, extent_of_domain, widened_domain};
 ghost use Rattle.vega_scales.specs.Counting.{extent_among, widened_as_asked};
 ghost use Rattle.vega_scales.specs.Orders.{in_direction, by_operation};
-ghost use Rattle.vega_scales.specs.Scales.{is_set, is_time, numbers_of_scale};
+ghost use Rattle.vega_scales.specs.Scales.{is_set, is_time, takes_zero, numbers_of_scale};
 
 use crate::counting::{Counting, extent_among, numbers_or_instants, pair_in};
 use crate::evaluation::eval_alone;
-use crate::scales::{is_set, is_time};
+use crate::scales::{is_set, is_time, takes_zero};
 use crate::widening::widened_as_asked;
 use crate::{cells, columns, orders};
 use cell_value::Cell;
@@ -248,10 +248,10 @@ fn extent_of_domain<L: ListReader, P: ParamReader>(
 // A domain widened as a scale asks.
 fn widened(scale: &Scale, ends: (Num, Num)) -> Option<(Num, Num)>
     requires { ends.0 ≤ℤ ends.1 }
-    ensures value { result ≡ widened_as_asked (is_time scale.now) (is_set scale.now.zero) (is_set scale.now.nice) ends }
+    ensures value { result ≡ widened_as_asked (is_time scale.now) (takes_zero scale.now) (is_set scale.now.nice) ends }
     ensures ordered { IfSome result (λ ends. ends.0 ≤ℤ ends.1) }
 {
-    widened_as_asked(is_time(scale), is_set(scale.zero), is_set(scale.nice), ends)
+    widened_as_asked(is_time(scale), takes_zero(scale), is_set(scale.nice), ends)
 }
 
 // The domain that the cells of a domain give.
@@ -263,7 +263,7 @@ fn widened_domain<L: ListReader, P: ParamReader>(
 ) -> Result<(Num, Num), EvalError>
     requires { AreAllRows (L.named lists.now) }
     ensures value { Evaluates result (widened_domain (P.values params.now) (scope_read (L.named lists.now)) (is_time scale.now)
-        (is_set scale.now.zero) (is_set scale.now.nice) scale.now.domain) }
+        (takes_zero scale.now) (is_set scale.now.nice) scale.now.domain) }
     ensures ordered { IfOk result (λ ends. ends.0 ≤ℤ ends.1) }
 {
     let ends = extent_of_domain(alloc, scale, lists, params)?;

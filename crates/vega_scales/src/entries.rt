@@ -1,8 +1,8 @@
 // What ordinal scales and ramps range over.
-ghost use Rattle.std.specs.Prelude.{◌≡◌, map, IfOk};
+ghost use Rattle.std.specs.Prelude.{◌≡◌, map, reverse, IfOk};
 ghost use Rattle.cell_value.specs.declared.cell.Cell.TheVariants.{Text as TextCell};
 ghost use Rattle.vega_scales.specs.Entries.{category_colors, symbol_shapes, color_from, color_to, steps_among};
-ghost use Rattle.vega_scales.specs.Entries.{ramp_entry, ramp_entries, entries_of};
+ghost use Rattle.vega_scales.specs.Entries.{ramp_entry, ramp_entries, entries_of, entries_turned};
 
 use crate::numbers::{millionths, zero};
 use cell_value::Cell;
@@ -110,4 +110,20 @@ pub(crate) fn entries_of(alloc: Global, range: &Range, n: usize) -> Result<Seq<C
         Range::Ramp => ramp_entries(alloc, n),
         Range::Symbol => symbol(alloc),
     }
+}
+
+// Entries from the last to the first.
+fn reversed(entries: Seq<Cell>) -> Seq<Cell>
+    ensures { result ≡ reverse entries }
+{
+    let mut entries = entries.into_vec();
+    entries.reverse();
+    Seq::from_vec(entries)
+}
+
+/// Entries in their order, or the other way round where that is asked.
+pub(crate) fn entries_turned(turned: bool, entries: Seq<Cell>) -> Seq<Cell>
+    ensures { result ≡ entries_turned turned entries }
+{
+    if turned { reversed(entries) } else { entries }
 }

@@ -5,13 +5,13 @@ ghost use Rattle.expr_eval.specs.Answers.{Evaluates};
 ghost use Rattle.vega_lists.specs.Held.{scope_read, AreAllRows};
 ghost use Rattle.scale_kit.specs.Scale.{IsPixel, IsRange, IsScale, AreInstants};
 ghost use Rattle.vega_scales.specs.declared.scaled.Scaled.TheVariants as scaled;
-ghost use Rattle.vega_scales.specs.Scales.{is_discrete, is_ordinal, is_time, is_set, ends_of, banded, ordinal_over, over_numbers};
+ghost use Rattle.vega_scales.specs.Scales.{is_discrete, is_ordinal, is_time, is_set, takes_zero, ends_of, banded, ordinal_over, over_numbers};
 ghost use Rattle.vega_scales.specs.Scales.{numbers_of_scale, between, domain_of, scale_over, scale_of, domain_length, FitsScale};
 ghost use Rattle.vega_scales.specs.Scales.{is_order_built, is_domain_built, has_ends};
 ghost use Rattle.vega_scales.specs.Scales.{has_entries, is_ramp, fits_range, is_built, KeepsBounds};
 
 use crate::domains::{continuous_domain, discrete_domain};
-use crate::entries::{color_from, color_to, entries_of};
+use crate::entries::{color_from, color_to, entries_of, entries_turned};
 use crate::numbers::zero;
 use crate::ranges::{ends_in, padding_of, turned};
 use crate::scaled::Scaled;
@@ -61,6 +61,13 @@ pub(crate) fn is_set(flag: Option<bool>) -> bool
     ensures { result ≡ is_set flag }
 {
     flag.unwrap_or(false)
+}
+
+/// Whether the domain of a scale takes in 0.
+pub(crate) fn takes_zero(scale: &vega_spec::Scale) -> bool
+    ensures { result ≡ takes_zero scale.now }
+{
+    scale.zero.unwrap_or(scale.type_ == LINEAR)
 }
 
 /// How many of the operations, from the first, are aggregates.
@@ -175,7 +182,7 @@ fn banded(scale: &vega_spec::Scale, ends: (Num, Num), cells: Seq<Cell>) -> Scale
     }
 }
 
-// An entry of the range for each cell.
+// An entry of the range for each cell, of the range turned round where that is asked.
 #[tactic(auto, using(crate::proofs::ScaleLemmas::entries_there))]
 fn ordinal_over(
     alloc: Global,
@@ -185,10 +192,10 @@ fn ordinal_over(
     ensures value { IfOk result (λ made. made ≡ ordinal_over scale.now cells) }
     ensures kept { IsTrue (has_entries scale.now.range) → IfOk result IsScale }
 {
-    let range = entries_of(alloc, &scale.range, cells.len())?;
+    let entries = entries_of(alloc, &scale.range, cells.len())?;
     Ok(Scale::Ordinal {
         domain: cells,
-        range,
+        range: entries_turned(is_set(scale.reverse), entries),
     })
 }
 

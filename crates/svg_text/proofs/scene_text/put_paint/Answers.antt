@@ -6,8 +6,8 @@ use Rattle.svg_text.proofs.scene_text.put_paint.Goals as goal
 
 pub returns-in_err-put_fill : goal.returns-in_err-put_fill
 returns-in_err-put_fill g c = let item =
-    c.args.item.now in prints_begun (stroke_text item.stroke item.stroke_width ++ opacity_text item.opacity) _
-    (sym (append_assoc _ (stroke_text item.stroke item.stroke_width) (opacity_text item.opacity))) c.from_residual.ensures.0
+    c.args.item.now in prints_begun (stroke_text item.shape item.stroke item.stroke_width ++ opacity_text item.opacity) _
+    (sym (append_assoc _ (stroke_text item.shape item.stroke item.stroke_width) (opacity_text item.opacity))) c.from_residual.ensures.0
     c.in_err-put_fill.ensures
 
 pub returns-in_err-put_stroke : goal.returns-in_err-put_stroke

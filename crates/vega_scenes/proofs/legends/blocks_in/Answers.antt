@@ -1,5 +1,5 @@
 use Rattle.vega_scenes.specs.Legends.{block_shown}
-use Rattle.vega_scenes.proofs.BlockLemmas.{begun, stopped}
+use Rattle.guide_kit.proofs.AllLemmas.{begun, stopped}
 use Rattle.vega_scenes.proofs.legends.blocks_in.Goals as goal
 
 pub loop-shown-init : goal.loop-shown-init

@@ -1,4 +1,4 @@
--- Blocks of legends, one after the other.
+-- What is found for each of a list, one after the other.
 use Rattle.std.proofs.Common.{◌≡◌, ℕ, ◌+◌, ◌<◌, List, [], ◌∷◌, ◌++◌, map, length, drop, get_or, Option, Some, None, Err, refl, sym, ap, ◌∙◌}
 use Rattle.std.proofs.lemmas.List.{drop_more}
 use Rattle.fixed_num.specs.Ranges.{◌>>=◌, all_found}
