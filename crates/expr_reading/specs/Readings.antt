@@ -1,5 +1,5 @@
--- What texts read as, as functions of them. Whether a text reads as a tree, or spells a call, is decided by proofs about the grammar; the
--- laws say what the functions give.
+-- What texts read as, as functions of them. Whether a text reads as a tree, or spells a call, is decided by proofs about the grammar, of which
+-- nothing has to be believed: the laws `ExpressionOfIsReading` and `CallOfIsSpelled` tie each function to the grammar, and leave it no choice.
 use Rattle.std.specs.Prelude.{ℕ, List, Option, Some, None}
 use Rattle.std.proofs.Common.{inl, inr}
 use Rattle.expr_syntax.specs.declared.expr.Expr.{Expr}

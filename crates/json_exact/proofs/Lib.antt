@@ -12,6 +12,7 @@ pub mod Loop
 pub mod Sound
 pub mod Whole
 pub mod ValueReaders
+pub mod Answered
 pub mod Causal
 pub mod Reach
 pub mod Behind

@@ -25,7 +25,8 @@ AreValuesOf bytes (Ok values) = (tree : Json) × Reads bytes tree × (values_of 
 AreValuesOf bytes (Err place) = ((tree : Json) → Reads bytes tree → ⊥) × FaultsAt bytes place
 
 -- The values that are still to come of a reader, or the place of a fault that comes before their end. What a reader begins with and
--- how it goes on, from call to call, is all that there is to know of it.
+-- how it goes on, from call to call, is all that there is to know of it: `AnswersAreTheValues` says that its answers are then right,
+-- and of these it speaks by `Reads` and `FaultsAt` alone.
 abbrev pub ahead : ValueReader → Result (List Json) ℕ
 ahead reader = placed reader.size (left_ahead reader.stage reader.most reader.rest.now)
 
@@ -45,6 +46,23 @@ IsNext given (Err errors.Memory) = Unit {0}
 abbrev pub IsFewer : ℕ → Option (Json × ValueReader) → Type 0
 IsFewer most (Some (value, others)) = most_ahead others < most
 IsFewer most None = Unit {0}
+
+-- From call to call a reader answers these values, and then that there are no more, or a fault at a place.
+abbrev pub Answers : ValueReader → List Json → Option ℕ → Type 0
+Answers reader [] None = IsNext (ahead reader) (Ok None)
+Answers reader [] (Some place) = IsNext (ahead reader) (Err (errors.Fault place))
+Answers reader (value ∷ values) end = (others : ValueReader) × IsNext (ahead reader) (Ok (Some (value, others))) × Answers others values end
+
+-- what such answers come to
+abbrev pub come_to : List Json → Option ℕ → Result (List Json) ℕ
+come_to values None = Ok values
+come_to values (Some place) = Err place
+
+-- All that a reader of the bytes answers is right: its values are those of the tree that the bytes spell, where no fault ends them, and
+-- a fault says where the bytes spell none.
+abbrev pub AnswersAreTheValues : Type 0
+AnswersAreTheValues = (bytes : List ℕ) (reader : ValueReader) (values : List Json) (end : Option ℕ)
+    → AreValuesOf bytes (ahead reader) → Answers reader values end → AreValuesOf bytes (come_to values end)
 
 -- The rules at work.
 

@@ -20,5 +20,5 @@ pub use json::{Json, Member};
 pub use path::at_path;
 pub use reading::{one_reading, read};
 pub use spec_error::{SpecError, SpecKind};
-pub use value_reader::ValueReader;
+pub use value_reader::{ValueReader, answers_are_the_values};
 pub use writing::{what_was_written_is_read, write};

@@ -3,7 +3,7 @@
 ghost use Rattle.std.specs.Prelude.{IfOk};
 ghost use Rattle.text_kit.specs.Answer.{GivesAs};
 ghost use Rattle.std.specs.Option.{option_map};
-ghost use Rattle.json_exact.specs.Values.{AreValuesOf, IsNext, IsFewer, ahead, most_ahead};
+ghost use Rattle.json_exact.specs.Values.{AreValuesOf, AnswersAreTheValues, IsNext, IsFewer, ahead, most_ahead};
 ghost use Rattle.json_exact.specs.inner.Reader.{cause};
 ghost use Rattle.json_exact.specs.inner.Ahead.{item_then, step_at};
 
@@ -123,3 +123,8 @@ impl<'a> ValueReader<'a> {
         }
     }
 }
+
+/// What a reader answers from call to call, up to its end or a fault, is right by what the text spells, whatever is told to be ahead of it.
+pub fn answers_are_the_values()
+    ensures { AnswersAreTheValues }
+{}

@@ -7,7 +7,7 @@ use Rattle.vega_parts.specs.declared.around.Around.{Around}
 use Rattle.vega_parts.specs.declared.updates.Change.TheVariants.{Point, Toggle, Clear, Interval}
 use Rattle.vega_parts.specs.declared.part.ScaleType.TheVariants as type
 use Rattle.vega_parts.specs.Trails.{Trail, place_of, child, object_round, scope_of, is_plot, is_faceted, is_in_plot}
-use Rattle.vega_parts.specs.Lengths.{go_together}
+use Rattle.vega_parts.specs.Lengths.{go_together, text_count}
 use Rattle.vega_parts.specs.Data.{is_far}
 use Rattle.vega_parts.specs.Updates.{change_named, takes, channels_fit, mix, same_fields, are_clicks, is_of}
 use Rattle.vega_parts.specs.Scales.{type_named}
@@ -92,6 +92,12 @@ two_lists_of_other_lengths a b = refl
 
 a_number_is_no_matter : go_together level.Huge (level.List []) ≡ true
 a_number_is_no_matter = refl
+
+a_text_counts_as_one : text_count (level.Text (codes "a")) ≡ Some 1
+a_text_counts_as_one = refl
+
+as_a_list_of_one_does : (a : Json) → text_count (level.List (a ∷ [])) ≡ Some 1
+as_a_list_of_one_does a = refl
 
 a_far_file : is_far (codes "http://h/a.csv") ≡ true
 a_far_file = refl

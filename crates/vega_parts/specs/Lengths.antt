@@ -1,6 +1,6 @@
 -- Texts and lists that go together.
-use Rattle.std.specs.Prelude.{ℕ, ◌==◌, Bool, true, false, if◌then◌else◌, List, [], ◌∷◌, length, codes}
-use Rattle.std.specs.Option.{option_map_or}
+use Rattle.std.specs.Prelude.{ℕ, ◌==◌, Bool, true, false, if◌then◌else◌, Option, Some, None, List, [], ◌∷◌, length, codes}
+use Rattle.std.specs.Option.{option_map, option_map_or, option_and_then}
 use Rattle.json_exact.specs.declared.json.Json.{Json, out-Json}
 use Rattle.json_exact.specs.declared.json.Json.TheOpen as level
 use Rattle.json_exact.specs.declared.spec_error.SpecKind.TheVariants.{Wrong}
@@ -45,6 +45,18 @@ abbrev pub apart : List ℕ → List ℕ → Trail → Json → List Part
 apart name other trail tree = option_map_or (λ (m : ℕ × Json).
     option_map_or (λ (n : ℕ × Json). unlike trail m.0 m.1 n.1) (member_at other tree) []) (member_at name tree) []
 
--- an order goes with a field that is a text, and a list of orders with a list of as many fields
+-- how many texts a value gives: a text counts as a list of one, and a value of another form is no matter here
+abbrev pub text_count : Opened → Option ℕ
+text_count (level.Text t) = Some 1
+text_count (level.List items) = Some (length items)
+text_count other = None
+
+-- the same of a member, with its number
+abbrev pub text_count_at : List ℕ → Json → Option (ℕ × ℕ)
+text_count_at name tree =
+    option_and_then (λ (m : ℕ × Json). option_map (λ count. (m.0, count)) (text_count (out-Json m.1))) (member_at name tree)
+
+-- a sort has as many orders as fields: it is the order that is a fault
 abbrev pub sort_parts : Trail → Json → List Part
-sort_parts = apart (codes "order") (codes "field")
+sort_parts trail tree = option_map_or (λ (m : ℕ × ℕ).
+    option_map_or (λ (n : ℕ × ℕ). unequal trail m.0 m.1 n.1) (text_count_at (codes "field") tree) []) (text_count_at (codes "order") tree) []

@@ -1,7 +1,8 @@
 //! Texts and lists that go together.
 ghost use Rattle.std.specs.Prelude.{◌≡◌, ◌++◌, reverse, OnOk};
 ghost use Rattle.json_exact.specs.declared.json.Json.{out-Json};
-ghost use Rattle.vega_parts.specs.Lengths.{unequal, other_length, goes_with_text, goes_with_list, go_together, unlike, apart, sort_parts};
+ghost use Rattle.vega_parts.specs.Lengths.{unequal, other_length, goes_with_text, goes_with_list, go_together, unlike, apart};
+ghost use Rattle.vega_parts.specs.Lengths.{text_count, text_count_at, sort_parts};
 
 use crate::around::{Around, child};
 use crate::members::{items_at, member_at};
@@ -122,7 +123,27 @@ pub fn push_apart(
     }
 }
 
-/// Adds the fault that an order doesn't go with its field.
+// How many texts a value gives: a text counts as a list of one.
+fn text_count(tree: &Json) -> Option<usize>
+    ensures { result ≡ text_count (out-Json tree.now) }
+{
+    match tree {
+        Json::Text(_) => Some(1),
+        Json::List(items) => Some(items.len()),
+        Json::Null | Json::Flag(_) | Json::Number(_) | Json::Huge | Json::Object(_) => None,
+    }
+}
+
+// The same of a member, with its number.
+fn text_count_at(tree: &Json, name: &str) -> Option<(usize, usize)>
+    ensures { result ≡ text_count_at name.now tree.now }
+{
+    let (number, value) = member_at(tree, name)?;
+    let count = text_count(value)?;
+    Some((number, count))
+}
+
+/// Adds the fault that a sort hasn't as many orders as fields, at the order.
 pub fn push_sort_parts(
     alloc: Global,
     trail: &[Around],
@@ -131,5 +152,11 @@ pub fn push_sort_parts(
 ) -> Result<(), OutOfMemory>
     ensures { OnOk result (out.new ≡ out.old ++ sort_parts (reverse trail.now) tree.now) }
 {
-    push_apart(alloc, "order", "field", trail, tree, out)
+    match text_count_at(tree, "order") {
+        Some((number, count)) => match text_count_at(tree, "field") {
+            Some((_, fields)) => push_unequal(alloc, trail, number, count, fields, out),
+            None => Ok(()),
+        },
+        None => Ok(()),
+    }
 }

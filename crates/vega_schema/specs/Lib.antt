@@ -12,3 +12,4 @@ pub mod Marks
 pub mod Channels
 pub mod Sizes
 pub mod Schema
+pub mod Codes

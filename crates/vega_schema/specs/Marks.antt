@@ -3,8 +3,8 @@ use Rattle.std.specs.Prelude.{None, List, [], ◌∷◌, codes}
 use Rattle.spec_schema.specs.declared.layout.Layout.{Layout}
 use Rattle.spec_schema.specs.declared.layout.Test.TheVariants.{Has, Lacks}
 use Rattle.spec_schema.specs.Tables.{must, may}
-use Rattle.vega_schema.specs.declared.codes.TheConstants.{CHANNELS, CROSS, ENCODE, FACET, FLAG, FREE, GROUP_FROM, HEADERS, MARK, MARK_FROM}
-use Rattle.vega_schema.specs.declared.codes.TheConstants.{NOTHING, TEXT, TEXTS, TEXT_OR_TEXTS}
+use Rattle.vega_schema.specs.declared.codes.TheConstants.{CHANNELS, CROSS, ENCODE, FACET, FLAG, GROUP_FROM, HEADERS, MARK, MARK_FROM}
+use Rattle.vega_schema.specs.declared.codes.TheConstants.{NOTHING, SORT, TEXT, TEXTS, TEXT_OR_TEXTS}
 
 -- where the rows of a mark come from
 unfoldable pub mark_from : Layout
@@ -62,16 +62,14 @@ encode = record {
   others = None;
 }
 
--- a mark of no known type: its type is missing or wrong, and it may have each member that some mark has
+-- a mark of no known type: its type is missing or wrong, and it has the members of a mark other than a group
 unfoldable pub no_mark : Layout
 no_mark = record {
   object = MARK;
   when = [];
   rules =
-      must (codes "type") NOTHING ∷ may (codes "name") FREE ∷ may (codes "from") FREE ∷
-      may (codes "encode") FREE ∷ may (codes "sort") FREE ∷ may (codes "data") FREE ∷ may (codes "signals") FREE ∷
-      may (codes "scales") FREE ∷ may (codes "layout") FREE ∷ may (codes "marks") FREE ∷ may (codes "axes") FREE ∷
-      may (codes "legends") FREE ∷ may (codes "title") FREE ∷
+      must (codes "type") NOTHING ∷ may (codes "name") TEXT ∷ must (codes "from") MARK_FROM ∷
+      may (codes "encode") ENCODE ∷ may (codes "sort") SORT ∷
       [];
   others = None;
 }

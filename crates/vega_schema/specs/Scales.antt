@@ -3,7 +3,7 @@ use Rattle.std.specs.Prelude.{None, List, [], ◌∷◌, codes}
 use Rattle.spec_schema.specs.declared.layout.Layout.{Layout}
 use Rattle.spec_schema.specs.declared.layout.Test.TheVariants.{Says}
 use Rattle.spec_schema.specs.Tables.{must, may}
-use Rattle.vega_schema.specs.declared.codes.TheConstants.{CONTINUOUS_RANGE, DISCRETE_RANGE, EXPRESSION_SIGNAL, FLAG, FREE, NOTHING}
+use Rattle.vega_schema.specs.declared.codes.TheConstants.{ANY_RANGE, CONTINUOUS_RANGE, DISCRETE_RANGE, EXPRESSION_SIGNAL, FLAG, NOTHING}
 use Rattle.vega_schema.specs.declared.codes.TheConstants.{ORDINAL_RANGE, SCALE, SCALE_DOMAIN, SHARE, TEXT}
 
 -- a scale of the type `linear`
@@ -76,16 +76,16 @@ ordinal_scale = record {
   others = None;
 }
 
--- a scale of no known type: its type is missing or wrong
+-- a scale of no known type: its type is missing or wrong, and its range is that of some scale
 unfoldable pub no_scale : Layout
 no_scale = record {
   object = SCALE;
   when = [];
   rules =
-      must (codes "name") TEXT ∷ must (codes "type") NOTHING ∷ must (codes "domain") FREE ∷
-      may (codes "domainRaw") FREE ∷ must (codes "range") FREE ∷ may (codes "zero") FREE ∷
-      may (codes "nice") FREE ∷ may (codes "reverse") FREE ∷ may (codes "padding") FREE ∷
-      may (codes "paddingInner") FREE ∷ may (codes "paddingOuter") FREE ∷
+      must (codes "name") TEXT ∷ must (codes "type") NOTHING ∷ must (codes "domain") SCALE_DOMAIN ∷
+      may (codes "domainRaw") EXPRESSION_SIGNAL ∷ must (codes "range") ANY_RANGE ∷ may (codes "zero") FLAG ∷
+      may (codes "nice") FLAG ∷ may (codes "reverse") FLAG ∷ may (codes "padding") SHARE ∷
+      may (codes "paddingInner") SHARE ∷ may (codes "paddingOuter") SHARE ∷
       [];
   others = None;
 }

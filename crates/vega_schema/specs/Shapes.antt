@@ -1,9 +1,10 @@
 -- The forms of each shape.
-use Rattle.std.specs.Prelude.{ℕ, pos, negsuc, List, [], ◌∷◌, ◌++◌}
+use Rattle.std.specs.Prelude.{ℕ, ℤ, pos, negsuc, neg_ℤ, List, [], ◌∷◌, ◌++◌}
+use Rattle.fixed_num.specs.Number.{limit}
 use Rattle.spec_schema.specs.declared.form.Form.{Form}
 use Rattle.spec_schema.specs.declared.form.Form.TheVariants as form
 use Rattle.spec_schema.specs.declared.form.Shape.{Shape}
-use Rattle.vega_schema.specs.declared.codes.TheConstants.{ANGLE, AUTOSIZE, AUTOSIZE_NAMES, AXES, AXIS, BOUND, CELL, CELLS, CHANNEL, CHANNELS, CONTINUOUS_NAMES, CONTINUOUS_RANGE, COUNT, CROSS, DATA, DATA_LIST, DISCRETE_NAMES, DISCRETE_RANGE, DOMAIN, DOMAIN_ORDER, DOMAIN_SORT, EDGE, EDGE_NAMES, ENCODE, EVENTS, EVENT_NAMES, EXPRESSION, EXPRESSION_SIGNAL, EXTENT, EXTENT_SIGNAL, FACET, FLAG, FORMAT, FORMAT_NAMES, FORMAT_TYPE, FRAME, FREE, GROUP_CHANNELS, GROUP_ENCODE, GROUP_FROM, HEADER, HEADERS, HEADER_NAMES, LABEL_FORMAT, LAYOUT, LEAST, LEGEND, LEGENDS, MARK, MARKS, MARK_FROM, MOST, NUMBER, OFFSET, OFFSET_NAMES, ON, ONE_TEXT, ON_LIST, OPERATION, OPERATIONS, OPERATION_NAMES, ORDER, ORDERS, ORDER_NAMES, ORDINAL_NAMES, ORDINAL_RANGE, PARAMETER, PARAMETERS, PARSE, PARSE_KIND, PARSE_NAMES, RANGE_ITEM, RANGE_NUMBER, REFERENCE, REFERENCES, SCALE, SCALES, SCALE_DOMAIN, SHARE, SIDE, SIDE_NAMES, SIGNAL, SIGNALS, SIZE, SIZE_CHANNEL, SIZE_EXPRESSION, SIZE_SIGNAL, SIZE_VALUE, SORT, SPACE, STEP, TEXT, TEXTS, TEXTS_OR_NULLS, TEXT_OR_NULL, TEXT_OR_TEXTS, TICK_COUNT, TIME_UNIT, TOP, TRANSFORM, TRANSFORMS, TWO_TEXTS, UNIT_NAMES, VALUE, WINDOW_NAMES, WINDOW_OPERATION, WINDOW_OPERATIONS, WORDS_CHANNEL, WORDS_VALUE}
+use Rattle.vega_schema.specs.declared.codes.TheConstants.{ANGLE, ANY_RANGE, AUTOSIZE, AUTOSIZE_NAMES, AXES, AXIS, BOUND, CELL, CELLS, CHANNEL, CHANNELS, CONTINUOUS_NAMES, CONTINUOUS_RANGE, COUNT, CROSS, DATA, DATA_LIST, DISCRETE_NAMES, DISCRETE_RANGE, DOMAIN, DOMAIN_ORDER, DOMAIN_SORT, EDGE, EDGE_NAMES, ENCODE, EVENTS, EVENT_NAMES, EXPRESSION, EXPRESSION_SIGNAL, EXTENT, EXTENT_SIGNAL, FACET, FLAG, FORMAT, FORMAT_NAMES, FORMAT_TYPE, FRAME, FREE, GROUP_CHANNELS, GROUP_ENCODE, GROUP_FROM, HEADER, HEADERS, HEADER_NAMES, LABEL_FORMAT, LAYOUT, LEGEND, LEGENDS, MARK, MARKS, MARK_FROM, NUMBER, OFFSET, OFFSET_NAMES, ON, ONE_TEXT, ON_LIST, OPERATION, OPERATIONS, OPERATION_NAMES, ORDER, ORDERS, ORDER_NAMES, ORDINAL_NAMES, ORDINAL_RANGE, PARAMETER, PARAMETERS, PARSE, PARSE_KIND, PARSE_NAMES, RANGE_ITEM, RANGE_NAMES, RANGE_NUMBER, REFERENCE, REFERENCES, SCALE, SCALES, SCALE_DOMAIN, SHARE, SIDE, SIDE_NAMES, SIGNAL, SIGNALS, SIZE, SIZE_CHANNEL, SIZE_EXPRESSION, SIZE_SIGNAL, SIZE_VALUE, SORT, SPACE, STEP, TEXT, TEXTS, TEXTS_OR_NULLS, TEXT_OR_NULL, TEXT_OR_TEXTS, TICK_COUNT, TIME_UNIT, TOP, TRANSFORM, TRANSFORMS, TWO_TEXTS, UNIT_NAMES, VALUE, WINDOW_NAMES, WINDOW_OPERATION, WINDOW_OPERATIONS, WORDS_CHANNEL, WORDS_VALUE}
 
 -- a form of the shape of this code
 abbrev pub shape : ℕ → Form → Shape
@@ -12,6 +13,13 @@ shape code form = record { code = code; form = form }
 -- the greatest length of a list
 abbrev pub MAX_LENGTH : ℕ
 MAX_LENGTH = 18446744073709551615
+
+-- the least and the greatest number in range
+abbrev pub least_number : ℤ
+least_number = neg_ℤ (pos limit)
+
+abbrev pub most_number : ℤ
+most_number = pos limit
 
 -- values that hold no others
 unfoldable pub leaves : List Shape
@@ -23,7 +31,7 @@ leaves =
     shape LABEL_FORMAT form.Text ∷
     shape FLAG form.Flag ∷
     shape CELL form.Cell ∷
-    shape NUMBER (form.Number LEAST MOST) ∷
+    shape NUMBER (form.Number least_number most_number) ∷
     shape SPACE (form.Number (pos 0) (pos 1000000000)) ∷
     shape SHARE (form.Number (pos 0) (pos 1000000)) ∷
     shape COUNT (form.Whole (pos 1000000) (pos 1000000000)) ∷
@@ -31,10 +39,10 @@ leaves =
     shape ANGLE (form.Number (pos 0) (pos 0)) ∷
     shape ANGLE (form.Number (negsuc 89999999) (negsuc 89999999)) ∷
     shape ANGLE (form.Number (pos 270000000) (pos 270000000)) ∷
-    shape STEP (form.Number (pos 1) MOST) ∷
-    shape PARAMETER (form.Whole (pos 0) MOST) ∷
+    shape STEP (form.Number (pos 1) most_number) ∷
+    shape PARAMETER (form.Whole (pos 0) most_number) ∷
     shape PARAMETER form.Null ∷
-    shape BOUND (form.Whole LEAST MOST) ∷
+    shape BOUND (form.Whole least_number most_number) ∷
     shape BOUND form.Null ∷
     shape RANGE_NUMBER (form.Number (pos 0) (pos 1000000000000)) ∷
     shape SIZE (form.Number (pos 1) (pos 10000000000)) ∷
@@ -63,6 +71,8 @@ named =
     shape DISCRETE_RANGE (form.Name DISCRETE_NAMES) ∷
     shape ORDINAL_RANGE (form.List 1 MAX_LENGTH RANGE_ITEM) ∷
     shape ORDINAL_RANGE (form.Name ORDINAL_NAMES) ∷
+    shape ANY_RANGE (form.List 1 MAX_LENGTH RANGE_ITEM) ∷
+    shape ANY_RANGE (form.Name RANGE_NAMES) ∷
     shape RANGE_ITEM form.Null ∷
     shape RANGE_ITEM form.Flag ∷
     shape RANGE_ITEM (form.Number (pos 0) (pos 1000000000000)) ∷

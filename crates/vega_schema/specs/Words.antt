@@ -101,6 +101,12 @@ edge_names =
     codes "last-row" ∷ codes "first-column" ∷
     []
 
+-- the ranges of scales of any type
+unfoldable pub range_names : List (List ℕ)
+range_names =
+    codes "width" ∷ codes "height" ∷ codes "ramp" ∷ codes "category" ∷ codes "symbol" ∷
+    []
+
 -- three of them
 abbrev pub data_words : List (List (List ℕ))
 data_words = autosize_names ∷ format_names ∷ parse_names ∷ []
@@ -117,9 +123,9 @@ order_words = offset_names ∷ order_names ∷ continuous_names ∷ []
 abbrev pub scale_words : List (List (List ℕ))
 scale_words = discrete_names ∷ ordinal_names ∷ event_names ∷ []
 
--- three of them
+-- four of them
 abbrev pub side_words : List (List (List ℕ))
-side_words = header_names ∷ side_names ∷ edge_names ∷ []
+side_words = header_names ∷ side_names ∷ edge_names ∷ range_names ∷ []
 
 -- all of them
 abbrev pub words : List (List (List ℕ))

@@ -279,6 +279,9 @@ pub const SIZE_CHANNEL: u16 = 91;
 /// A value of a channel that gives the size of a plot.
 pub const SIZE_VALUE: u16 = 92;
 
+/// The range of a scale of no known type: what some scale may have.
+pub const ANY_RANGE: u16 = 93;
+
 /// What `autosize` may say.
 pub const AUTOSIZE_NAMES: u16 = 0;
 
@@ -323,6 +326,9 @@ pub const SIDE_NAMES: u16 = 13;
 
 /// The panels in which an axis stands alone.
 pub const EDGE_NAMES: u16 = 14;
+
+/// The ranges of scales of any type.
+pub const RANGE_NAMES: u16 = 15;
 
 /// The least number in range, in millionths.
 pub const LEAST: i128 = -1_000_000_000_000_000_000_000;

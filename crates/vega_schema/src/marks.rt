@@ -3,7 +3,7 @@ ghost use Rattle.std.specs.Prelude.{◌≡◌, ◌++◌, IfOk, OnOk};
 ghost use Rattle.vega_schema.specs.Marks.{mark_from, group_from, facet, cross, encode, no_mark, all_marks};
 
 use crate::codes::{
-    CHANNELS, CROSS, ENCODE, FACET, FLAG, FREE, GROUP_FROM, HEADERS, MARK, MARK_FROM, NOTHING,
+    CHANNELS, CROSS, ENCODE, FACET, FLAG, GROUP_FROM, HEADERS, MARK, MARK_FROM, NOTHING, SORT,
     TEXT, TEXT_OR_TEXTS, TEXTS,
 };
 use spec_schema::{Layout, When, layout_by, table};
@@ -91,7 +91,7 @@ fn encode(alloc: Global) -> Result<Layout, OutOfMemory>
     )
 }
 
-// A mark of no known type: its type is missing or wrong, and it may have each member that some mark has.
+// A mark of no known type: its type is missing or wrong, and it has the members of a mark other than a group.
 #[tactic(auto, unfolding(crate::specs::Marks::no_mark))]
 fn no_mark(alloc: Global) -> Result<Layout, OutOfMemory>
     ensures { IfOk result (λ l. l ≡ no_mark) }
@@ -101,9 +101,7 @@ fn no_mark(alloc: Global) -> Result<Layout, OutOfMemory>
         MARK,
         &[],
         &table![
-        must "type" NOTHING, may "name" FREE, may "from" FREE, may "encode" FREE, may "sort" FREE, may "data" FREE,
-        may "signals" FREE, may "scales" FREE, may "layout" FREE, may "marks" FREE, may "axes" FREE,
-        may "legends" FREE, may "title" FREE,
+        must "type" NOTHING, may "name" TEXT, must "from" MARK_FROM, may "encode" ENCODE, may "sort" SORT,
     ],
         None,
     )

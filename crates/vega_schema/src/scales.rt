@@ -3,8 +3,8 @@ ghost use Rattle.std.specs.Prelude.{◌≡◌, ◌++◌, IfOk, OnOk};
 ghost use Rattle.vega_schema.specs.Scales.{linear_scale, time_scale, band_scale, point_scale, ordinal_scale, no_scale, all_scales};
 
 use crate::codes::{
-    CONTINUOUS_RANGE, DISCRETE_RANGE, EXPRESSION_SIGNAL, FLAG, FREE, NOTHING, ORDINAL_RANGE, SCALE,
-    SCALE_DOMAIN, SHARE, TEXT,
+    ANY_RANGE, CONTINUOUS_RANGE, DISCRETE_RANGE, EXPRESSION_SIGNAL, FLAG, NOTHING, ORDINAL_RANGE,
+    SCALE, SCALE_DOMAIN, SHARE, TEXT,
 };
 use spec_schema::{Layout, When, layout_by, table};
 use std::alloc::Global;
@@ -100,7 +100,7 @@ fn ordinal_scale(alloc: Global) -> Result<Layout, OutOfMemory>
     )
 }
 
-// A scale of no known type: its type is missing or wrong.
+// A scale of no known type: its type is missing or wrong, and its range is that of some scale.
 #[tactic(auto, unfolding(crate::specs::Scales::no_scale))]
 fn no_scale(alloc: Global) -> Result<Layout, OutOfMemory>
     ensures { IfOk result (λ l. l ≡ no_scale) }
@@ -110,9 +110,9 @@ fn no_scale(alloc: Global) -> Result<Layout, OutOfMemory>
         SCALE,
         &[],
         &table![
-        must "name" TEXT, must "type" NOTHING, must "domain" FREE, may "domainRaw" FREE, must "range" FREE,
-        may "zero" FREE, may "nice" FREE, may "reverse" FREE, may "padding" FREE, may "paddingInner" FREE,
-        may "paddingOuter" FREE,
+        must "name" TEXT, must "type" NOTHING, must "domain" SCALE_DOMAIN, may "domainRaw" EXPRESSION_SIGNAL,
+        must "range" ANY_RANGE, may "zero" FLAG, may "nice" FLAG, may "reverse" FLAG, may "padding" SHARE,
+        may "paddingInner" SHARE, may "paddingOuter" SHARE,
     ],
         None,
     )

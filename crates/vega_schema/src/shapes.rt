@@ -76,6 +76,8 @@ fn named(alloc: Global) -> Result<Seq<Shape>, OutOfMemory>
             DISCRETE_RANGE Form::Name(DISCRETE_NAMES),
             ORDINAL_RANGE Form::List { least: 1, most: usize::MAX, items: RANGE_ITEM },
             ORDINAL_RANGE Form::Name(ORDINAL_NAMES),
+            ANY_RANGE Form::List { least: 1, most: usize::MAX, items: RANGE_ITEM },
+            ANY_RANGE Form::Name(RANGE_NAMES),
             RANGE_ITEM Form::Null,
             RANGE_ITEM Form::Flag,
             RANGE_ITEM Form::Number { least: 0, most: 1_000_000_000_000 },

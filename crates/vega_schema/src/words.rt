@@ -2,7 +2,7 @@
 ghost use Rattle.std.specs.Prelude.{◌≡◌, IfOk, OnOk, ◌++◌};
 ghost use Rattle.vega_schema.specs.Words.{autosize_names, format_names, parse_names, operation_names, window_names, unit_names};
 ghost use Rattle.vega_schema.specs.Words.{offset_names, order_names, continuous_names, discrete_names, ordinal_names, event_names};
-ghost use Rattle.vega_schema.specs.Words.{header_names, side_names, edge_names, data_words, operation_words, order_words, scale_words};
+ghost use Rattle.vega_schema.specs.Words.{header_names, side_names, edge_names, range_names, data_words, operation_words, order_words, scale_words};
 ghost use Rattle.vega_schema.specs.Words.{side_words, words};
 
 use spec_schema::names_by;
@@ -202,6 +202,14 @@ fn edge_names(alloc: Global) -> Result<Seq<Text>, OutOfMemory>
     names_by(alloc, &["last-row", "first-column"])
 }
 
+// The ranges of scales of any type.
+#[tactic(auto, unfolding(crate::specs::Words::range_names))]
+fn range_names(alloc: Global) -> Result<Seq<Text>, OutOfMemory>
+    ensures { IfOk result (λ n. n ≡ range_names) }
+{
+    names_by(alloc, &["width", "height", "ramp", "category", "symbol"])
+}
+
 // Adds the next three lists.
 fn data_words(alloc: Global, out: &mut Seq<Seq<Text>>) -> Result<(), OutOfMemory>
     ensures { OnOk result (out.new ≡ out.old ++ data_words) }
@@ -238,13 +246,14 @@ fn scale_words(alloc: Global, out: &mut Seq<Seq<Text>>) -> Result<(), OutOfMemor
     out.push(event_names(alloc)?)
 }
 
-// Adds the next three lists.
+// Adds the last four lists.
 fn side_words(alloc: Global, out: &mut Seq<Seq<Text>>) -> Result<(), OutOfMemory>
     ensures { OnOk result (out.new ≡ out.old ++ side_words) }
 {
     out.push(header_names(alloc)?)?;
     out.push(side_names(alloc)?)?;
-    out.push(edge_names(alloc)?)
+    out.push(edge_names(alloc)?)?;
+    out.push(range_names(alloc)?)
 }
 
 /// All lists of names.

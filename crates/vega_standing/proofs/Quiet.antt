@@ -21,7 +21,7 @@ use Rattle.vega_parts.specs.declared.part.Used.TheVariants as for_
 use Rattle.vega_parts.specs.Trails.{Trail, place_of, scope_of, child, grandchild, object_round, is_top, is_plot, has_layout, is_object_itself}
 use Rattle.vega_parts.specs.Members.{text_at, member_at, items_at, has_member}
 use Rattle.vega_parts.specs.Names.{given, used, used_member, fault_member, used_item, used_items, used_names}
-use Rattle.vega_parts.specs.Lengths.{unequal, other_length, unlike, apart, go_together}
+use Rattle.vega_parts.specs.Lengths.{unequal, other_length, unlike, apart, go_together, text_count_at, sort_parts}
 use Rattle.vega_parts.specs.Signals.{signal_name, store_name, signal_names, on_in_group, mark_names, selector, selectors_in, selectors}
 use Rattle.vega_parts.specs.declared.selections.Entry.{Entry}
 use Rattle.vega_parts.specs.declared.selections.Concerned.{Concerned}
@@ -133,6 +133,12 @@ quiet_apart name other trail tree =
     some_quiet (λ (m : ℕ × Json). option_map_or (λ (n : ℕ × Json). unlike trail m.0 m.1 n.1) (member_at other tree) [])
     (λ m. some_quiet (λ (n : ℕ × Json). unlike trail m.0 m.1 n.1) (λ n. quiet_if_fault (go_together (out-Json n.1) (out-Json m.1)) (child trail m.0)) (member_at other tree))
     (member_at name tree)
+
+quiet_sort : (trail : Trail) (tree : Json) → AreQuiet (sort_parts trail tree)
+quiet_sort trail tree =
+    some_quiet (λ (m : ℕ × ℕ). option_map_or (λ (n : ℕ × ℕ). unequal trail m.0 m.1 n.1) (text_count_at (codes "field") tree) [])
+    (λ m. some_quiet (λ (n : ℕ × ℕ). unequal trail m.0 m.1 n.1) (λ n. quiet_if_fault (m.1 == n.1) (child trail m.0)) (text_count_at (codes "field") tree))
+    (text_count_at (codes "order") tree)
 
 quiet_signal_names : (trail : Trail) (tree : Json) → AreQuiet (signal_names trail tree)
 quiet_signal_names trail tree =
@@ -263,7 +269,7 @@ pub quiet_shape : (shape : ℕ) → (shape == DATA) ≡ false → (shape == TRAN
 quiet_shape shape no_set no_step no_facet trail tree =
     else_quiet (shape == DATA) _ _ no_set
     (else_quiet (shape == TRANSFORM) _ _ no_step
-    (if_quiet (shape == SORT) _ _ (quiet_apart (codes "order") (codes "field") trail tree)
+    (if_quiet (shape == SORT) _ _ (quiet_sort trail tree)
     (if_quiet (shape == SIGNAL) _ _ (quiet_signal trail tree)
     (if_quiet (shape == TOP) _ _ (quiet_plot trail)
     (if_quiet (shape == MARK) _ _ (quiet_mark trail tree)

@@ -12,9 +12,9 @@ use Rattle.spec_schema.specs.declared.form.Form.{Form}
 use Rattle.spec_schema.specs.declared.form.Shape.{Shape}
 use Rattle.spec_schema.specs.Values.{Opened, number_passes, is_whole, is_whole_between}
 use Rattle.spec_schema.specs.Forms.{taken_form}
-use Rattle.vega_schema.specs.declared.codes.TheConstants.{SHARE, SPACE, COUNT, TICK_COUNT, STEP, RANGE_NUMBER, MOST}
+use Rattle.vega_schema.specs.declared.codes.TheConstants.{SHARE, SPACE, COUNT, TICK_COUNT, STEP, RANGE_NUMBER}
 use Rattle.vega_schema.specs.Schema.{vega_schema}
-use Rattle.vega_schema.specs.Shapes.{leaves, named, lists, objects}
+use Rattle.vega_schema.specs.Shapes.{most_number, leaves, named, lists, objects}
 use Rattle.vega_parts.specs.Trails.{Trail}
 use Rattle.scale_kit.specs.Scale.{IsPadding, IsPixel}
 use Rattle.vega_guides.specs.Shown.{IsCount}
@@ -84,13 +84,13 @@ module _ (round : Trail) (number : ℕ) (tree : Json) where
       few : (n : ℤ) → pos 1000000 ≤ℤ n → n ≤ℤ pos 100000000 → IsCount n
       few n a b = (a, omega (arith, ints))
 
-  step_tested : (f : Form) → taken_form vega_schema STEP (out-Json tree) ≡ Some f → IfSome (number_in (out-Json tree)) (λ n. is_within (pos 1) MOST n ≡ true)
+  step_tested : (f : Form) → taken_form vega_schema STEP (out-Json tree) ≡ Some f → IfSome (number_in (out-Json tree)) (λ n. is_within (pos 1) most_number n ≡ true)
   unfolding vega_schema leaves named lists objects
   step_tested f e = numbered _ _ (out-Json tree) f e
 
   pub step : Stands round number STEP tree → IfSome (number_in (out-Json tree)) (λ n. int_lt (pos 0) n ≡ true)
   step s = let form = formed STEP tree s.fine in
-      some_of _ (λ n. int_lt (pos 0) n ≡ true) (λ n e. over n (within (pos 1) MOST n e).0) _ (step_tested form.0 form.1)
+      some_of _ (λ n. int_lt (pos 0) n ≡ true) (λ n e. over n (within (pos 1) most_number n e).0) _ (step_tested form.0 form.1)
     where
       over : (n : ℤ) → pos 1 ≤ℤ n → int_lt (pos 0) n ≡ true
       over n a = grind (arith, ints)
