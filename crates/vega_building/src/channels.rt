@@ -3,7 +3,8 @@ ghost use Rattle.std.specs.Prelude.{◌≡◌, IfOk};
 ghost use Rattle.json_exact.specs.declared.json.Json.{out-Json};
 ghost use Rattle.vega_building.specs.Channels.{channel_value_of, channel_in, channel_at, channels_of, encode_of};
 
-use crate::parts::{Object, cell_at, expression_at, number_at, object_at, objects_of, text_at};
+use crate::parts::{Object, number_at, object_at, objects_of};
+use crate::several::{Part, four_parts, six_parts};
 use crate::values::member_value;
 use json_exact::{Json, Member};
 use std::alloc::Global;
@@ -14,15 +15,18 @@ impl Object for ChannelValue {
     ghost built = { channel_value_of };
 
     fn of_members(alloc: Global, members: &[Member]) -> Result<ChannelValue, OutOfMemory> {
+        let (value, field, scale, signal, test, format) = six_parts(
+            alloc, members, "value", "field", "scale", "signal", "test", "format",
+        )?;
         Ok(ChannelValue {
-            value: cell_at(members, "value")?,
-            field: text_at(members, "field")?,
-            scale: text_at(members, "scale")?,
+            value,
+            field,
+            scale,
             band: number_at(members, "band"),
             offset: number_at(members, "offset"),
-            signal: expression_at(alloc, members, "signal")?,
-            test: expression_at(alloc, members, "test")?,
-            format: text_at(members, "format")?,
+            signal,
+            test,
+            format,
         })
     }
 }
@@ -51,31 +55,53 @@ fn channel_at(alloc: Global, members: &[Member], name: &str) -> Result<Option<Ch
     }
 }
 
+impl Part for Option<Channel> {
+    ghost part = { channel_at };
+
+    fn part_at(
+        alloc: Global,
+        members: &[Member],
+        name: &str,
+    ) -> Result<Option<Channel>, OutOfMemory> {
+        channel_at(alloc, members, name)
+    }
+}
+
 impl Object for Channels {
     ghost built = { channels_of };
 
     fn of_members(alloc: Global, members: &[Member]) -> Result<Channels, OutOfMemory> {
+        let across = four_parts(alloc, members, "x", "x2", "xc", "width")?;
+        let down = four_parts(alloc, members, "y", "y2", "yc", "height")?;
+        let look = four_parts(alloc, members, "fill", "stroke", "strokeWidth", "opacity")?;
+        let symbol = four_parts(alloc, members, "size", "shape", "text", "align")?;
+        let text_line = four_parts(alloc, members, "baseline", "dx", "dy", "fontSize")?;
+        let (x, x2, xc, width) = across;
+        let (y, y2, yc, height) = down;
+        let (fill, stroke, stroke_width, opacity) = look;
+        let (size, shape, text, align) = symbol;
+        let (baseline, dx, dy, font_size) = text_line;
         Ok(Channels {
-            x: channel_at(alloc, members, "x")?,
-            x2: channel_at(alloc, members, "x2")?,
-            xc: channel_at(alloc, members, "xc")?,
-            width: channel_at(alloc, members, "width")?,
-            y: channel_at(alloc, members, "y")?,
-            y2: channel_at(alloc, members, "y2")?,
-            yc: channel_at(alloc, members, "yc")?,
-            height: channel_at(alloc, members, "height")?,
-            fill: channel_at(alloc, members, "fill")?,
-            stroke: channel_at(alloc, members, "stroke")?,
-            stroke_width: channel_at(alloc, members, "strokeWidth")?,
-            opacity: channel_at(alloc, members, "opacity")?,
-            size: channel_at(alloc, members, "size")?,
-            shape: channel_at(alloc, members, "shape")?,
-            text: channel_at(alloc, members, "text")?,
-            align: channel_at(alloc, members, "align")?,
-            baseline: channel_at(alloc, members, "baseline")?,
-            dx: channel_at(alloc, members, "dx")?,
-            dy: channel_at(alloc, members, "dy")?,
-            font_size: channel_at(alloc, members, "fontSize")?,
+            x,
+            x2,
+            xc,
+            width,
+            y,
+            y2,
+            yc,
+            height,
+            fill,
+            stroke,
+            stroke_width,
+            opacity,
+            size,
+            shape,
+            text,
+            align,
+            baseline,
+            dx,
+            dy,
+            font_size,
         })
     }
 }

@@ -7,6 +7,7 @@ use crate::names::order_at;
 use crate::parts::{
     Object, has_member, items_at, list_of, needed_expression, needed_text, objects_of,
 };
+use crate::several::two_parts;
 use crate::tables::needed_operation;
 use crate::values::member_value;
 use json_exact::{Json, Member};
@@ -18,10 +19,8 @@ impl Object for Reference {
     ghost built = { reference_of };
 
     fn of_members(alloc: Global, members: &[Member]) -> Result<Reference, OutOfMemory> {
-        Ok(Reference {
-            data_: needed_text(alloc, members, "data")?,
-            field: needed_text(alloc, members, "field")?,
-        })
+        let (data_, field) = two_parts(alloc, members, "data", "field")?;
+        Ok(Reference { data_, field })
     }
 }
 
@@ -72,9 +71,10 @@ fn domain_order_at(
 fn field_domain_of(alloc: Global, members: &[Member]) -> Result<FieldDomain, OutOfMemory>
     ensures { IfOk result (λ domain. domain ≡ field_domain_of members.now) }
 {
+    let (data_, field) = two_parts(alloc, members, "data", "field")?;
     Ok(FieldDomain {
-        data_: needed_text(alloc, members, "data")?,
-        field: needed_text(alloc, members, "field")?,
+        data_,
+        field,
         sort: domain_order_at(alloc, members, "sort")?,
     })
 }

@@ -2,9 +2,8 @@
 ghost use Rattle.std.specs.Prelude.{◌≡◌, IfOk};
 ghost use Rattle.vega_building.specs.Groupings.{maybe_text, maybe_number, aggregate_of, frame_in, frame_at, needed_operations, window_of, lookup_of};
 
-use crate::parts::{
-    Item, cell_at, flag_at, items_at, list_at, list_of, needed_text, needed_texts, object_at,
-};
+use crate::parts::{Item, flag_at, items_at, list_of};
+use crate::several::{Part, four_parts, six_parts};
 use crate::values::{number_in, text_in};
 use fixed_num::Num;
 use json_exact::{Json, Member};
@@ -35,11 +34,12 @@ impl Item for Option<Num> {
 pub fn aggregate_of(alloc: Global, members: &[Member]) -> Result<Aggregate, OutOfMemory>
     ensures { IfOk result (λ aggregate. aggregate ≡ aggregate_of members.now) }
 {
+    let (groupby, ops, fields, as_) = four_parts(alloc, members, "groupby", "ops", "fields", "as")?;
     Ok(Aggregate {
-        groupby: list_at(alloc, members, "groupby")?,
-        ops: list_at(alloc, members, "ops")?,
-        fields: list_at(alloc, members, "fields")?,
-        as_: list_at(alloc, members, "as")?,
+        groupby,
+        ops,
+        fields,
+        as_,
     })
 }
 
@@ -73,17 +73,28 @@ fn frame_at(members: &[Member], name: &str) -> Option<Frame>
     frame_in(items_at(members, name)?.as_slice())
 }
 
+impl Part for Seq<u16> {
+    ghost part = { needed_operations };
+
+    fn part_at(alloc: Global, members: &[Member], name: &str) -> Result<Seq<u16>, OutOfMemory> {
+        needed_operations(alloc, members, name)
+    }
+}
+
 /// `window`
 pub fn window_of(alloc: Global, members: &[Member]) -> Result<Window, OutOfMemory>
     ensures { IfOk result (λ window. window ≡ window_of members.now) }
 {
+    let (ops, fields, params, as_, groupby, sort) = six_parts(
+        alloc, members, "ops", "fields", "params", "as", "groupby", "sort",
+    )?;
     Ok(Window {
-        ops: needed_operations(alloc, members, "ops")?,
-        fields: list_at(alloc, members, "fields")?,
-        params: list_at(alloc, members, "params")?,
-        as_: list_at(alloc, members, "as")?,
-        groupby: list_at(alloc, members, "groupby")?,
-        sort: object_at(alloc, members, "sort")?,
+        ops,
+        fields,
+        params,
+        as_,
+        groupby,
+        sort,
         frame: frame_at(members, "frame"),
         ignore_peers: flag_at(members, "ignorePeers"),
     })
@@ -93,12 +104,15 @@ pub fn window_of(alloc: Global, members: &[Member]) -> Result<Window, OutOfMemor
 pub fn lookup_of(alloc: Global, members: &[Member]) -> Result<Lookup, OutOfMemory>
     ensures { IfOk result (λ lookup. lookup ≡ lookup_of members.now) }
 {
+    let (from, key, fields, values, as_, default) = six_parts(
+        alloc, members, "from", "key", "fields", "values", "as", "default",
+    )?;
     Ok(Lookup {
-        from: needed_text(alloc, members, "from")?,
-        key: needed_text(alloc, members, "key")?,
-        fields: needed_texts(alloc, members, "fields")?,
-        values: needed_texts(alloc, members, "values")?,
-        as_: list_at(alloc, members, "as")?,
-        default: cell_at(members, "default")?,
+        from,
+        key,
+        fields,
+        values,
+        as_,
+        default,
     })
 }

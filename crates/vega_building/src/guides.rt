@@ -1,10 +1,13 @@
 // Axes, legends and layouts.
 ghost use Rattle.std.specs.Prelude.{◌≡◌};
+ghost use Rattle.vega_building.specs.Parts.{members_of};
 ghost use Rattle.vega_building.specs.Guides.{axis_of, legend_of, layout_of};
 
 use crate::names::{edge_at, needed_side};
-use crate::parts::{Object, flag_at, list_at, needed_text, number_at, text_at};
-use json_exact::Member;
+use crate::parts::{Item, Object, flag_at, number_at};
+use crate::several::{four_parts, six_parts};
+use crate::values::members_of;
+use json_exact::{Json, Member};
 use std::alloc::Global;
 use text_kit::OutOfMemory;
 use vega_spec::{Axis, Layout, Legend};
@@ -13,18 +16,21 @@ impl Object for Axis {
     ghost built = { axis_of };
 
     fn of_members(alloc: Global, members: &[Member]) -> Result<Axis, OutOfMemory> {
+        let (scale, title, values, format) = four_parts(
+            alloc, members, "scale", "title", "values", "format",
+        )?;
         Ok(Axis {
-            scale: needed_text(alloc, members, "scale")?,
+            scale,
             orient: needed_side(members, "orient"),
-            title: text_at(members, "title")?,
+            title,
             labels: flag_at(members, "labels"),
             ticks: flag_at(members, "ticks"),
             domain: flag_at(members, "domain"),
             grid: flag_at(members, "grid"),
             label_angle: number_at(members, "labelAngle"),
             tick_count: number_at(members, "tickCount"),
-            values: list_at(alloc, members, "values")?,
-            format: text_at(members, "format")?,
+            values,
+            format,
             edge: edge_at(members, "edge"),
         })
     }
@@ -33,15 +39,34 @@ impl Object for Axis {
 impl Object for Legend {
     ghost built = { legend_of };
 
-    fn of_members(_: Global, members: &[Member]) -> Result<Legend, OutOfMemory> {
+    fn of_members(alloc: Global, members: &[Member]) -> Result<Legend, OutOfMemory> {
+        let (fill, opacity, shape, size, title, format) = six_parts(
+            alloc, members, "fill", "opacity", "shape", "size", "title", "format",
+        )?;
         Ok(Legend {
-            fill: text_at(members, "fill")?,
-            opacity: text_at(members, "opacity")?,
-            shape: text_at(members, "shape")?,
-            size: text_at(members, "size")?,
-            title: text_at(members, "title")?,
-            format: text_at(members, "format")?,
+            fill,
+            opacity,
+            shape,
+            size,
+            title,
+            format,
         })
+    }
+}
+
+impl Item for Axis {
+    ghost item = { λ tree. axis_of (members_of tree) };
+
+    fn of_item(alloc: Global, tree: &Json) -> Result<Axis, OutOfMemory> {
+        Axis::of_members(alloc, members_of(tree))
+    }
+}
+
+impl Item for Legend {
+    ghost item = { λ tree. legend_of (members_of tree) };
+
+    fn of_item(alloc: Global, tree: &Json) -> Result<Legend, OutOfMemory> {
+        Legend::of_members(alloc, members_of(tree))
     }
 }
 

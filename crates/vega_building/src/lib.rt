@@ -10,6 +10,7 @@ mod names;
 mod orders;
 mod parts;
 mod scales;
+mod several;
 mod signals;
 mod sources;
 mod spec;

@@ -1,15 +1,17 @@
 // Where the items of marks come from.
 ghost use Rattle.std.specs.Prelude.{◌≡◌, IfOk};
 ghost use Rattle.vega_building.specs.Names.{maybe_header};
+ghost use Rattle.vega_building.specs.Orders.{needed_one_or_several};
 ghost use Rattle.vega_building.specs.Marks.{cross_of, facet_of, facet_from, mark_from_of, mark_from_at};
 
 use crate::names::maybe_header;
 use crate::orders::needed_one_or_several;
-use crate::parts::{Item, Object, flag_at, list_at, members_at, needed_texts, object_at, text_at};
+use crate::parts::{Item, Object, flag_at, members_at, object_at, text_at};
+use crate::several::{Part, four_parts};
 use json_exact::{Json, Member};
 use std::alloc::Global;
 use text_kit::OutOfMemory;
-use vega_spec::{Cross, Facet, Header, MarkFrom};
+use vega_spec::{Cross, Facet, Header, MarkFrom, Texts};
 
 impl Object for Cross {
     ghost built = { cross_of };
@@ -29,16 +31,28 @@ impl Item for Option<Header> {
     }
 }
 
+impl Part for Texts {
+    ghost part = { needed_one_or_several };
+
+    fn part_at(alloc: Global, members: &[Member], name: &str) -> Result<Texts, OutOfMemory> {
+        needed_one_or_several(alloc, members, name)
+    }
+}
+
 impl Object for Facet {
     ghost built = { facet_of };
 
     fn of_members(alloc: Global, members: &[Member]) -> Result<Facet, OutOfMemory> {
+        let aggregate = object_at(alloc, members, "aggregate")?;
+        let (name, data_, groupby, headers) = four_parts(
+            alloc, members, "name", "data", "groupby", "headers",
+        )?;
         Ok(Facet {
-            name: needed_one_or_several(alloc, members, "name")?,
-            data_: needed_one_or_several(alloc, members, "data")?,
-            groupby: needed_texts(alloc, members, "groupby")?,
-            aggregate: object_at(alloc, members, "aggregate")?,
-            headers: list_at(alloc, members, "headers")?,
+            name,
+            data_,
+            groupby,
+            aggregate,
+            headers,
         })
     }
 }

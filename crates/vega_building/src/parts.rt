@@ -3,7 +3,7 @@ ghost use Rattle.std.specs.Prelude.{◌≡◌, map, IfOk, codes};
 ghost use Rattle.std.specs.Option.{option_copied};
 ghost use Rattle.json_exact.specs.Inside.{items_in, members_in};
 ghost use Rattle.json_exact.specs.Path.{member_value};
-ghost use Rattle.vega_building.specs.Parts.{found_at, has_member, list_at, object_at, objects_at, members_of, text_of, cell_of, flag_at, number_at, text_at, cell_at, needed_text, needed_texts, two_texts, two_texts_at, expression_at, needed_expression, signal_at};
+ghost use Rattle.vega_building.specs.Parts.{found_at, has_member, list_at, object_at, members_of, text_of, cell_of, flag_at, number_at, text_at, cell_at, needed_text, needed_texts, two_texts, two_texts_at, expression_at, needed_expression, signal_at};
 
 use crate::values::{
     cell_in, flag_in, items_in, member_value, members_in, members_of, number_in, text_in, text_of,
@@ -99,20 +99,6 @@ pub fn list_at<T: Item + Drop>(
 {
     match items_at(members, name) {
         Some(items) => Ok(Some(list_of(alloc, items.as_slice())?)),
-        None => Ok(None),
-    }
-}
-
-/// What each object of the list under a name is.
-pub fn objects_at<T: Object + Drop>(
-    alloc: Global,
-    members: &[Member],
-    name: &str,
-) -> Result<Option<Seq<T>>, OutOfMemory>
-    ensures { IfOk result (λ list. list ≡ objects_at T.built members.now name.now) }
-{
-    match items_at(members, name) {
-        Some(items) => Ok(Some(objects_of(alloc, items.as_slice())?)),
         None => Ok(None),
     }
 }

@@ -1,16 +1,19 @@
 // Scales.
 ghost use Rattle.std.specs.Prelude.{◌≡◌, IfOk};
 ghost use Rattle.json_exact.specs.declared.json.Json.{out-Json};
+ghost use Rattle.vega_building.specs.Parts.{members_of};
+ghost use Rattle.vega_building.specs.Domains.{needed_domain};
 ghost use Rattle.vega_building.specs.Scales.{range_named, range_in, range_at, needed_range, scale_of};
 
 use crate::domains::needed_domain;
-use crate::parts::{Object, flag_at, list_of, needed_text, number_at, signal_at};
+use crate::parts::{Item, Object, flag_at, list_of, number_at, signal_at};
+use crate::several::{Part, three_parts};
 use crate::tables::needed_scale_kind;
-use crate::values::member_value;
+use crate::values::{member_value, members_of};
 use json_exact::{Json, Member};
 use std::alloc::Global;
 use text_kit::{OutOfMemory, Seq};
-use vega_spec::{Range, Scale};
+use vega_spec::{Domain, Range, Scale};
 
 // A range that goes by a name.
 fn range_named(name: &str) -> Option<Range>
@@ -62,16 +65,34 @@ fn needed_range(alloc: Global, members: &[Member], name: &str) -> Result<Range, 
     }
 }
 
+impl Part for Domain {
+    ghost part = { needed_domain };
+
+    fn part_at(alloc: Global, members: &[Member], name: &str) -> Result<Domain, OutOfMemory> {
+        needed_domain(alloc, members, name)
+    }
+}
+
+impl Part for Range {
+    ghost part = { needed_range };
+
+    fn part_at(alloc: Global, members: &[Member], name: &str) -> Result<Range, OutOfMemory> {
+        needed_range(alloc, members, name)
+    }
+}
+
 impl Object for Scale {
     ghost built = { scale_of };
 
     fn of_members(alloc: Global, members: &[Member]) -> Result<Scale, OutOfMemory> {
+        let domain_raw = signal_at(alloc, members, "domainRaw")?;
+        let (name, domain, range) = three_parts(alloc, members, "name", "domain", "range")?;
         Ok(Scale {
-            name: needed_text(alloc, members, "name")?,
+            name,
             type_: needed_scale_kind(members, "type"),
-            domain: needed_domain(alloc, members, "domain")?,
-            domain_raw: signal_at(alloc, members, "domainRaw")?,
-            range: needed_range(alloc, members, "range")?,
+            domain,
+            domain_raw,
+            range,
             zero: flag_at(members, "zero"),
             nice: flag_at(members, "nice"),
             reverse: flag_at(members, "reverse"),
@@ -79,5 +100,13 @@ impl Object for Scale {
             padding_inner: number_at(members, "paddingInner"),
             padding_outer: number_at(members, "paddingOuter"),
         })
+    }
+}
+
+impl Item for Scale {
+    ghost item = { λ tree. scale_of (members_of tree) };
+
+    fn of_item(alloc: Global, tree: &Json) -> Result<Scale, OutOfMemory> {
+        Scale::of_members(alloc, members_of(tree))
     }
 }

@@ -1,10 +1,13 @@
 // Signals.
 ghost use Rattle.std.specs.Prelude.{◌≡◌};
+ghost use Rattle.vega_building.specs.Parts.{members_of};
 ghost use Rattle.vega_building.specs.Signals.{event_update_of, signal_of};
 
 use crate::names::needed_selector;
-use crate::parts::{Object, cell_at, expression_at, list_at, needed_text, objects_at};
-use json_exact::Member;
+use crate::parts::{Item, Object, needed_text};
+use crate::several::five_parts;
+use crate::values::members_of;
+use json_exact::{Json, Member};
 use std::alloc::Global;
 use text_kit::OutOfMemory;
 use vega_spec::{EventUpdate, Signal};
@@ -20,16 +23,35 @@ impl Object for EventUpdate {
     }
 }
 
+impl Item for EventUpdate {
+    ghost item = { λ tree. event_update_of (members_of tree) };
+
+    fn of_item(alloc: Global, tree: &Json) -> Result<EventUpdate, OutOfMemory> {
+        EventUpdate::of_members(alloc, members_of(tree))
+    }
+}
+
 impl Object for Signal {
     ghost built = { signal_of };
 
     fn of_members(alloc: Global, members: &[Member]) -> Result<Signal, OutOfMemory> {
+        let (name, value, update, on, marks) = five_parts(
+            alloc, members, "name", "value", "update", "on", "marks",
+        )?;
         Ok(Signal {
-            name: needed_text(alloc, members, "name")?,
-            value: cell_at(members, "value")?,
-            update: expression_at(alloc, members, "update")?,
-            on: objects_at(alloc, members, "on")?,
-            marks: list_at(alloc, members, "marks")?,
+            name,
+            value,
+            update,
+            on,
+            marks,
         })
+    }
+}
+
+impl Item for Signal {
+    ghost item = { λ tree. signal_of (members_of tree) };
+
+    fn of_item(alloc: Global, tree: &Json) -> Result<Signal, OutOfMemory> {
+        Signal::of_members(alloc, members_of(tree))
     }
 }

@@ -1,11 +1,14 @@
 // Data sets.
 ghost use Rattle.std.specs.Prelude.{◌≡◌, map, IfOk};
 ghost use Rattle.vega_building.specs.Sources.{parse_of, parse_at, format_of, data_set_of};
+ghost use Rattle.vega_building.specs.Parts.{members_of, object_at};
 ghost use Rattle.json_exact.specs.Path.{member_value};
 
 use crate::names::{format_kind_at, parse_kind_of};
-use crate::parts::{Object, members_at, needed_text, object_at, objects_at, text_at};
-use crate::values::member_value;
+use crate::parts;
+use crate::parts::{Item, Object, members_at};
+use crate::several::{Part, six_parts};
+use crate::values::{member_value, members_of};
 use json_exact::{Json, Member};
 use std::alloc::Global;
 use text_kit::{OutOfMemory, Seq, Text};
@@ -64,17 +67,55 @@ fn value_at(alloc: Global, members: &[Member], name: &str) -> Result<Option<Json
     }
 }
 
+impl Part for Option<Json> {
+    ghost part = { member_value };
+
+    fn part_at(alloc: Global, members: &[Member], name: &str) -> Result<Option<Json>, OutOfMemory> {
+        value_at(alloc, members, name)
+    }
+}
+
+impl Part for Option<Format> {
+    ghost part = { object_at format_of };
+
+    fn part_at(
+        alloc: Global,
+        members: &[Member],
+        name: &str,
+    ) -> Result<Option<Format>, OutOfMemory> {
+        parts::object_at(alloc, members, name)
+    }
+}
+
 impl Object for DataSet {
     ghost built = { data_set_of };
 
     fn of_members(alloc: Global, members: &[Member]) -> Result<DataSet, OutOfMemory> {
+        let (name, values, url, format, source, transform) = six_parts(
+            alloc,
+            members,
+            "name",
+            "values",
+            "url",
+            "format",
+            "source",
+            "transform",
+        )?;
         Ok(DataSet {
-            name: needed_text(alloc, members, "name")?,
-            values: value_at(alloc, members, "values")?,
-            url: text_at(members, "url")?,
-            format: object_at(alloc, members, "format")?,
-            source: text_at(members, "source")?,
-            transform: objects_at(alloc, members, "transform")?,
+            name,
+            values,
+            url,
+            format,
+            source,
+            transform,
         })
+    }
+}
+
+impl Item for DataSet {
+    ghost item = { λ tree. data_set_of (members_of tree) };
+
+    fn of_item(alloc: Global, tree: &Json) -> Result<DataSet, OutOfMemory> {
+        DataSet::of_members(alloc, members_of(tree))
     }
 }

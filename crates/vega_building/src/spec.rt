@@ -1,16 +1,22 @@
 // Marks, groups and whole specifications.
 ghost use Rattle.std.specs.Prelude.{◌≡◌, map, codes, IfOk};
 ghost use Rattle.json_exact.specs.declared.json.Json.{out-Json};
+ghost use Rattle.vega_building.specs.Parts.{object_at};
+ghost use Rattle.vega_building.specs.Orders.{sort_of};
+ghost use Rattle.vega_building.specs.Channels.{encode_of};
+ghost use Rattle.vega_building.specs.Marks.{mark_from_at};
 ghost use Rattle.vega_building.specs.Spec.{group_with, mark_with, mark_of, marks_in, marks_at, size_signal, size_in, size_at, spec_with, spec_of};
 
 use crate::marks::mark_from_at;
 use crate::names::{autosize_at, needed_mark_type};
-use crate::parts::{expression_at, number_at, object_at, objects_at, text_at};
+use crate::parts;
+use crate::parts::{expression_at, number_at};
+use crate::several::{Part, four_parts, six_parts};
 use crate::values::{member_value, members_of};
 use json_exact::{Json, Member};
 use std::alloc::Global;
 use text_kit::{OutOfMemory, Seq};
-use vega_spec::{Group, Size, VgMark, VgSpec};
+use vega_spec::{Encode, Group, MarkFrom, Size, Sort, VgMark, VgSpec};
 
 // What a group has, its marks being these.
 fn group_with(
@@ -20,16 +26,52 @@ fn group_with(
 ) -> Result<Group, OutOfMemory>
     ensures { IfOk result (λ group. group ≡ group_with members.now marks) }
 {
+    let layout = parts::object_at(alloc, members, "layout")?;
+    let (data_, signals, scales, axes, legends, title) = six_parts(
+        alloc, members, "data", "signals", "scales", "axes", "legends", "title",
+    )?;
     Ok(Group {
-        data_: objects_at(alloc, members, "data")?,
-        signals: objects_at(alloc, members, "signals")?,
-        scales: objects_at(alloc, members, "scales")?,
-        layout: object_at(alloc, members, "layout")?,
-        axes: objects_at(alloc, members, "axes")?,
-        legends: objects_at(alloc, members, "legends")?,
-        title: text_at(members, "title")?,
+        data_,
+        signals,
+        scales,
+        layout,
+        axes,
+        legends,
+        title,
         marks,
     })
+}
+
+impl Part for Option<MarkFrom> {
+    ghost part = { mark_from_at };
+
+    fn part_at(
+        alloc: Global,
+        members: &[Member],
+        name: &str,
+    ) -> Result<Option<MarkFrom>, OutOfMemory> {
+        mark_from_at(alloc, members, name)
+    }
+}
+
+impl Part for Option<Encode> {
+    ghost part = { object_at encode_of };
+
+    fn part_at(
+        alloc: Global,
+        members: &[Member],
+        name: &str,
+    ) -> Result<Option<Encode>, OutOfMemory> {
+        parts::object_at(alloc, members, name)
+    }
+}
+
+impl Part for Option<Sort> {
+    ghost part = { object_at sort_of };
+
+    fn part_at(alloc: Global, members: &[Member], name: &str) -> Result<Option<Sort>, OutOfMemory> {
+        parts::object_at(alloc, members, name)
+    }
 }
 
 // A mark, the marks inside it being these.
@@ -40,13 +82,15 @@ fn mark_with(
 ) -> Result<VgMark, OutOfMemory>
     ensures { IfOk result (λ mark. mark ≡ mark_with members.now marks) }
 {
+    let group = group_with(alloc, members, marks)?;
+    let (name, from, encode, sort) = four_parts(alloc, members, "name", "from", "encode", "sort")?;
     Ok(VgMark {
-        group: group_with(alloc, members, marks)?,
+        group,
         type_: needed_mark_type(members, "type"),
-        name: text_at(members, "name")?,
-        from: mark_from_at(alloc, members, "from")?,
-        encode: object_at(alloc, members, "encode")?,
-        sort: object_at(alloc, members, "sort")?,
+        name,
+        from,
+        encode,
+        sort,
     })
 }
 
@@ -143,18 +187,34 @@ fn size_at(alloc: Global, members: &[Member], name: &str) -> Result<Option<Size>
     }
 }
 
+impl Part for Option<Size> {
+    ghost part = { size_at };
+
+    fn part_at(alloc: Global, members: &[Member], name: &str) -> Result<Option<Size>, OutOfMemory> {
+        size_at(alloc, members, name)
+    }
+}
+
 // The specification of these members.
 fn spec_with(alloc: Global, members: &[Member]) -> Result<VgSpec, OutOfMemory>
     ensures { IfOk result (λ g. g ≡ spec_with members.now) }
 {
     let marks = marks_at(alloc, members)?;
     let group = group_with(alloc, members, marks)?;
+    let (schema, description, width, height) = four_parts(
+        alloc,
+        members,
+        "$schema",
+        "description",
+        "width",
+        "height",
+    )?;
     Ok(VgSpec {
         group,
-        schema: text_at(members, "$schema")?,
-        description: text_at(members, "description")?,
-        width: size_at(alloc, members, "width")?,
-        height: size_at(alloc, members, "height")?,
+        schema,
+        description,
+        width,
+        height,
         padding: number_at(members, "padding"),
         autosize: autosize_at(members, "autosize"),
     })

@@ -1,16 +1,15 @@
 // Transforms of rows.
 ghost use Rattle.std.specs.Prelude.{◌≡◌, IfOk};
 ghost use Rattle.json_exact.specs.declared.json.Json.{out-Json};
+ghost use Rattle.vega_building.specs.Parts.{members_of};
 ghost use Rattle.vega_building.specs.Transforms.{filter_of, formula_of, extent_of, numbers_in, extent_signal, bin_extent_in, bin_extent_at, needed_bin_extent, bin_of, time_unit_of, stack_of, fold_of, transform_by, transform_of};
 
 use crate::groupings::{aggregate_of, lookup_of, window_of};
 use crate::names::offset_at;
-use crate::parts::{
-    Object, list_at, needed_expression, needed_text, needed_texts, number_at, object_at, text_at,
-    two_texts_at,
-};
+use crate::parts::{Item, Object, needed_expression, needed_text, number_at, text_at};
+use crate::several::{Part, four_parts, three_parts, two_parts};
 use crate::tables::needed_time_unit;
-use crate::values::{member_value, number_in};
+use crate::values::{member_value, members_of, number_in};
 use json_exact::{Json, Member};
 use std::alloc::Global;
 use text_kit::{OutOfMemory, Text};
@@ -29,20 +28,16 @@ fn filter_of(alloc: Global, members: &[Member]) -> Result<Filter, OutOfMemory>
 fn formula_of(alloc: Global, members: &[Member]) -> Result<Formula, OutOfMemory>
     ensures { IfOk result (λ formula. formula ≡ formula_of members.now) }
 {
-    Ok(Formula {
-        expr: needed_expression(alloc, members, "expr")?,
-        as_: needed_text(alloc, members, "as")?,
-    })
+    let (expr, as_) = two_parts(alloc, members, "expr", "as")?;
+    Ok(Formula { expr, as_ })
 }
 
 // `extent`
 fn extent_of(alloc: Global, members: &[Member]) -> Result<Extent, OutOfMemory>
     ensures { IfOk result (λ extent. extent ≡ extent_of members.now) }
 {
-    Ok(Extent {
-        field: needed_text(alloc, members, "field")?,
-        signal: needed_text(alloc, members, "signal")?,
-    })
+    let (field, signal) = two_parts(alloc, members, "field", "signal")?;
+    Ok(Extent { field, signal })
 }
 
 // Two numbers.
@@ -102,16 +97,25 @@ fn needed_bin_extent(
     }
 }
 
+impl Part for BinExtent {
+    ghost part = { needed_bin_extent };
+
+    fn part_at(alloc: Global, members: &[Member], name: &str) -> Result<BinExtent, OutOfMemory> {
+        needed_bin_extent(alloc, members, name)
+    }
+}
+
 // `bin`
 fn bin_of(alloc: Global, members: &[Member]) -> Result<Bin, OutOfMemory>
     ensures { IfOk result (λ bin. bin ≡ bin_of members.now) }
 {
+    let (field, extent, as_) = three_parts(alloc, members, "field", "extent", "as")?;
     Ok(Bin {
-        field: needed_text(alloc, members, "field")?,
-        extent: needed_bin_extent(alloc, members, "extent")?,
+        field,
+        extent,
         maxbins: number_at(members, "maxbins"),
         step: number_at(members, "step"),
-        as_: two_texts_at(alloc, members, "as")?,
+        as_,
     })
 }
 
@@ -119,10 +123,11 @@ fn bin_of(alloc: Global, members: &[Member]) -> Result<Bin, OutOfMemory>
 fn time_unit_of(alloc: Global, members: &[Member]) -> Result<TimeUnit, OutOfMemory>
     ensures { IfOk result (λ unit. unit ≡ time_unit_of members.now) }
 {
+    let (field, as_) = two_parts(alloc, members, "field", "as")?;
     Ok(TimeUnit {
-        field: needed_text(alloc, members, "field")?,
+        field,
         units: needed_time_unit(members, "units"),
-        as_: two_texts_at(alloc, members, "as")?,
+        as_,
     })
 }
 
@@ -130,12 +135,13 @@ fn time_unit_of(alloc: Global, members: &[Member]) -> Result<TimeUnit, OutOfMemo
 fn stack_of(alloc: Global, members: &[Member]) -> Result<Stack, OutOfMemory>
     ensures { IfOk result (λ stack. stack ≡ stack_of members.now) }
 {
+    let (groupby, field, sort, as_) = four_parts(alloc, members, "groupby", "field", "sort", "as")?;
     Ok(Stack {
-        groupby: list_at(alloc, members, "groupby")?,
-        field: needed_text(alloc, members, "field")?,
-        sort: object_at(alloc, members, "sort")?,
+        groupby,
+        field,
+        sort,
         offset: offset_at(members, "offset"),
-        as_: two_texts_at(alloc, members, "as")?,
+        as_,
     })
 }
 
@@ -143,10 +149,8 @@ fn stack_of(alloc: Global, members: &[Member]) -> Result<Stack, OutOfMemory>
 fn fold_of(alloc: Global, members: &[Member]) -> Result<Fold, OutOfMemory>
     ensures { IfOk result (λ fold. fold ≡ fold_of members.now) }
 {
-    Ok(Fold {
-        fields: needed_texts(alloc, members, "fields")?,
-        as_: two_texts_at(alloc, members, "as")?,
-    })
+    let (fields, as_) = two_parts(alloc, members, "fields", "as")?;
+    Ok(Fold { fields, as_ })
 }
 
 // A transform by its type; one of no known type is a filter.
@@ -184,5 +188,13 @@ impl Object for Transform {
     fn of_members(alloc: Global, members: &[Member]) -> Result<Transform, OutOfMemory> {
         let name = needed_text(alloc, members, "type")?;
         transform_by(alloc, name.as_str(), members)
+    }
+}
+
+impl Item for Transform {
+    ghost item = { λ tree. transform_of (members_of tree) };
+
+    fn of_item(alloc: Global, tree: &Json) -> Result<Transform, OutOfMemory> {
+        Transform::of_members(alloc, members_of(tree))
     }
 }

@@ -1,6 +1,6 @@
 // Data sets.
 use crate::Transform;
-use crate::copying::copied_json;
+use crate::copying::{copied_four, copied_json};
 use json_exact::Json;
 use std::alloc::Global;
 use text_kit::{Copies, OutOfMemory, Seq, Text};
@@ -55,13 +55,22 @@ pub enum ParseKind {
 
 impl Copies for DataSet {
     fn copied(&self, alloc: Global) -> Result<DataSet, OutOfMemory> {
+        let name = self.name.copy()?;
+        let values = copied_json(alloc, &self.values)?;
+        let (url, format, source, transform) = copied_four(
+            alloc,
+            &self.url,
+            &self.format,
+            &self.source,
+            &self.transform,
+        )?;
         Ok(DataSet {
-            name: self.name.copy()?,
-            values: copied_json(alloc, &self.values)?,
-            url: Copies::copied(&self.url, alloc)?,
-            format: Copies::copied(&self.format, alloc)?,
-            source: Copies::copied(&self.source, alloc)?,
-            transform: Copies::copied(&self.transform, alloc)?,
+            name,
+            values,
+            url,
+            format,
+            source,
+            transform,
         })
     }
 }

@@ -1,5 +1,6 @@
 // Domains of scales.
 use crate::Order;
+use crate::copying::{copied_three, copied_two};
 use cell_value::Cell;
 use expr_syntax::Expr;
 use std::alloc::Global;
@@ -71,29 +72,22 @@ impl Copies for Domain {
 
 impl Copies for FieldDomain {
     fn copied(&self, alloc: Global) -> Result<FieldDomain, OutOfMemory> {
-        Ok(FieldDomain {
-            data_: self.data_.copy()?,
-            field: self.field.copy()?,
-            sort: Copies::copied(&self.sort, alloc)?,
-        })
+        let (data_, field, sort) = copied_three(alloc, &self.data_, &self.field, &self.sort)?;
+        Ok(FieldDomain { data_, field, sort })
     }
 }
 
 impl Copies for FieldsDomain {
     fn copied(&self, alloc: Global) -> Result<FieldsDomain, OutOfMemory> {
-        Ok(FieldsDomain {
-            fields: Copies::copied(&self.fields, alloc)?,
-            sort: Copies::copied(&self.sort, alloc)?,
-        })
+        let (fields, sort) = copied_two(alloc, &self.fields, &self.sort)?;
+        Ok(FieldsDomain { fields, sort })
     }
 }
 
 impl Copies for Reference {
-    fn copied(&self, _: Global) -> Result<Reference, OutOfMemory> {
-        Ok(Reference {
-            data_: self.data_.copy()?,
-            field: self.field.copy()?,
-        })
+    fn copied(&self, alloc: Global) -> Result<Reference, OutOfMemory> {
+        let (data_, field) = copied_two(alloc, &self.data_, &self.field)?;
+        Ok(Reference { data_, field })
     }
 }
 

@@ -1,5 +1,5 @@
 // Encode sets.
-use crate::copying::copied_expr;
+use crate::copying::{copied_expr, copied_four, copied_two};
 use cell_value::Cell;
 use expr_syntax::Expr;
 use fixed_num::Num;
@@ -92,36 +92,50 @@ pub struct ChannelValue {
 
 impl Copies for Encode {
     fn copied(&self, alloc: Global) -> Result<Encode, OutOfMemory> {
-        Ok(Encode {
-            enter: Copies::copied(&self.enter, alloc)?,
-            update: Copies::copied(&self.update, alloc)?,
-        })
+        let (enter, update) = copied_two(alloc, &self.enter, &self.update)?;
+        Ok(Encode { enter, update })
     }
 }
 
 impl Copies for Channels {
     fn copied(&self, alloc: Global) -> Result<Channels, OutOfMemory> {
+        let across = copied_four(alloc, &self.x, &self.x2, &self.xc, &self.width)?;
+        let down = copied_four(alloc, &self.y, &self.y2, &self.yc, &self.height)?;
+        let look = copied_four(
+            alloc,
+            &self.fill,
+            &self.stroke,
+            &self.stroke_width,
+            &self.opacity,
+        )?;
+        let symbol = copied_four(alloc, &self.size, &self.shape, &self.text, &self.align)?;
+        let text_line = copied_four(alloc, &self.baseline, &self.dx, &self.dy, &self.font_size)?;
+        let (x, x2, xc, width) = across;
+        let (y, y2, yc, height) = down;
+        let (fill, stroke, stroke_width, opacity) = look;
+        let (size, shape, text, align) = symbol;
+        let (baseline, dx, dy, font_size) = text_line;
         Ok(Channels {
-            x: Copies::copied(&self.x, alloc)?,
-            x2: Copies::copied(&self.x2, alloc)?,
-            xc: Copies::copied(&self.xc, alloc)?,
-            width: Copies::copied(&self.width, alloc)?,
-            y: Copies::copied(&self.y, alloc)?,
-            y2: Copies::copied(&self.y2, alloc)?,
-            yc: Copies::copied(&self.yc, alloc)?,
-            height: Copies::copied(&self.height, alloc)?,
-            fill: Copies::copied(&self.fill, alloc)?,
-            stroke: Copies::copied(&self.stroke, alloc)?,
-            stroke_width: Copies::copied(&self.stroke_width, alloc)?,
-            opacity: Copies::copied(&self.opacity, alloc)?,
-            size: Copies::copied(&self.size, alloc)?,
-            shape: Copies::copied(&self.shape, alloc)?,
-            text: Copies::copied(&self.text, alloc)?,
-            align: Copies::copied(&self.align, alloc)?,
-            baseline: Copies::copied(&self.baseline, alloc)?,
-            dx: Copies::copied(&self.dx, alloc)?,
-            dy: Copies::copied(&self.dy, alloc)?,
-            font_size: Copies::copied(&self.font_size, alloc)?,
+            x,
+            x2,
+            xc,
+            width,
+            y,
+            y2,
+            yc,
+            height,
+            fill,
+            stroke,
+            stroke_width,
+            opacity,
+            size,
+            shape,
+            text,
+            align,
+            baseline,
+            dx,
+            dy,
+            font_size,
         })
     }
 }
@@ -137,15 +151,24 @@ impl Copies for Channel {
 
 impl Copies for ChannelValue {
     fn copied(&self, alloc: Global) -> Result<ChannelValue, OutOfMemory> {
+        let signal = copied_expr(alloc, &self.signal)?;
+        let test = copied_expr(alloc, &self.test)?;
+        let (value, field, scale, format) = copied_four(
+            alloc,
+            &self.value,
+            &self.field,
+            &self.scale,
+            &self.format,
+        )?;
         Ok(ChannelValue {
-            value: Copies::copied(&self.value, alloc)?,
-            field: Copies::copied(&self.field, alloc)?,
-            scale: Copies::copied(&self.scale, alloc)?,
+            value,
+            field,
+            scale,
             band: self.band,
             offset: self.offset,
-            signal: copied_expr(alloc, &self.signal)?,
-            test: copied_expr(alloc, &self.test)?,
-            format: Copies::copied(&self.format, alloc)?,
+            signal,
+            test,
+            format,
         })
     }
 }

@@ -1,6 +1,6 @@
 // Transforms over several rows.
 use crate::Sort;
-use crate::copying::copied_values;
+use crate::copying::{copied_four, copied_six, copied_three, copied_values};
 use cell_value::Cell;
 use fixed_num::Num;
 use std::alloc::Global;
@@ -68,24 +68,35 @@ pub struct Lookup {
 
 impl Copies for Aggregate {
     fn copied(&self, alloc: Global) -> Result<Aggregate, OutOfMemory> {
+        let ops = copied_values(alloc, &self.ops)?;
+        let (groupby, fields, as_) = copied_three(alloc, &self.groupby, &self.fields, &self.as_)?;
         Ok(Aggregate {
-            groupby: Copies::copied(&self.groupby, alloc)?,
-            ops: copied_values(alloc, &self.ops)?,
-            fields: Copies::copied(&self.fields, alloc)?,
-            as_: Copies::copied(&self.as_, alloc)?,
+            groupby,
+            ops,
+            fields,
+            as_,
         })
     }
 }
 
 impl Copies for Window {
     fn copied(&self, alloc: Global) -> Result<Window, OutOfMemory> {
+        let ops = Seq::from_slice(alloc, self.ops.as_slice())?;
+        let params = copied_values(alloc, &self.params)?;
+        let (fields, as_, groupby, sort) = copied_four(
+            alloc,
+            &self.fields,
+            &self.as_,
+            &self.groupby,
+            &self.sort,
+        )?;
         Ok(Window {
-            ops: Seq::from_slice(alloc, self.ops.as_slice())?,
-            fields: Copies::copied(&self.fields, alloc)?,
-            params: copied_values(alloc, &self.params)?,
-            as_: Copies::copied(&self.as_, alloc)?,
-            groupby: Copies::copied(&self.groupby, alloc)?,
-            sort: Copies::copied(&self.sort, alloc)?,
+            ops,
+            fields,
+            params,
+            as_,
+            groupby,
+            sort,
             frame: self.frame,
             ignore_peers: self.ignore_peers,
         })
@@ -94,13 +105,22 @@ impl Copies for Window {
 
 impl Copies for Lookup {
     fn copied(&self, alloc: Global) -> Result<Lookup, OutOfMemory> {
+        let (from, key, fields, values, as_, default) = copied_six(
+            alloc,
+            &self.from,
+            &self.key,
+            &self.fields,
+            &self.values,
+            &self.as_,
+            &self.default,
+        )?;
         Ok(Lookup {
-            from: self.from.copy()?,
-            key: self.key.copy()?,
-            fields: Copies::copied(&self.fields, alloc)?,
-            values: Copies::copied(&self.values, alloc)?,
-            as_: Copies::copied(&self.as_, alloc)?,
-            default: Copies::copied(&self.default, alloc)?,
+            from,
+            key,
+            fields,
+            values,
+            as_,
+            default,
         })
     }
 }

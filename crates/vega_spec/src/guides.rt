@@ -1,4 +1,5 @@
 // Axes, legends and layouts.
+use crate::copying::{copied_four, copied_six};
 use cell_value::Cell;
 use fixed_num::Num;
 use std::alloc::Global;
@@ -83,18 +84,25 @@ pub struct Layout {
 
 impl Copies for Axis {
     fn copied(&self, alloc: Global) -> Result<Axis, OutOfMemory> {
+        let (scale, title, values, format) = copied_four(
+            alloc,
+            &self.scale,
+            &self.title,
+            &self.values,
+            &self.format,
+        )?;
         Ok(Axis {
-            scale: self.scale.copy()?,
+            scale,
             orient: self.orient,
-            title: Copies::copied(&self.title, alloc)?,
+            title,
             labels: self.labels,
             ticks: self.ticks,
             domain: self.domain,
             grid: self.grid,
             label_angle: self.label_angle,
             tick_count: self.tick_count,
-            values: Copies::copied(&self.values, alloc)?,
-            format: Copies::copied(&self.format, alloc)?,
+            values,
+            format,
             edge: self.edge,
         })
     }
@@ -102,13 +110,22 @@ impl Copies for Axis {
 
 impl Copies for Legend {
     fn copied(&self, alloc: Global) -> Result<Legend, OutOfMemory> {
+        let (fill, opacity, shape, size, title, format) = copied_six(
+            alloc,
+            &self.fill,
+            &self.opacity,
+            &self.shape,
+            &self.size,
+            &self.title,
+            &self.format,
+        )?;
         Ok(Legend {
-            fill: Copies::copied(&self.fill, alloc)?,
-            opacity: Copies::copied(&self.opacity, alloc)?,
-            shape: Copies::copied(&self.shape, alloc)?,
-            size: Copies::copied(&self.size, alloc)?,
-            title: Copies::copied(&self.title, alloc)?,
-            format: Copies::copied(&self.format, alloc)?,
+            fill,
+            opacity,
+            shape,
+            size,
+            title,
+            format,
         })
     }
 }

@@ -1,6 +1,6 @@
 // Parts of marks.
 use crate::Texts;
-use crate::copying::copied_values;
+use crate::copying::{copied_three, copied_values};
 use std::alloc::Global;
 use text_kit::{Copies, OutOfMemory, Seq, Text};
 
@@ -74,12 +74,14 @@ impl Copies for MarkFrom {
 
 impl Copies for Facet {
     fn copied(&self, alloc: Global) -> Result<Facet, OutOfMemory> {
+        let headers = copied_values(alloc, &self.headers)?;
+        let (name, data_, groupby) = copied_three(alloc, &self.name, &self.data_, &self.groupby)?;
         Ok(Facet {
-            name: Copies::copied(&self.name, alloc)?,
-            data_: Copies::copied(&self.data_, alloc)?,
-            groupby: Copies::copied(&self.groupby, alloc)?,
+            name,
+            data_,
+            groupby,
             aggregate: self.aggregate,
-            headers: copied_values(alloc, &self.headers)?,
+            headers,
         })
     }
 }

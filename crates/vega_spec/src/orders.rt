@@ -1,4 +1,5 @@
 // Orders, and what may be one text or a list.
+use crate::copying::copied_two;
 use std::alloc::Global;
 use text_kit::{Copies, OutOfMemory, Seq, Text};
 
@@ -61,9 +62,7 @@ impl Copies for Orders {
 
 impl Copies for Sort {
     fn copied(&self, alloc: Global) -> Result<Sort, OutOfMemory> {
-        Ok(Sort {
-            field: Copies::copied(&self.field, alloc)?,
-            order: Copies::copied(&self.order, alloc)?,
-        })
+        let (field, order) = copied_two(alloc, &self.field, &self.order)?;
+        Ok(Sort { field, order })
     }
 }

@@ -1,6 +1,6 @@
 // Scales.
 use crate::Domain;
-use crate::copying::copied_expr;
+use crate::copying::{copied_expr, copied_three};
 use cell_value::Cell;
 use expr_syntax::Expr;
 use fixed_num::Num;
@@ -53,12 +53,14 @@ pub enum Range {
 
 impl Copies for Scale {
     fn copied(&self, alloc: Global) -> Result<Scale, OutOfMemory> {
+        let domain_raw = copied_expr(alloc, &self.domain_raw)?;
+        let (name, domain, range) = copied_three(alloc, &self.name, &self.domain, &self.range)?;
         Ok(Scale {
-            name: self.name.copy()?,
+            name,
             type_: self.type_,
-            domain: Copies::copied(&self.domain, alloc)?,
-            domain_raw: copied_expr(alloc, &self.domain_raw)?,
-            range: Copies::copied(&self.range, alloc)?,
+            domain,
+            domain_raw,
+            range,
             zero: self.zero,
             nice: self.nice,
             reverse: self.reverse,

@@ -1,5 +1,5 @@
 // Signals.
-use crate::copying::copied_expr;
+use crate::copying::{copied_expr, copied_four};
 use cell_value::Cell;
 use expr_syntax::Expr;
 use std::alloc::Global;
@@ -44,12 +44,20 @@ pub enum EventSelector {
 
 impl Copies for Signal {
     fn copied(&self, alloc: Global) -> Result<Signal, OutOfMemory> {
+        let update = copied_expr(alloc, &self.update)?;
+        let (name, value, on, marks) = copied_four(
+            alloc,
+            &self.name,
+            &self.value,
+            &self.on,
+            &self.marks,
+        )?;
         Ok(Signal {
-            name: self.name.copy()?,
-            value: Copies::copied(&self.value, alloc)?,
-            update: copied_expr(alloc, &self.update)?,
-            on: Copies::copied(&self.on, alloc)?,
-            marks: Copies::copied(&self.marks, alloc)?,
+            name,
+            value,
+            update,
+            on,
+            marks,
         })
     }
 }

@@ -1,6 +1,7 @@
 // Marks, groups and whole specifications.
 ghost use Rattle.std.specs.Prelude.{◌≡◌, IfOk};
 
+use crate::copying::{copied_four, copied_six};
 use crate::{Axis, DataSet, Encode, Layout, Legend, MarkFrom, MarkType, Scale, Signal, Sort};
 use expr_syntax::Expr;
 use fixed_num::Num;
@@ -88,13 +89,21 @@ impl VgMark {
     pub fn copy(&self, alloc: Global) -> Result<VgMark, OutOfMemory>
         ensures { IfOk result (λ copy. copy ≡ self.now) }
     {
+        let group = self.group.copy(alloc)?;
+        let (name, from, encode, sort) = copied_four(
+            alloc,
+            &self.name,
+            &self.from,
+            &self.encode,
+            &self.sort,
+        )?;
         Ok(VgMark {
             type_: self.type_,
-            name: Copies::copied(&self.name, alloc)?,
-            from: Copies::copied(&self.from, alloc)?,
-            encode: Copies::copied(&self.encode, alloc)?,
-            sort: Copies::copied(&self.sort, alloc)?,
-            group: self.group.copy(alloc)?,
+            name,
+            from,
+            encode,
+            sort,
+            group,
         })
     }
 }
@@ -105,15 +114,25 @@ impl Group {
     pub fn copy(&self, alloc: Global) -> Result<Group, OutOfMemory>
         ensures { IfOk result (λ copy. copy ≡ self.now) }
     {
+        let marks = copied_marks(alloc, &self.marks)?;
+        let (data_, signals, scales, axes, legends, title) = copied_six(
+            alloc,
+            &self.data_,
+            &self.signals,
+            &self.scales,
+            &self.axes,
+            &self.legends,
+            &self.title,
+        )?;
         Ok(Group {
-            data_: Copies::copied(&self.data_, alloc)?,
-            signals: Copies::copied(&self.signals, alloc)?,
-            scales: Copies::copied(&self.scales, alloc)?,
+            data_,
+            signals,
+            scales,
             layout: self.layout,
-            marks: copied_marks(alloc, &self.marks)?,
-            axes: Copies::copied(&self.axes, alloc)?,
-            legends: Copies::copied(&self.legends, alloc)?,
-            title: Copies::copied(&self.title, alloc)?,
+            marks,
+            axes,
+            legends,
+            title,
         })
     }
 }
@@ -141,14 +160,22 @@ impl VgSpec {
     pub fn copy(&self, alloc: Global) -> Result<VgSpec, OutOfMemory>
         ensures { IfOk result (λ copy. copy ≡ self.now) }
     {
+        let group = self.group.copy(alloc)?;
+        let (schema, description, width, height) = copied_four(
+            alloc,
+            &self.schema,
+            &self.description,
+            &self.width,
+            &self.height,
+        )?;
         Ok(VgSpec {
-            schema: Copies::copied(&self.schema, alloc)?,
-            description: Copies::copied(&self.description, alloc)?,
-            width: Copies::copied(&self.width, alloc)?,
-            height: Copies::copied(&self.height, alloc)?,
+            schema,
+            description,
+            width,
+            height,
             padding: self.padding,
             autosize: self.autosize,
-            group: self.group.copy(alloc)?,
+            group,
         })
     }
 }

@@ -1,4 +1,5 @@
 // Transforms of rows.
+use crate::copying::{copied_four, copied_three, copied_two};
 use crate::{Aggregate, Lookup, Sort, Window};
 use expr_syntax::Expr;
 use fixed_num::Num;
@@ -163,22 +164,21 @@ impl Copies for Formula {
 }
 
 impl Copies for Extent {
-    fn copied(&self, _: Global) -> Result<Extent, OutOfMemory> {
-        Ok(Extent {
-            field: self.field.copy()?,
-            signal: self.signal.copy()?,
-        })
+    fn copied(&self, alloc: Global) -> Result<Extent, OutOfMemory> {
+        let (field, signal) = copied_two(alloc, &self.field, &self.signal)?;
+        Ok(Extent { field, signal })
     }
 }
 
 impl Copies for Bin {
     fn copied(&self, alloc: Global) -> Result<Bin, OutOfMemory> {
+        let (field, extent, as_) = copied_three(alloc, &self.field, &self.extent, &self.as_)?;
         Ok(Bin {
-            field: self.field.copy()?,
-            extent: Copies::copied(&self.extent, alloc)?,
+            field,
+            extent,
             maxbins: self.maxbins,
             step: self.step,
-            as_: Copies::copied(&self.as_, alloc)?,
+            as_,
         })
     }
 }
@@ -194,31 +194,37 @@ impl Copies for BinExtent {
 
 impl Copies for TimeUnit {
     fn copied(&self, alloc: Global) -> Result<TimeUnit, OutOfMemory> {
+        let (field, as_) = copied_two(alloc, &self.field, &self.as_)?;
         Ok(TimeUnit {
-            field: self.field.copy()?,
+            field,
             units: self.units,
-            as_: Copies::copied(&self.as_, alloc)?,
+            as_,
         })
     }
 }
 
 impl Copies for Stack {
     fn copied(&self, alloc: Global) -> Result<Stack, OutOfMemory> {
+        let (groupby, field, sort, as_) = copied_four(
+            alloc,
+            &self.groupby,
+            &self.field,
+            &self.sort,
+            &self.as_,
+        )?;
         Ok(Stack {
-            groupby: Copies::copied(&self.groupby, alloc)?,
-            field: self.field.copy()?,
-            sort: Copies::copied(&self.sort, alloc)?,
+            groupby,
+            field,
+            sort,
             offset: self.offset,
-            as_: Copies::copied(&self.as_, alloc)?,
+            as_,
         })
     }
 }
 
 impl Copies for Fold {
     fn copied(&self, alloc: Global) -> Result<Fold, OutOfMemory> {
-        Ok(Fold {
-            fields: Copies::copied(&self.fields, alloc)?,
-            as_: Copies::copied(&self.as_, alloc)?,
-        })
+        let (fields, as_) = copied_two(alloc, &self.fields, &self.as_)?;
+        Ok(Fold { fields, as_ })
     }
 }
