@@ -15,10 +15,10 @@ use Rattle.chart_run.specs.declared.stop.Stop.{Stop}
 use Rattle.chart_run.specs.declared.stop.Stop.TheVariants as stop
 use Rattle.chart_run.specs.Words.{Ask, Render, Play, Compile, reads_script}
 use Rattle.chart_run.specs.Refusals.{refusal_status, opened_for, IsRefused}
-use Rattle.chart_run.specs.Wanted.{IsAccepted, IsAnswered, MayFail, script_for}
+use Rattle.chart_run.specs.Wanted.{IsAccepted, IsAnswered, IsRepliedTo, MayFail, script_for}
 use Rattle.chart_run.specs.Ends.{End, Done, Words, Refused, ReadFault, WriteFault, NoMemory, LongScript, end_status, IsEnd, Told, AsksScript}
-use Rattle.chart_run.specs.inner.Stops.{end_of, stop_end, IsTold}
-use Rattle.chart_run.specs.inner.Runs.{IsTexted}
+use Rattle.chart_run.specs.inner.Stops.{end_of, stop_end, IsTold, IsCutOff}
+use Rattle.chart_run.specs.inner.Runs.{IsTexted, IsRepliedSo}
 
 -- the status comes wherever the refusal holds, unless reading failed or memory was refused
 abbrev pub Comes : ℕ → Refusal → Type 0
@@ -113,15 +113,19 @@ module _ (ask : Ask) (files : Files) (told left : Option (List ℕ)) (Untouched 
       too_long (Compile n) s r = absurd cc
 
 -- what is done is wanted
-pub answered : (ask : Ask) (files : Files) (script : List ℕ) (status : ℕ) (old now : Option (List ℕ)) (Fault : Type 0)
+pub answered : (ask : Ask) (files : Files) (script : List ℕ) (left : Option (List ℕ)) (status : ℕ) (old now : Option (List ℕ)) (Fault : Type 0)
     (r : Result (Unit {0}) Stop) (end : End)
     → IsTold (result_err r) end → status ≡ end_status end → IsTexted ask files script r old now
-    → (length script ≤ most_script_bytes → (Fault → ⊥) → (status ≡ 0) ⊎ (status ≡ 9)) → IsAnswered the_reading ask files script status old now Fault
-answered ask files script status old now Fault r end told e is complete = record {
+    → ((why : Refusal) → end ≡ Refused why → ⊥)
+    → (reads_script ask ≡ true → IsCutOff r → IsRepliedTo the_reading ask files script left old now)
+    → (length script ≤ most_script_bytes → (Fault → ⊥) → (status ≡ 0) ⊎ (status ≡ 9))
+    → IsAnswered the_reading ask files script left status old now Fault
+answered ask files script left status old now Fault r end told e is unrefused replied complete = record {
   text = is.text;
   wanted = is.wanted;
   begun = is.begun;
   whole = λ zero. only_done r told is.whole zero;
+  replied = λ reads stopped. replied reads (is_cut r told stopped);
   complete = complete;
 }
   where
@@ -148,6 +152,23 @@ answered ask files script status old now Fault r end told e is complete = record
     only_done (Err stop.Write) told is zero = absurd (other 7 WriteFault told refl zero)
     only_done (Err stop.Memory) told is zero = absurd (other 8 NoMemory told refl zero)
     only_done (Err stop.ScriptSize) told is zero = absurd (other 9 LongScript told refl zero)
+
+    -- another status than 7 and 10
+    neither : (n : ℕ) → (end' : End) → end ≡ end' → end_status end' ≡ n → (n ≡ 7 → ⊥) → (n ≡ 10 → ⊥)
+        → (status ≡ 7) ⊎ (status ≡ 10) → ⊥
+    neither n end' same s not_7 not_10 (inl is_7) = let t = ap end_status same in not_7 (omega arith)
+    neither n end' same s not_7 not_10 (inr is_10) = let t = ap end_status same in not_10 (omega arith)
+
+    -- these two come where a run was cut off
+    is_cut : (r : Result (Unit {0}) Stop) → IsTold (result_err r) end → (status ≡ 7) ⊎ (status ≡ 10) → IsCutOff r
+    is_cut (Ok done) told stopped = absurd (neither 0 Done told refl (omega arith) (omega arith) stopped)
+    is_cut (Err stop.Words) told stopped = absurd (neither 1 Words told refl (omega arith) (omega arith) stopped)
+    is_cut (Err (stop.Refused why)) (inl told) stopped = absurd (unrefused why told)
+    is_cut (Err (stop.Refused why)) (inr told) stopped = absurd (neither 9 NoMemory told refl (omega arith) (omega arith) stopped)
+    is_cut (Err stop.Read) told stopped = tt
+    is_cut (Err stop.Write) told stopped = absurd (neither 8 WriteFault told refl (omega arith) (omega arith) stopped)
+    is_cut (Err stop.Memory) told stopped = absurd (neither 9 NoMemory told refl (omega arith) (omega arith) stopped)
+    is_cut (Err stop.ScriptSize) told stopped = tt
 
 -- what holds of what is asked for holds where it is asked for
 pub told_of : (asked : Option Ask) (told : Option Files) (ask : Ask) (P : Ask → Files → Type 0) → Some ask ≡ asked → IfSome told (P ask)
@@ -177,20 +198,29 @@ pub told_answered : (asked : Option Ask) (told : Option Files) (script left : Op
     → IsTold (result_err r) end → status ≡ end_status end
     → IsEnd the_reading asked told script left Untouched Silent FolderRose ScriptRose OutRose end
     → Told asked told (λ ask files. IfSome (script_for ask script) (λ bytes. IsAccepted the_reading ask files → IsTexted ask files bytes r old now))
+    → Told asked told (λ ask files. IfSome (script_for ask script) (λ bytes. IsRepliedSo ask files bytes left r old now))
     → Told asked told (λ ask files. IfSome (script_for ask script) (λ bytes. IsAccepted the_reading ask files
-    → IsAnswered the_reading ask files bytes status old now (MayFail ask FolderRose ScriptRose OutRose)))
-told_answered None told script left Untouched Silent FolderRose ScriptRose OutRose status r end old now is_told e is text = tt
-told_answered (Some ask) None script left Untouched Silent FolderRose ScriptRose OutRose status r end old now is_told e is text = tt
-told_answered (Some ask) (Some files) script left Untouched Silent FolderRose ScriptRose OutRose status r end old now is_told e is text =
-    by_script (script_for ask script) refl text
+    → IsAnswered the_reading ask files bytes left status old now (MayFail ask FolderRose ScriptRose OutRose)))
+told_answered None told script left Untouched Silent FolderRose ScriptRose OutRose status r end old now is_told e is text replied = tt
+told_answered (Some ask) None script left Untouched Silent FolderRose ScriptRose OutRose status r end old now is_told e is text replied = tt
+told_answered (Some ask) (Some files) script left Untouched Silent FolderRose ScriptRose OutRose status r end old now is_told e is text replied =
+    by_script (script_for ask script) refl text replied
   where
+    refuses : IsAccepted the_reading ask files → (why : Refusal) → end ≡ Refused why → ⊥
+    refuses accepted why same =
+        let at : End → Type 0 = λ it. IsEnd the_reading (Some ask) (Some files) script left Untouched Silent FolderRose ScriptRose OutRose it in
+        let refused = subst at same is in
+        accepted_not_refused ask files why accepted refused.0
+
     by_script : (s : Option (List ℕ)) → script_for ask script ≡ s
         → IfSome s (λ bytes. IsAccepted the_reading ask files → IsTexted ask files bytes r old now)
+        → IfSome s (λ bytes. IsRepliedSo ask files bytes left r old now)
         → IfSome s (λ bytes. IsAccepted the_reading ask files
-        → IsAnswered the_reading ask files bytes status old now (MayFail ask FolderRose ScriptRose OutRose))
-    by_script None same text = tt
-    by_script (Some bytes) same text = λ accepted.
-        answered ask files bytes status old now (MayFail ask FolderRose ScriptRose OutRose) r end is_told e (text accepted)
+        → IsAnswered the_reading ask files bytes left status old now (MayFail ask FolderRose ScriptRose OutRose))
+    by_script None same text replied = tt
+    by_script (Some bytes) same text replied = λ accepted.
+        answered ask files bytes left status old now (MayFail ask FolderRose ScriptRose OutRose) r end is_told e (text accepted)
+        (refuses accepted) (replied accepted)
         (complete_end ask files script left Untouched Silent FolderRose ScriptRose OutRose status bytes same end e is accepted)
 
 -- status 1 comes for wrong words alone

@@ -4,6 +4,7 @@ pub mod Meets
 pub mod Pictures
 pub mod Ended
 pub mod Texts
+pub mod Replied
 pub mod Stopped
 pub mod Readings
 pub mod FormTexts

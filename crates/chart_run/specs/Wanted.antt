@@ -1,5 +1,5 @@
 -- What is wanted of words, files and a script: one text.
-use Rattle.std.specs.Prelude.{◌≡◌, ◌⊎◌, ◌≤◌, ℕ, true, Option, Some, None, List, [], ◌∷◌, ◌++◌, length, Ok, if◌then◌else◌}
+use Rattle.std.specs.Prelude.{◌≡◌, ◌⊎◌, ◌≤◌, ℕ, true, Option, Some, None, List, [], ◌∷◌, ◌++◌, length, take, Ok, if◌then◌else◌}
 use Rattle.chart_io.specs.Outside.{Files, Appended, AppendedPrefix}
 use Rattle.json_exact.specs.declared.json.Json.{Json}
 use Rattle.json_exact.specs.Writing.{text_of}
@@ -7,8 +7,9 @@ use Rattle.cell_value.specs.State.{State, state_of}
 use Rattle.scene_tree.specs.Outcome.{Outcome, Drawn, Overflow}
 use Rattle.vega_writing.specs.Spec.{tree_of}
 use Rattle.vega_meaning.specs.Charts.{vega_chart_of}
-use Rattle.vega_meaning.specs.Semantics.{IsVegaOutput}
-use Rattle.param_flow.specs.Script.{most_script_bytes}
+use Rattle.vega_meaning.specs.Semantics.{IsVegaReply, IsVegaOutput}
+use Rattle.param_flow.specs.Script.{IsOutput, ended_lines, most_script_bytes}
+use Rattle.play_script.specs.Played.{HasTaken}
 use Rattle.first_form.specs.declared.form.FirstForm.{FirstForm}
 use Rattle.first_form.specs.FirstForm.{form_of}
 use Rattle.first_form.specs.Bars.{chart_of}
@@ -38,6 +39,11 @@ vega_text opened = text_of (tree_of opened.spec) ++ 10 ∷ []
 abbrev pub IsOutputFrom : Opened → List ℕ → List ℕ → Type 0
 IsOutputFrom opened script text = (notes : List ℕ) × (now : State) × IsVegaOutput opened.spec (state_of opened.state) script text notes now
 
+-- The text is the replies to lines from the opening state, joined.
+abbrev pub AreRepliesFrom : Opened → List (List ℕ) → List ℕ → Type 0
+AreRepliesFrom opened lines text =
+    (notes : List ℕ) × (now : State) × IsOutput (IsVegaReply opened.spec) (state_of opened.state) 1 lines text notes now
+
 module _ (reading : Reading) where
   -- the files have what is asked for
   abbrev pub IsAccepted : Ask → Files → Type 0
@@ -54,6 +60,13 @@ module _ (reading : Reading) where
   abbrev pub IsWanted : Ask → Files → List ℕ → List ℕ → Type 0
   IsWanted ask files script text = (opened : Opened) × (opened_for reading ask files ≡ Ok opened) × IsTextOf ask files opened script text
 
+  -- What was appended are the replies to the lines that ended within what was taken of the script, and nothing more; of a script that is
+  -- too long, within as much as a script may have.
+  abbrev pub IsRepliedTo : Ask → Files → List ℕ → Option (List ℕ) → Option (List ℕ) → Option (List ℕ) → Type 0
+  IsRepliedTo ask files script left out out_now =
+      (opened : Opened) × (opened_for reading ask files ≡ Ok opened) × (taken : List ℕ) × HasTaken (Some script) left taken
+      × (text : List ℕ) × AreRepliesFrom opened (ended_lines (take most_script_bytes taken)) text × Appended out out_now text
+
 -- the script that is read, where it is told; no byte is read where none is asked for
 abbrev pub script_for : Ask → Option (List ℕ) → Option (List ℕ)
 script_for (Render name) told = Some []
@@ -65,12 +78,14 @@ abbrev pub MayFail : Ask → Type 0 → Type 0 → Type 0 → Type 0
 MayFail ask folder script out = folder ⊎ (((reads_script ask ≡ true) × script) ⊎ out)
 
 -- What an accepted specification gets, with this status and faults or none: there is a text that is wanted, and what
--- was appended is a beginning of it; with status 0 all of it; and with a script within its size and without a fault the
--- status is 0, or 9 where memory was refused.
-pub record IsAnswered (reading : Reading) (ask : Ask) (files : Files) (script : List ℕ) (status : ℕ) (out out_now : Option (List ℕ))
-    (Fault : Type 0) : Type 0 where
+-- was appended is a beginning of it; with status 0 all of it; where a script couldn't be read on (7) or is too long (10), the
+-- replies to the lines that ended; and with a script within its size and without a fault the status is 0, or 9 where memory
+-- was refused. Left is what the script has left.
+pub record IsAnswered (reading : Reading) (ask : Ask) (files : Files) (script : List ℕ) (left : Option (List ℕ)) (status : ℕ)
+    (out out_now : Option (List ℕ)) (Fault : Type 0) : Type 0 where
   pub text : List ℕ
   pub wanted : IsWanted reading ask files script text
   pub begun : AppendedPrefix out out_now text
   pub whole : status ≡ 0 → Appended out out_now text
+  pub replied : reads_script ask ≡ true → (status ≡ 7) ⊎ (status ≡ 10) → IsRepliedTo reading ask files script left out out_now
   pub complete : length script ≤ most_script_bytes → (Fault → ⊥) → (status ≡ 0) ⊎ (status ≡ 9)

@@ -10,7 +10,7 @@ ghost use Rattle.chart_run.specs.Wanted.{IsAccepted};
 ghost use Rattle.chart_run.specs.Ends.{IsEnd};
 ghost use Rattle.chart_opening.specs.inner.Reading.{the_reading};
 ghost use Rattle.chart_run.specs.inner.Stops.{end_of, handed, stop_of};
-ghost use Rattle.chart_run.specs.inner.Runs.{IsTexted};
+ghost use Rattle.chart_run.specs.inner.Runs.{IsTexted, IsRepliedSo};
 
 use crate::opened::drawn_file;
 use crate::stop::Stop;
@@ -92,7 +92,8 @@ fn play_over<E: Engine, S: Source, K: Sink, N: Sink>(
 /// Plays a script over the chart of the file of this name, or says why not, as `drawn_file` does. `Read` comes only where the
 /// folder's or the script's count of faults rose, `Write` only where the output's did, `ScriptSize` exactly where more than
 /// 268,435,456 bytes of the script were taken. Where the files or the chart are refused, nothing is written and the script isn't read.
-/// Else the replies are written: with Ok all of them, and the script was read to its end; after an error a beginning of them.
+/// Else the replies are written: with Ok all of them, and the script was read to its end; after `Read` and `ScriptSize` those to
+/// the lines that ended within what was taken; after any other error a beginning of them.
 pub fn play<F: Folder, S: Source, K: Sink, N: Sink>(
     alloc: Global,
     name: &str,
@@ -115,6 +116,8 @@ pub fn play<F: Folder, S: Source, K: Sink, N: Sink>(
         (Rose (K.faults out.old) (K.faults out.new)) (end_of (result_err result)) }
     ensures text { IfSome (F.files folder.old) (λ files. IfSome (S.left script.old) (λ script_bytes. IsAccepted the_reading (Play name.now) files
         → IsTexted (Play name.now) files script_bytes result (K.held out.old) (K.held out.new))) }
+    ensures replied { IfSome (F.files folder.old) (λ files. IfSome (S.left script.old) (λ script_bytes.
+        IsRepliedSo (Play name.now) files script_bytes (S.left script.new) result (K.held out.old) (K.held out.new))) }
     ensures nothing { IfSome (F.files folder.old) (λ files. (IsAccepted the_reading (Play name.now) files → ⊥)
         → Kept (K.held out.old) (K.held out.new) × (script.new ≡ script.old)) }
 {

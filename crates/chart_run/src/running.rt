@@ -8,7 +8,7 @@ ghost use Rattle.chart_run.specs.Words.{asked_in};
 ghost use Rattle.chart_run.specs.Wanted.{IsAccepted, script_for};
 ghost use Rattle.chart_run.specs.Ends.{IsEnd, Told, AsksScript};
 ghost use Rattle.chart_run.specs.inner.Stops.{end_of};
-ghost use Rattle.chart_run.specs.inner.Runs.{IsTexted};
+ghost use Rattle.chart_run.specs.inner.Runs.{IsTexted, IsRepliedSo};
 
 use crate::compile::compile;
 use crate::play::play;
@@ -21,7 +21,8 @@ use std::alloc::Global;
 /// Does what the words after the program's name ask, or says why not: `Words` exactly where they are no form of words; `Refused` with the
 /// first cause that refuses the files, only and wherever it holds, unless a read failed or memory was refused; `Read` only where the
 /// folder's or the script's count of faults rose, `Write` only where the output's did; `ScriptSize` exactly where more than 268,435,456
-/// bytes of the script were taken. Where files are refused nothing is written and no script is read. Nothing is written to the notes.
+/// bytes of the script were taken. After these two the replies to the lines that ended are written. Where files are refused nothing is
+/// written and no script is read. Nothing is written to the notes.
 pub fn run<F: Folder, S: Source, K: Sink, N: Sink>(
     alloc: Global,
     words: &Vec<String>,
@@ -43,6 +44,8 @@ pub fn run<F: Folder, S: Source, K: Sink, N: Sink>(
         (Rose (K.faults out.old) (K.faults out.new)) (end_of (result_err result)) }
     ensures text { Told (asked_in words.now.items) (F.files folder.old) (λ ask files. IfSome (script_for ask (S.left script.old))
         (λ script. IsAccepted the_reading ask files → IsTexted ask files script result (K.held out.old) (K.held out.new))) }
+    ensures replied { Told (asked_in words.now.items) (F.files folder.old) (λ ask files. IfSome (script_for ask (S.left script.old))
+        (λ bytes. IsRepliedSo ask files bytes (S.left script.new) result (K.held out.old) (K.held out.new))) }
     ensures nothing { Told (asked_in words.now.items) (F.files folder.old) (λ ask files. (IsAccepted the_reading ask files → ⊥)
         → Kept (K.held out.old) (K.held out.new) × (script.new ≡ script.old)) }
     ensures script_size { IfSome (S.left script.old) (λ bytes. (result ≡ Err Stop.ScriptSize) ↔ IsPastSize bytes (S.left script.new)) }

@@ -87,10 +87,11 @@ pub fn chart_main<F: Folder, S: Source, K: Sink, N: Sink>(
         → (result ≡ refusal_status why) ⊎ ((result ≡ 7) ⊎ (result ≡ 9))) }
 
     // The end-to-end theorem: over files that are accepted there is a text that is wanted, and what is appended begins it; with status 0
-    // all of it; with a script within its size and without a fault the status is 0, or 9.
+    // all of it; where the script couldn't be read on or is too long, the replies to the lines that ended within what was taken of it;
+    // with a script within its size and without a fault the status is 0, or 9.
     ensures answered { (reading : Reading) → ReadsJson reading → Told (asked_in words.now.items) (F.files folder.old)
         (λ ask files. IfSome (script_for ask (S.left script.old))
-        (λ bytes. IsAccepted reading ask files → IsAnswered reading ask files bytes result (K.held out.old) (K.held out.new)
+        (λ bytes. IsAccepted reading ask files → IsAnswered reading ask files bytes (S.left script.new) result (K.held out.old) (K.held out.new)
         (MayFail ask (Rose (F.faults folder.old) (F.faults folder.new)) (Rose (S.faults script.old) (S.faults script.new))
         (Rose (K.faults out.old) (K.faults out.new))))) }
 

@@ -3,13 +3,24 @@ use Rattle.std.specs.Prelude.{◌≡◌, ℕ, List, ◌++◌, take, Result}
 use Rattle.chart_io.specs.Outside.{AppendedPrefix}
 use Rattle.cell_value.specs.State.{State}
 use Rattle.scene_tree.specs.Outcome.{Drawn}
+use Rattle.param_flow.specs.declared.command.Command.{Command}
+use Rattle.param_flow.specs.declared.reply.Cause.{Cause}
+use Rattle.param_flow.specs.declared.reply.Reply.TheVariants.{Refused}
+use Rattle.param_flow.specs.Machine.{reply_of, state_after}
 use Rattle.param_flow.specs.Script.{IsOutput, lines_of, ended_lines}
+use Rattle.param_flow.specs.Semantics.{Semantics}
 use Rattle.vega_spec.specs.declared.spec.VgSpec.{VgSpec}
 use Rattle.vega_meaning.specs.Charts.{vega_chart_of}
 use Rattle.vega_meaning.specs.Semantics.{IsVegaReply, IsVegaOutput}
 use Rattle.play_script.specs.declared.errors.PlayError.{PlayError}
 use Rattle.play_script.specs.Meaning.{Meaning, IsReplyIn}
 use Rattle.play_script.specs.Played.{Sinks, IsPlayed}
+
+-- a command that the direct machine refuses changes nothing: the state after it is the state before it
+abbrev pub RefusedCommandsChangeNothing : Type 0
+RefusedCommandsChangeNothing =
+    (meaning : Semantics) (st : State) (command : Command) (cause : Cause) → reply_of meaning st command ≡ Refused cause
+    → state_after meaning st command ≡ st
 
 -- a script has one output from a state, and the same notes and the same state after it
 abbrev pub ScriptsHaveOneOutput : Type 0

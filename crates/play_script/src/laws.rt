@@ -1,6 +1,11 @@
 // Laws that callers build on.
 ghost use Rattle.play_script.specs.Laws.{ScriptsHaveAnOutput, ScriptsHaveOneOutput, OutputsAreVega, OutputsBegin};
-ghost use Rattle.play_script.specs.Laws.{EndedLinesComeFirst, PlayedBegins};
+ghost use Rattle.play_script.specs.Laws.{EndedLinesComeFirst, PlayedBegins, RefusedCommandsChangeNothing};
+
+/// A command that is refused changes nothing.
+pub fn refused_changes_nothing()
+    ensures { RefusedCommandsChangeNothing }
+{}
 
 /// Every script has an output from a state whose chart is drawn, and the chart of the state after it is drawn too.
 pub fn an_output()

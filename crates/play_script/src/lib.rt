@@ -18,7 +18,9 @@ mod values;
 pub use engine::Engine;
 pub use engine_lines::{EngineLines, play};
 pub use errors::{LineError, PlayError, PrintError};
-pub use laws::{an_output, as_vega, begins, ended_first, one_output, played_begins};
+pub use laws::{
+    an_output, as_vega, begins, ended_first, one_output, played_begins, refused_changes_nothing,
+};
 pub use playing::play_lines;
 pub use reading::read_command;
 pub use script::Lines;

@@ -54,6 +54,12 @@ abbrev pub handed : Result (Unit {0}) PlayError → Result (Unit {0}) Stop
 handed (Ok done) = Ok done
 handed (Err cause) = Err (stop_of cause)
 
+-- the reading of a script or of files stopped the run, or the script is too long
+abbrev pub IsCutOff : Result (Unit {0}) Stop → Type 0
+IsCutOff (Err stop.Read) = Unit {0}
+IsCutOff (Err stop.ScriptSize) = Unit {0}
+IsCutOff result = ⊥
+
 -- which refusal a cause is, if it is one
 abbrev pub refusal_of : Stop → Option Refusal
 refusal_of (stop.Refused why) = Some why

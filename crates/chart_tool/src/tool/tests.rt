@@ -1,17 +1,10 @@
-//! The program over folders, scripts and sinks in memory.
+//! The program over objects that never fail.
+ghost use Rattle.std.specs.Prelude.{◌≢◌, IfOk};
+
 use super::chart_main;
-use chart_io::{ListFolder, ListSink, ListSource, Source};
+use chart_io::{CountSink, SureFolder, SureSource};
 use std::alloc::Global;
 use std::test::Fail;
-
-mod charts;
-mod faults;
-mod limits;
-mod pictures;
-mod refusals;
-mod scripts;
-mod transforms;
-mod vega;
 
 const THREE_BARS: &str = concat!(
     "{\"data\":{\"name\":\"t\",\"values\":[",
@@ -20,9 +13,6 @@ const THREE_BARS: &str = concat!(
     "\"x\":{\"field\":\"a\",\"type\":\"nominal\",\"axis\":null},",
     "\"y\":{\"field\":\"b\",\"type\":\"quantitative\",\"axis\":null}}}",
 );
-
-// How runs end: the status, and the note.
-const DONE: (u8, &str) = (0, "");
 
 // A fourth bar, twice as high as the second, and a print.
 const FOURTH_BAR: &str = "[\"change\",\"t\",{\"insert\":[{\"a\":\"D\",\"b\":110}]}]\n[\"print\"]\n";
@@ -40,7 +30,7 @@ const FOUR_BARS: &str =
 ";
 
 // The words that play a script.
-const PLAYING: [&[&str]; 2] = [&["play", "s.json"], &["play", "--plain", "s.json"]];
+const PLAYING: [&str; 2] = ["play", "s.json"];
 
 // The words of a command line.
 fn words_of(alloc: Global, words: &[&str]) -> Result<Vec<String>, Fail> {
@@ -61,76 +51,30 @@ fn folder_of(alloc: Global, bytes: &[u8]) -> Result<Vec<(String, Vec<u8>)>, Fail
     Ok(files)
 }
 
-// Whether the program ends so, with these words over a file and a script. The reads of the file of these numbers fail.
-fn ends<S: Source>(
-    alloc: Global,
-    words: &[&str],
-    file: &[u8],
-    fails: &[u64],
-    script: &mut S,
-    out: &mut ListSink,
-    end: (u8, &str),
-) -> Result<bool, Fail> {
-    let words = words_of(alloc, words)?;
-    let mut folder = ListFolder::of(folder_of(alloc, file)?, fails.to_vec(alloc)?);
-    let mut notes = ListSink::of(alloc, 1000, Vec::new(alloc))?;
-    let status = chart_main(alloc, &words, &mut folder, script, out, &mut notes);
-    Ok(status == end.0 && notes.bytes() == end.1.as_bytes())
-}
-
-// Whether the program ends so over a file, with these words and a script that asks for a picture, and writes nothing.
-fn is_refused(
-    alloc: Global,
-    words: &[&str],
-    file: &[u8],
-    fails: &[u64],
-    end: (u8, &str),
-) -> Result<bool, Fail> {
-    let mut script = ListSource::of(FOURTH_BAR.as_bytes().to_vec(alloc)?, 4096, Vec::new(alloc));
-    let mut out = ListSink::of(alloc, 4096, Vec::new(alloc))?;
-    let is_so = ends(alloc, words, file, fails, &mut script, &mut out, end)?;
-    Ok(is_so && out.bytes().is_empty())
-}
-
-// Whether a script is played over three bars to its end, with this output. A read gives at most so many bytes and at least one.
-fn is_played(
-    alloc: Global,
-    words: &[&str],
-    script: &[u8],
-    most: usize,
-    output: &str,
-) -> Result<bool, Fail> {
-    let mut script = ListSource::of(script.to_vec(alloc)?, most.max(1), Vec::new(alloc));
-    let mut out = ListSink::of(alloc, 4096, Vec::new(alloc))?;
-    let three = THREE_BARS.as_bytes();
-    let is_so = ends(alloc, words, three, &[], &mut script, &mut out, DONE)?;
-    Ok(is_so && out.bytes() == output.as_bytes())
-}
-
-// A chart of the first form over these values, by its two fields.
-fn chart_of(alloc: Global, values: &str, x: &str, y: &str) -> Result<String, Fail> {
-    let mut text = String::from_str(alloc, "{\"data\":{\"name\":\"t\",\"values\":[")?;
-    text.push_str(values)?;
-    text.push_str("]},\"mark\":\"bar\",\"encoding\":{\"x\":{\"field\":\"")?;
-    text.push_str(x)?;
-    text.push_str("\",\"type\":\"nominal\",\"axis\":null},\"y\":{\"field\":\"")?;
-    text.push_str(y)?;
-    text.push_str("\",\"type\":\"quantitative\",\"axis\":null}}}")?;
-    Ok(text)
-}
-
-// The picture of these bars in a plot of this width.
-fn picture_of(alloc: Global, width: u32, bars: &[&str]) -> Result<String, Fail> {
-    let mut text = String::from_str(
+// The status of a script over objects that never fail, and how many bytes were written.
+fn sure(alloc: Global, script: &str) -> Result<(u8, u64), Fail>
+    ensures never_a_fault { IfOk result (λ v. (v.0 ≢ 7) × (v.0 ≢ 8)) }
+{
+    let words = words_of(alloc, &PLAYING)?;
+    let mut folder = SureFolder::of(folder_of(alloc, THREE_BARS.as_bytes())?);
+    let mut script = SureSource::of(script.as_bytes().to_vec(alloc)?);
+    let mut out = CountSink::new();
+    let mut notes = CountSink::new();
+    let status = chart_main(
         alloc,
-        "<svg xmlns=\"http://www.w3.org/2000/svg\" version=\"1.1\" ",
-    )?;
-    let size = format!(in alloc; "width=\"{width}\" height=\"210\" viewBox=\"0 0 {width} 210\"")?;
-    text.push_str(size.as_str())?;
-    text.push_str(">\n<g transform=\"translate(5,5)\">\n")?;
-    for bar in bars {
-        text.push_str(format!(in alloc; "<rect {bar} fill=\"#4c78a8\"/>\n")?.as_str())?;
-    }
-    text.push_str("</g>\n</svg>\n")?;
-    Ok(text)
+        &words,
+        &mut folder,
+        &mut script,
+        &mut out,
+        &mut notes,
+    );
+    Ok((status, out.total()))
+}
+
+#[test]
+fn a_counting_sink_counts_the_output(rt: HostRuntime) -> Result<(), Fail> {
+    let (status, total) = sure(rt.alloc(), FOURTH_BAR)?;
+    assert_eq!(rt; status, 0);
+    assert_eq!(rt; total, FOUR_BARS.len() as u64);
+    Ok(())
 }

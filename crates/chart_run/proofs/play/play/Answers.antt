@@ -2,6 +2,7 @@ use Rattle.std.proofs.Common.{Err, refl, ap}
 use Rattle.plain_engine.specs.Engine.{meaning_of}
 use Rattle.chart_run.specs.Words.{Play}
 use Rattle.chart_run.proofs.Texts.{unopened_output, opened_output, play_accepted, read_whole}
+use Rattle.chart_run.proofs.Replied.{unopened_replied, opened_replied}
 use Rattle.chart_run.proofs.Meets.{draw_refused}
 use Rattle.chart_run.proofs.Stopped.{opened_end, played_end, handed_size, nothing_refused, kept_same}
 use Rattle.chart_run.proofs.play.play.Goals as goal
@@ -14,6 +15,19 @@ returns-in-Err-clause-text g c =
 pub returns-clause-text : goal.returns-clause-text
 returns-clause-text g c =
     rw c.handed.ensures (opened_output (g.F.Folder.files c.args.folder.now) c.args.name.now (g.S.Source.left c.args.script.now)
+    (g.S.Source.left c.play_over.new.script)
+    c.play_over.ensures.played.0 (g.K.Sink.held c.args.out.now) (g.K.Sink.held c.play_over.new.out) (meaning_of c.in-Ok.engine)
+    (meaning_of c.play_over.new.engine)
+    c.play_over.result c.in-Ok.ensures.told c.play_over.ensures.played.1 c.play_over.ensures.played.2)
+
+pub returns-in-Err-clause-replied : goal.returns-in-Err-clause-replied
+returns-in-Err-clause-replied g c =
+    unopened_replied (g.F.Folder.files c.args.folder.now) c.args.name.now c.in-Err.stop (g.S.Source.left c.args.script.now)
+    (g.K.Sink.held c.args.out.now)
+
+pub returns-clause-replied : goal.returns-clause-replied
+returns-clause-replied g c =
+    rw c.handed.ensures (opened_replied (g.F.Folder.files c.args.folder.now) c.args.name.now (g.S.Source.left c.args.script.now)
     (g.S.Source.left c.play_over.new.script)
     c.play_over.ensures.played.0 (g.K.Sink.held c.args.out.now) (g.K.Sink.held c.play_over.new.out) (meaning_of c.in-Ok.engine)
     (meaning_of c.play_over.new.engine)

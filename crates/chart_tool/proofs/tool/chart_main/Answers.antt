@@ -41,7 +41,7 @@ returns-clause-answered g c = at_every _
     c.ended.ensures.ended.0 _ _ c.ended.ensures.ended.1 c.ended.ensures.ended.2
     (told_end (asked_in c.args.words.now.items) (g.F.Folder.files c.args.folder.now) _ _ _ _ _ _ _ (result_err c.run-done.result)
     c.ended.ensures.ended.0 c.ended.ensures.ended.1 c.run-done.ensures.ends)
-    c.run-done.ensures.text)
+    c.run-done.ensures.text c.run-done.ensures.replied)
 
 pub returns-clause-nothing : goal.returns-clause-nothing
 returns-clause-nothing g c = at_every _ c.run-done.ensures.nothing

@@ -6,7 +6,7 @@ use Rattle.chart_opening.specs.inner.Reading.{the_reading}
 use Rattle.chart_opening.proofs.JsonLemmas.{right}
 use Rattle.chart_run.specs.Refusals.{refusal_status}
 use Rattle.chart_run.specs.Ends.{End, Done, Words, Refused, ReadFault, WriteFault, NoMemory, LongScript, end_status}
-use Rattle.chart_tool.proofs.tool.tests.scripts.sure.Goals as goal
+use Rattle.chart_tool.proofs.tool.tests.sure.Goals as goal
 
 -- a status of a run that no fault ended
 abbrev NoFault : ℕ → Type 0
