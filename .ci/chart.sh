@@ -62,6 +62,42 @@ a_failed_run_leaves_the_file() {
     [ $? -eq 2 ] && [ "$(cat file)" = kept ]
 }
 
+# A repository of two crates and one apart, with an `rt` that says of them what the real one does.
+a_small_tree() {
+    mkdir -p tree/bin tree/crates/low/src tree/crates/apart/src tree/crates/chart_tool/src
+    cp "$chart" tree
+    echo 'Handles allowed: none.' >tree/HANDLES
+    printf 'low:\napart: low\nchart_tool: low\n' >tree/crates.txt
+    cat >tree/bin/rt <<'TEXT'
+#!/bin/sh
+[ "$*" != version ] || exit
+for name in $(sed 's/:.*//' crates.txt); do
+    printf '== %s\nrt: %s proved\n' "$name" "$name"
+done
+mkdir crates/chart_tool/out
+printf '#!/bin/sh\necho "$@"\n' >crates/chart_tool/out/chart_tool
+chmod +x crates/chart_tool/out/chart_tool
+TEXT
+    chmod +x tree/bin/rt
+    printf 'chart: %s\n' 'proving 2 crates, 3 at a time' 'low is proved, 1 left' 'chart_tool is proved, 0 left' 'the program is proved' >told
+}
+
+telling_how_far_it_is() {
+    PATH=$PWD/tree/bin:$PATH RT_JOBS=3 tree/chart --prove 2>notes && cmp -s notes told
+}
+
+the_program_that_was_proved() {
+    [ "$(tree/chart render some.json)" = 'render some.json' ]
+}
+
+a_newer_source() {
+    touch tree/crates/apart/src/lib.rt
+    PATH=$PWD/tree/bin:$PATH tree/chart --version | grep -q '^the program is proved' || return 1
+    touch tree/crates/low/src/lib.rt
+    PATH=$PWD/tree/bin:$PATH tree/chart --version | grep -q "isn't proved"
+}
+
+a_small_tree
 echo '{"a":1,"a":2}' >twice.json
 echo '[]' >list.json
 
@@ -70,6 +106,9 @@ fact "a picture" the_picture
 fact "the example of the README" the_replies
 fact "an output file" into_a_file
 fact "an output file after a failure" a_failed_run_leaves_the_file
+fact "telling how far proving is" telling_how_far_it_is
+fact "the program that was proved" the_program_that_was_proved
+fact "a source that is newer than it" a_newer_source
 fact "wrong words" ends 1 'chart: words' draw examples/three-bars.json
 fact "no such file" ends 2 'chart: missing no-such-file.json' render no-such-file.json
 fact "no JSON text" ends 3 'chart: json twice.json at 9' render twice.json

@@ -1,8 +1,4 @@
-#!/usr/bin/env python3
-"""Writes the table of bins: what is expected of the extent and of the bins of a field, the bins that are asked for, and the rows.
-
-Usage: bench/bin_table.py > crates/bin_table/stdin
-"""
+"""Lines of the table of calls: what is expected of the extent and of the bins of a field, the bins that are asked for, and the rows."""
 import random
 from fractions import Fraction
 from math import ceil, floor
@@ -77,6 +73,7 @@ def line(cells, extent=None, step=None, most=10, field="v", out="a", out_end="b"
     ]
     words = [
         answer(field, extent, step, most, out, out_end, rows),
+        "bin",
         " ".join(asked),
         ";".join("." + "|".join(f"{name}={spelled(cell)}" for name, cell in row[1].items()) for row in rows),
     ]
@@ -130,5 +127,6 @@ def table():
         line(cells, extent=ends, step=width, most=chance.choice([1, 2, 3, 5, 6, 10, 20, 1000]))
 
 
-table()
-print("\n".join(LINES))
+def lines():
+    table()
+    return LINES

@@ -3,7 +3,7 @@
 
 Expected are for each panel its place and size, its view and the cells of its facet, then the scales that are kept, and then the picture,
 with a bar in place of each line feed; or why there is none. Charts are drawn by bench/chart_pictures.py; what is out of range is said here.
-Of each specification of crates/vega_table/stdin that has no fault it is expected that it is drawn, or with selections that it has no chart yet.
+Of each specification of cases/vega/faults.cases that has no fault it is expected that it is drawn, or with selections that it has no chart yet.
 
 Usage: bench/chart_table.py > crates/chart_table/stdin, at the top of the repository
 """
@@ -133,6 +133,12 @@ class Chance:
         for member in ("zero", "nice") if type_ == "linear" else ("padding",) if type_ != "ordinal" else ():
             if self.maybe(0.4):
                 s[member] = 0.25 if member == "padding" else True
+            elif member == "zero":
+                s[member] = False
+        if s.get("zero") and self.count % 2:
+            del s["zero"]
+        if type_ == "ordinal" and self.count % 3 == 0:
+            s["reverse"] = True
         return s
 
     def axis(self, scales):
@@ -391,11 +397,12 @@ def stopped():
 
 def accepted():
     """Specifications without fault, each with whether it is drawn."""
-    with open("crates/vega_table/stdin") as file:
-        for row in file:
-            answer, text = row.rstrip("\n").split("\t")
-            if answer == "ok":
-                yield "no chart" if '"on":' in text else "drawn", text
+    with open("cases/vega/faults.cases", encoding="utf-8") as file:
+        rows = file.read().split("\n")
+    for typed, answer in zip(rows, rows[1:]):
+        if typed.startswith("> ") and answer == "ok":
+            text = typed[2:]
+            yield "no chart" if '"on":' in text else "drawn", text
 
 
 def main():

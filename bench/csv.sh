@@ -13,17 +13,9 @@ for crate in text_kit fixed_num case_table json_exact cell_value time_calc data_
     for part in src specs proofs; do
         [ ! -d "$top/crates/$crate/$part" ] || cp -r "$top/crates/$crate/$part" "$work/crates/$crate/$part"
     done
+    grep "^$crate:" "$top/crates.txt" >> "$work/crates.txt"
 done
-cat > "$work/crates.txt" <<'EOF'
-text_kit:
-fixed_num: itoa
-case_table:
-json_exact: text_kit fixed_num
-cell_value: text_kit fixed_num
-time_calc: text_kit fixed_num case_table
-data_rows: text_kit fixed_num case_table json_exact cell_value time_calc csv
-bench_csv: text_kit cell_value data_rows csv
-EOF
+printf 'bench_csv: text_kit cell_value data_rows csv\n' >> "$work/crates.txt"
 printf 'Handles allowed: none.\n' > "$work/HANDLES"
 cat > "$work/crates/bench_csv/src/main.rt" <<'EOF'
 #![tactic(auto)]

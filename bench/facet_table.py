@@ -1,11 +1,8 @@
-#!/usr/bin/env python3
-"""Writes the table of facets: what is expected, and the fields, the order, the way of the copies and the lists of rows.
+"""Lines of the table of calls: what is expected of facets, and the fields, the order, the way of the copies and the lists of rows.
 
 The cells of a field stand by its entry of the order, read in the first row that has the cell, ties ascending, and by their first rows
 where it has no entry. The copies are the cells that rows have in all fields, by their first rows, and where there is an order by the place
 of the cell of the first field, then of the next; crossed, every choice of a cell of each field, the first field outermost.
-
-Usage: bench/facet_table.py > crates/facet_table/stdin
 """
 import random
 from functools import cmp_to_key
@@ -79,15 +76,19 @@ def answer(fields, sort, crossed, lists):
     return told
 
 
+LINES = []
+
+
 def line(fields, sort, crossed, lists):
     words = [
         answer(fields, sort, crossed, lists),
+        "facet",
         ",".join(fields),
         "-" if sort is None else ",".join(("-" if descending else "") + name for name, descending in sort),
         "crossed" if crossed else "found",
         "!".join(";".join("." + "|".join(f"{name}={spelled(cell)}" for name, cell in row[1].items()) for row in rows) for rows in lists),
     ]
-    print("\t".join(words))
+    LINES.append("\t".join(words))
 
 
 def rows_with(*cells):
@@ -147,5 +148,6 @@ def table():
             line(fields, chance.choice(sorts), chance.random() < 0.4, lists)
 
 
-if __name__ == "__main__":
+def lines():
     table()
+    return LINES

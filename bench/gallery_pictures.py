@@ -584,7 +584,7 @@ class Zoomed(Held):
         if not isinstance(pair, tuple):
             return super().over(width, height)
         plain = {name: value for name, value in self.spec.items() if name not in ("zero", "nice", "domainRaw")}
-        return replace(self, spec=plain | {"domain": list(pair)}).over(width, height)
+        return replace(self, spec=plain | {"domain": list(pair), "zero": False}).over(width, height)
 
 
 def entered(o, here, change, given_values=None):
@@ -638,7 +638,8 @@ def scale_of(s, lists, width, height):
             if reach == "ramp":
                 shades = Scale("ramp", (0, max(1, len(cells) - 1)))
                 reach = [shades.paint(F(k)) for k in range(len(cells))]
-            return Scale("ordinal", (), cells, {"category": CATEGORY, "symbol": SHAPES}.get(reach, reach) if isinstance(reach, str) else reach)
+            entries = {"category": CATEGORY, "symbol": SHAPES}[reach] if isinstance(reach, str) else reach
+            return Scale("ordinal", (), cells, entries[::-1] if s.get("reverse") else entries)
         ends = [F(0), width if reach == "width" else height] if isinstance(reach, str) else reach
         both = s.get("padding", F(0))
         return Scale(s["type"], (s.get("paddingInner", both), s.get("paddingOuter", both), *(ends[::-1] if s.get("reverse") else ends)), cells)
@@ -648,7 +649,7 @@ def scale_of(s, lists, width, height):
         domain = [instant(c) if isinstance(c, str) else c for c in domain]
     found = [c for c in domain if is_number(c) and (s["type"] == "linear" or FIRST <= c <= LAST)] or [F(0), F(1)]
     lo, hi = min(found), max(found)
-    if s.get("zero"):
+    if s.get("zero", s["type"] == "linear"):
         lo, hi = min(lo, F(0)), max(hi, F(0))
     for _ in range(10 if s.get("nice") and lo < hi else 0):
         by = step(lo, hi, 10)

@@ -1,8 +1,4 @@
-#!/usr/bin/env python3
-"""Writes the table of groups: what is expected of an aggregate or a join, and the fields, the operations and the rows.
-
-Usage: bench/group_table.py > crates/group_table/stdin
-"""
+"""Lines of the table of calls: what is expected of an aggregate or a join, and the fields, the operations and the rows."""
 import random
 from fractions import Fraction
 from math import floor
@@ -75,6 +71,9 @@ def answer(kind, fields, ops, rows):
     )
 
 
+LINES = []
+
+
 def line(kind, fields, ops, rows):
     words = [
         answer(kind, fields, ops, rows),
@@ -83,7 +82,7 @@ def line(kind, fields, ops, rows):
         ",".join(f"{op}:{field or '-'}:{name}" for op, field, name in ops),
         ";".join("." + "|".join(f"{name}={spelled(cell)}" for name, cell in row[1].items()) for row in rows),
     ]
-    print("\t".join(words))
+    LINES.append("\t".join(words))
 
 
 def table():
@@ -123,5 +122,6 @@ def table():
                 line(kind, fields, ops, rows)
 
 
-if __name__ == "__main__":
+def lines():
     table()
+    return LINES

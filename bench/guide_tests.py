@@ -334,15 +334,14 @@ def legend_answer(s, channel, title, form, color, times, labels):
     items = [text(0, 11, False, "start", 11, True, title)] if title is not None else []
     signs, words, widest = [], [], None
     for v in cells:
-        y = top + len(signs) * row + F(row, 2)
+        y = top + len(words) * row + F(row, 2)
         one = sign(s, channel, color, F(x), y, v)
-        if one is not None:
-            signs.append(one)
-            label = s.label(5, form, v, labels)
-            words.append(text(at, y + 3, False, "start", 10, False, label))
-            widest = max(widest or 0, width(label, 6))
+        signs += [] if one is None else [one]
+        label = s.label(5, form, v, labels)
+        words.append(text(at, y + 3, False, "start", 10, False, label))
+        widest = max(widest or 0, width(label, 6))
     across = max(width(title, 7) if title is not None else 0, 0 if widest is None else at + widest)
-    return f"{said(min(across, SIZE))} {said(min(top + row * len(signs), SIZE))} items {''.join(items + signs + words)}"
+    return f"{said(min(across, SIZE))} {said(min(top + row * len(words), SIZE))} items {''.join(items + signs + words)}"
 
 
 def view_title(words, w, above):

@@ -1,8 +1,5 @@
-#!/usr/bin/env python3
-"""Writes the table of layouts: the places and the size that are expected, and the tree of boxes. Lines that begin with the word titles
+"""Lines of the table of calls: the places and the size that are expected, and the tree of boxes. Lines that begin with the word titles
 have the titles of grids among the places, and the width of each.
-
-Usage: bench/layout_table.py > crates/layout_table/stdin
 """
 import random
 from fractions import Fraction as F
@@ -65,14 +62,14 @@ def line(t):
     (left, top, width, height, right, bottom), places = measured(t)
     words = [decimal(n) for kind, x, y, _ in places if kind == "plot" for n in (left + x, top + y)]
     words += ["|", decimal(left + width + right), decimal(top + height + bottom)]
-    return " ".join(words) + " \t" + spelled(t)
+    return " ".join(words) + " \tlayout\t" + spelled(t)
 
 
 def line_with_titles(t):
     (left, top, width, height, right, bottom), places = measured(t)
     words = ["titles"] + [decimal(n) for _, x, y, wide in places for n in (left + x, top + y, wide)]
     words += ["|", decimal(left + width + right), decimal(top + height + bottom)]
-    return " ".join(words) + " \t" + spelled(t)
+    return " ".join(words) + " \ttitles\t" + spelled(t)
 
 
 def any_number():
@@ -93,7 +90,7 @@ def any_tree(depth):
 BIG = 10 ** 11
 plot = leaf(0, 0, 50, 40, 0, 0)
 huge = leaf(BIG, BIG, BIG, BIG, BIG, BIG)
-lines = [
+LINES = [
     line(grid(2, 20, False, leaf(10, 0, 50, 40), leaf(20, 0, 30, 40, 5))),
     line(plot),
     line(leaf(1, 2, 3, 4, 5, 6)),
@@ -120,10 +117,10 @@ lines = [
 deep = plot
 for _ in range(200):
     deep = grid(1, 20, True, deep)
-lines.append(line(deep))
-lines += [line(any_tree(random.randint(1, 4))) for _ in range(1000)]
+LINES.append(line(deep))
+LINES += [line(any_tree(random.randint(1, 4))) for _ in range(1000)]
 headed = leaf(0, 15, 100, 20)
-lines += [
+LINES += [
     line_with_titles(t)
     for t in (
         plot,
@@ -137,5 +134,4 @@ lines += [
         deep,
     )
 ]
-lines += [line_with_titles(any_tree(random.randint(1, 4))) for _ in range(100)]
-print("\n".join(lines))
+LINES += [line_with_titles(any_tree(random.randint(1, 4))) for _ in range(100)]

@@ -173,12 +173,13 @@ def scale_of(s, lists, width, height):
         cells = domain
     if not continuous:
         if s["type"] == "ordinal":
-            return Scale("ordinal", (), cells, {"category": CATEGORY, "symbol": SHAPES}.get(range_, range_) if isinstance(range_, str) else range_)
+            entries = {"category": CATEGORY, "symbol": SHAPES}[range_] if isinstance(range_, str) else range_
+            return Scale("ordinal", (), cells, entries[::-1] if s.get("reverse") else entries)
         both = s.get("padding", F(0))
         return Scale(s["type"], (s.get("paddingInner", both), s.get("paddingOuter", both), *range_), cells)
     numbers = [c for c in cells if is_number(c)] or [F(0), F(1)]
     lo, hi = min(numbers), max(numbers)
-    if s.get("zero"):
+    if s.get("zero", s["type"] == "linear"):
         lo, hi = min(lo, F(0)), max(hi, F(0))
     for _ in range(10 if s.get("nice") and lo < hi else 0):
         assert s["type"] == "linear"
@@ -272,9 +273,9 @@ def painted(shape, fill, stroke, width, opacity, words=None):
     """The line of an item."""
     line = shape.startswith("line")
     out = "<" + shape
-    if not line and (fill or stroke):
+    if not line:
         out += pairs(fill=fill or "none")
-    if stroke:
+    if stroke and words is None:
         out += pairs(stroke=stroke, stroke_width=width)
     if opacity != 1:
         out += pairs(opacity=opacity)

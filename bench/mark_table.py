@@ -1,7 +1,7 @@
 #!/usr/bin/env python3
-"""Writes the table of crates/mark_tests: marks over three rows with their items, computed apart.
+"""Marks over three rows with their items, computed apart. bench/mark_cases.py makes cases of them.
 
-Usage: bench/mark_table.py > crates/mark_tests/stdin
+Usage: bench/mark_table.py, for the lines.
 
 Each line is the items, a tab, and the type of the mark, its enter set, its update set and its sort between tabs. A set has channels with
 blanks between them, a channel values with `|` between them, and a value members like `f:amount` with `,` between them. A sort has fields
@@ -78,13 +78,13 @@ class Bands:
         space = 2 - F("0.1") + 2 * F("0.05")
         if band == F("0.5"):
             return near(40 * (F("0.05") + k + F("0.9") / 2) / space)
-        return near(40 * (F("0.05") + k) / space) + (0 if band is None else self.share(band))
+        return fits(near(40 * (F("0.05") + k) / space) + (0 if band is None else self.share(band)))
 
     def text(self, cell):
         return None
 
     def share(self, band):
-        return near(band * 18)
+        return fits(near(band * 18))
 
     base = F(0)
 
@@ -354,6 +354,8 @@ def item(type_, sets, row_number, row):
     fill, stroke, width, opacity = c.text("fill"), c.text("stroke"), c.number("strokeWidth"), c.number("opacity")
     if shape is None or LACKING in (fill, stroke, width, opacity):
         return None
+    if type_ == "text":
+        stroke, width = None, None
     key = str(row_number) if type_ in ("rect", "symbol") else "-"
     width = F(LINE[type_]) if width is None else width
     opacity = F(1) if opacity is None else opacity
@@ -414,6 +416,11 @@ OTHERS = [
     ("rect", "y=null:- xc=g:1000000000000000,o:1"),
     ("rect", "x=g:1000000000000000 x2=g:-1000000000000000"),
     ("rect", "size=g:1000000000000000+1 width=n:-3"),
+    ("rect", "x=s:x,t:B,b:-55555555555555.555555"),
+    ("rect", "x=s:x,t:B,b:-55555555555555.555556"),
+    ("rect", "x=s:x,t:B,b:55555555555555.555555"),
+    ("rect", "x=s:x,t:C,b:-55555555555555.555556"),
+    ("rect", "x=s:y,n:55,b:1000000000000000,o:1"),
     ("rect", "x2=n:9 width=n:4", "x2=if:datum.a=='A',n:8"),
     # symbols
     ("symbol", "x=s:x,f:a,b:0.5 y=s:y,f:amount size=n:16 shape=s:form,f:a stroke=t:black fill=s:color,f:a"),
@@ -477,6 +484,10 @@ OTHERS = [
     # texts
     ("text", ""),
     ("text", "text=f:amount x=s:x,f:a,b:0.5 y=s:y,f:amount fill=t:black dy=n:-6 baseline=t:bottom"),
+    ("text", "text=t:a fill=t:red stroke=t:black strokeWidth=n:3 opacity=n:0.5"),
+    ("text", "text=t:a stroke=n:7"),
+    ("text", "text=t:a stroke=t:black strokeWidth=t:wide"),
+    ("text", "text=t:a stroke=t:black strokeWidth=g:1000000000000000+1"),
     ("text", "text=t:a fontSize=n:20 baseline=t:top dx=n:2 dy=n:3 align=t:left"),
     ("text", "text=t:a fontSize=n:13"),
     ("text", "text=t:a xc=n:9 yc=n:8"),

@@ -1,7 +1,5 @@
-#!/usr/bin/env python3
-"""Writes the table of stacks: what is expected, and the offset, the fields of the partitions, those of the order, the names and the rows.
-
-Usage: bench/order_table.py > crates/order_table/stdin
+"""Lines of the table of calls: what is expected of stacks, and the offset, the fields of the partitions, those of the order, the names and
+the rows.
 """
 import random
 from fractions import Fraction
@@ -86,17 +84,21 @@ def answer(offset, groupby, sort, field, outs, rows):
     )
 
 
+LINES = []
+
+
 def line(offset, groupby, sort, field, outs, cells):
     rows = [(key_of(i), own) for i, own in enumerate(cells)]
     words = [
         answer(offset, groupby, sort, field, outs, rows),
+        "stack",
         offset,
         ",".join(groupby),
         ",".join(("-" if descending else "") + name for name, descending in sort),
         ":".join([field, *outs]),
         ";".join("." + "|".join(f"{name}={spelled(cell)}" for name, cell in own.items()) for own in cells),
     ]
-    print("\t".join(words))
+    LINES.append("\t".join(words))
 
 
 def units(*numbers):
@@ -144,5 +146,6 @@ def table():
                 line(offset, groupby, [(name, chance.random() < 0.5) for name in names], "v", outs, cells)
 
 
-if __name__ == "__main__":
+def lines():
     table()
+    return LINES

@@ -1,14 +1,11 @@
-#!/usr/bin/env python3
-"""Writes the table of crates/tick_table: questions about steps, nice domains, ticks and labels, with their answers, computed apart.
+"""Lines of the table of calls: questions about steps, nice domains, ticks and labels, with their answers, computed apart.
 
-bench/tick_table.py FOLDER writes FOLDER/stdin and FOLDER/stdout. Each line is the answer, a tab, and the question in four words
-between tabs: what is asked, two numbers, and a count. Steps are found with fractions from the power of ten below the spacing; boundaries
-by going over every unit of a domain with python's datetime.
+Each line is the answer, the word tick, and the question in four words between tabs: what is asked, two numbers, and a count. Steps are
+found with fractions from the power of ten below the spacing; boundaries by going over every unit of a domain with python's datetime.
 """
 import datetime
 import math
 import random
-import sys
 from fractions import Fraction
 
 LIMIT = 10**15
@@ -177,7 +174,7 @@ def ask(asked, first, second, count):
         answer = str(decimals(first))
     else:
         answer = time_label(first)
-    LINES.append(f"{answer}\t{asked}\t{decimal(first)}\t{decimal(second)}\t{count}")
+    LINES.append(f"{answer}\ttick\t{asked}\t{decimal(first)}\t{decimal(second)}\t{count}")
 
 
 def ask_domain(lo, hi, count):
@@ -294,9 +291,3 @@ for day in range(1, 30):
 for hour in range(24):
     ask("instant", at(2024, 2, 1, hour), 0, 0)
     ask("instant", at(2024, 2, 1, hour, 30), 0, 0)
-
-folder = sys.argv[1]
-with open(f"{folder}/stdin", "w", encoding="utf-8") as out:
-    out.write("".join(line + "\n" for line in LINES))
-with open(f"{folder}/stdout", "w", encoding="utf-8") as out:
-    out.write(f"{len(LINES)} lines\n")

@@ -1,14 +1,11 @@
-#!/usr/bin/env python3
-"""Writes the table of crates/time_table: questions about instants with their answers, computed apart with python's datetime.
+"""Lines of the table of calls: questions about instants with their answers, computed apart with python's datetime.
 
-bench/time_table.py FOLDER writes FOLDER/stdin and FOLDER/stdout. Each line is the answer, a tab, and the question in four words
-between tabs: what is asked, the instant in milliseconds, a count of units, and a name or a pattern. Boundaries are found by going
-from day to day, or from unit to unit, until one is there.
+Each line is the answer, the word time, and the question in four words between tabs: what is asked, the instant in milliseconds, a count
+of units, and a name or a pattern. Boundaries are found by going from day to day, or from unit to unit, until one is there.
 """
 import datetime
 import math
 import random
-import sys
 from fractions import Fraction
 
 EPOCH = datetime.datetime(1970, 1, 1)
@@ -179,7 +176,7 @@ def ask(asked, at, n, name):
         "label": lambda: label(at, name),
         "pattern": lambda: is_pattern(name),
     }[asked]()
-    LINES.append(f"{answer}\t{asked}\t{decimal(at)}\t{n}\t{name}")
+    LINES.append(f"{answer}\ttime\t{asked}\t{decimal(at)}\t{n}\t{name}")
 
 
 def ask_all(at):
@@ -256,9 +253,3 @@ for _ in range(2000):
     ask("next", edge, n, unit)
     ask("span", edge, 1, random.choice(NAMES))
     ask("label", edge, 1, " ".join("%" + random.choice(LETTERS) for _ in range(4)))
-
-folder = sys.argv[1]
-with open(f"{folder}/stdin", "w", encoding="utf-8") as out:
-    out.write("".join(line + "\n" for line in LINES))
-with open(f"{folder}/stdout", "w", encoding="utf-8") as out:
-    out.write(f"{len(LINES)} lines\n")

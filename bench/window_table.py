@@ -1,7 +1,5 @@
-#!/usr/bin/env python3
-"""Writes the table of windows: what is expected, and the operations, the fields of the partitions, those of the order, the frame and the rows.
-
-Usage: bench/window_table.py > crates/window_table/stdin
+"""Lines of the table of calls: what is expected of windows, and the operations, the fields of the partitions, those of the order, the frame
+and the rows.
 """
 import random
 
@@ -76,18 +74,22 @@ def answer(ops, groupby, sort, frame, rows):
     return "".join(said)
 
 
+LINES = []
+
+
 def line(ops, groupby, sort, frame, cells):
     rows = [(key_of(i), own) for i, own in enumerate(cells)]
     before, after, widens = frame
     words = [
         answer(ops, groupby, sort, frame, rows),
+        "window",
         ",".join(f"{op}:{field or '-'}:{out}:{param}" for op, field, out, param in ops),
         ",".join(groupby),
         ",".join(("-" if descending else "") + name for name, descending in sort),
         ",".join(["_" if before is None else str(before), "_" if after is None else str(after), "peers" if widens else "rows"]),
         ";".join("." + "|".join(f"{name}={spelled(cell)}" for name, cell in own.items()) for own in cells),
     ]
-    print("\t".join(words))
+    LINES.append("\t".join(words))
 
 
 def table():
@@ -139,5 +141,6 @@ def table():
         line([(op, "v", "o", 1)], [], [], (None, 0, True), [{"v": ("n", 9 * 10**20)}, {"v": ("n", 9 * 10**20)}])
 
 
-if __name__ == "__main__":
+def lines():
     table()
+    return LINES

@@ -1,6 +1,7 @@
 //! A table of whole charts: what is expected, a tab, and a Vega specification that has all of its rows. What is expected are the panels, the
 //! scales that are kept and the picture, or why nothing is drawn; or only that there is some picture. It writes each line of which something
-//! else is found, and how many lines there were. `bench/chart_table.py` writes the table.
+//! else is found, and how many lines there were. Each specification has to be written, read again and copied the same, too.
+//! `bench/chart_table.py` writes the table.
 #![tactic(auto)]
 
 ghost use Rattle.std.specs.Prelude.{◌≡◌, true};
@@ -9,6 +10,7 @@ ghost use Rattle.vega_charts.specs.Tested.{is_chart};
 
 mod opening;
 mod shown;
+mod written;
 
 use cell_value::{Cell, Named};
 use json_exact::Json;
@@ -20,6 +22,7 @@ use text_kit::{OutOfMemory, Text};
 use vega_charts::{DrawError, charts_are_tested, drawing_of, is_chart};
 use vega_scenes::Drawing;
 use vega_spec::VgSpec;
+use written::is_written_again;
 
 // What is drawn of a specification over these sources and parameters.
 fn drawn(
@@ -68,10 +71,19 @@ fn found_of(alloc: Global, g: &VgSpec) -> Result<Text, OutOfMemory> {
     }
 }
 
+// What is found for a specification that was read, in words.
+fn found_of_read(alloc: Global, g: &VgSpec) -> Result<Text, OutOfMemory> {
+    if is_written_again(alloc, g)? {
+        found_of(alloc, g)
+    } else {
+        Text::of(alloc, "written otherwise")
+    }
+}
+
 // What is found for a tree, in words.
 fn found_of_tree(alloc: Global, tree: &Json) -> Result<Text, OutOfMemory> {
     match vega_model::read(alloc, tree) {
-        Ok(g) => found_of(alloc, &g),
+        Ok(g) => found_of_read(alloc, &g),
         Err(_) => Text::of(alloc, "refused"),
     }
 }

@@ -1,7 +1,8 @@
-//! Tests of runs: forms and their opening, lines and scripts. The crates are called as others call them.
+//! Tests of what a program can't show: reads and writes that fail, reads of any size, and an engine without ids. The crates are called as
+//! others call them.
 #![tactic(auto)]
 
 #[cfg(test)]
-mod forms;
+mod engine;
 #[cfg(test)]
 mod scripts;

@@ -1,5 +1,5 @@
 use json_exact::{Json, JsonError, ValueReader, at_path, read, write};
-use std::alloc::{AllocError, Global};
+use std::alloc::Global;
 use std::test::*;
 use text_kit::{OutOfMemory, Text};
 
@@ -7,11 +7,6 @@ use text_kit::{OutOfMemory, Text};
 fn written(alloc: Global, text: &str) -> Result<Text, Fail> {
     let tree = read(alloc, text.as_bytes())?;
     Ok(write(alloc, &tree.copy(alloc)?)?)
-}
-
-/// The fault of bytes.
-fn fault_of(alloc: Global, bytes: &[u8]) -> Option<JsonError> {
-    read(alloc, bytes).err()
 }
 
 /// Bytes, and what is written of what they say.
@@ -86,86 +81,6 @@ fn what_is_read(rt: HostRuntime) -> Result<(), Fail> {
     Ok(())
 }
 
-/// Bytes that say nothing, and how many of them begin a text.
-const REFUSED: [(&[u8], u64); 65] = [
-    (b"", 0),
-    (b" \t\r\n", 4),
-    (b"nul", 3),
-    (b"truex", 4),
-    (b"Null", 0),
-    (b"nullnull", 4),
-    (b"null null", 5),
-    (b"- 1", 1),
-    (b"-", 1),
-    (b"+1", 0),
-    (b"1.", 2),
-    (b"1.e5", 2),
-    (b"1e+", 3),
-    (b"1e5.5", 3),
-    (b"01", 1),
-    (b"-01", 2),
-    (b"[1,]", 3),
-    (b"[,1]", 1),
-    (b"[1 2]", 3),
-    (b"[1,,2]", 3),
-    (b"[", 1),
-    (b"]", 0),
-    (b"[1", 2),
-    (b"[1}", 2),
-    (b"{,}", 1),
-    (b"{\"a\"}", 4),
-    (b"{\"a\":}", 5),
-    (b"{\"a\" 1}", 5),
-    (b"{\"a\":1,}", 7),
-    (b"{a:1}", 1),
-    (b"{1:1}", 1),
-    (b"{\"a\":1]", 6),
-    (b"{\"a\":1,\"a\":2}", 9),
-    (b"{\"a\":1,\"\\u0061\":2}", 14),
-    (b"{\"a\":1,\"b\":2,\"a\":1}", 15),
-    (b"[{\"b\":{\"a\":1,\"a\":1}}]", 15),
-    (
-        b"{\"9\":0,\"8\":0,\"7\":0,\"6\":0,\"5\":0,\"4\":0,\"3\":0,\"2\":0,\"1\":0,\"1\":0}",
-        57,
-    ),
-    (b"{\"mark\":\"bar\"", 13),
-    (b"{\"a\":1,\"a", 9),
-    (b"\"a", 2),
-    (b"a", 0),
-    (b"\"a\"\"b\"", 3),
-    (b"\"\x1f\"", 1),
-    (b"'a'", 0),
-    (b"\xef\xbb\xbf0", 0),
-    (b"\x0b0", 0),
-    (b"0\x00", 1),
-    (b"\"\\x\"", 2),
-    (b"\"\\u12g4\"", 5),
-    (b"\"\\ud800\"", 7),
-    (b"\"\\udc00\"", 4),
-    (b"\"\\ud800\\n\"", 8),
-    (b"\"\\ud800\\u0041\"", 9),
-    (b"\"\\ud800\\ud800\"", 10),
-    (b"\"\x80\"", 1),
-    (b"\"\xc1\xbf\"", 1),
-    (b"\"\xc3\"", 2),
-    (b"\"\xe0\x9f\xbf\"", 2),
-    (b"\"\xed\xa0\x80\"", 2),
-    (b"\"\xf0\x8f\xbf\xbf\"", 2),
-    (b"\"\xf4\x90\x80\x80\"", 2),
-    (b"\"\xf5\x80\x80\x80\"", 1),
-    (b"\"\xe2\x82\"", 3),
-    (b"\"\xf0\x9f\x98\"", 4),
-    (b"\"\xff\"", 1),
-];
-
-#[test]
-fn what_is_refused(rt: HostRuntime) {
-    for (bytes, at) in &REFUSED {
-        let fault = fault_of(rt.alloc(), bytes);
-        assert_eq!(rt; fault, Some(JsonError::Fault { at: *at }), "at {bytes:?}");
-    }
-}
-
 /// Bytes, what is written of the values that they list, each with a semicolon behind it, and the fault behind those.
 const LISTED: [(&str, &str, Option<JsonError>); 12] = [
     (" [1, [2,3] ,{\"a\":[4]}] ", "1;[2,3];{\"a\":[4]};", None),
@@ -207,91 +122,6 @@ fn values_are_read_one_after_the_other(rt: HostRuntime) -> Result<(), Fail> {
         assert_eq!(rt; values.as_str(), *want, "at {text}");
         assert_eq!(rt; found, *fault, "at {text}");
     }
-    Ok(())
-}
-
-/// A value inside that many pairs of brackets or braces.
-fn nested(
-    alloc: Global,
-    open: &str,
-    inner: &str,
-    close: &str,
-    levels: u32,
-) -> Result<String, AllocError> {
-    let mut out = String::new(alloc);
-    for _ in 0..levels {
-        out.push_str(open)?;
-    }
-    out.push_str(inner)?;
-    for _ in 0..levels {
-        out.push_str(close)?;
-    }
-    Ok(out)
-}
-
-/// What stands in how many pairs of what, and the fault that it has.
-const NESTS: [(&str, &str, &str, u32, Option<JsonError>); 6] = [
-    ("[", "", "]", 128, None),
-    ("{\"a\":", "0", "}", 128, None),
-    ("[{\"a\":", "[]", "}]", 63, None),
-    ("[", "", "]", 129, Some(JsonError::Fault { at: 128 })),
-    ("{\"a\":", "0", "}", 129, Some(JsonError::Fault { at: 640 })),
-    (
-        "[{\"a\":",
-        "[]",
-        "}]",
-        64,
-        Some(JsonError::Fault { at: 384 }),
-    ),
-];
-
-#[test]
-fn nesting_up_to_128_is_read(rt: HostRuntime) -> Result<(), Fail> {
-    for (open, inner, close, levels, fault) in &NESTS {
-        let text = nested(rt.alloc(), open, inner, close, *levels)?;
-        let found = fault_of(rt.alloc(), text.as_bytes());
-        assert_eq!(rt; found, *fault, "{levels} of {open}");
-    }
-    Ok(())
-}
-
-/// An object of that many members with names of their own, and a last one of that name.
-fn object(alloc: Global, count: u32, last: &str) -> Result<String, AllocError> {
-    let mut out = String::from_str(alloc, "{")?;
-    for i in 0..count {
-        out.push_str(format!(in alloc; "\"k{i}\":[{i}],")?.as_str())?;
-    }
-    out.push_str(format!(in alloc; "\"{last}\":null}}")?.as_str())?;
-    Ok(out)
-}
-
-/// How many members an object has.
-fn members_in(alloc: Global, text: &str) -> Option<usize> {
-    match read(alloc, text.as_bytes()) {
-        Ok(Json::Object(members)) => Some(members.len()),
-        _ => None,
-    }
-}
-
-#[test]
-fn a_million_members_are_read(rt: HostRuntime) -> Result<(), Fail> {
-    let text = object(rt.alloc(), 1_048_575, "k")?;
-    assert_eq!(rt; members_in(rt.alloc(), text.as_str()), Some(1_048_576));
-    Ok(())
-}
-
-#[test]
-fn a_name_that_comes_twice_is_found_among_many(rt: HostRuntime) -> Result<(), Fail> {
-    let text = object(rt.alloc(), 20_000, "k19999")?;
-    let fault = fault_of(rt.alloc(), text.as_bytes());
-    assert_eq!(rt; fault, Some(JsonError::Fault { at: 317788 }));
-    Ok(())
-}
-
-#[test]
-fn sixteen_million_digits_are_read(rt: HostRuntime) -> Result<(), Fail> {
-    let digits = nested(rt.alloc(), "7777777777777777", "", "", 1_048_576)?;
-    assert_eq!(rt; written(rt.alloc(), digits.as_str())?.as_str(), "1e99");
     Ok(())
 }
 

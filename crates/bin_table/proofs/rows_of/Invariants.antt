@@ -1,5 +1,0 @@
-use Rattle.bin_table.specs.Rows.{AreNumbered}
-use Rattle.bin_table.proofs.rows_of.Given as goal
-
-abbrev pub invariant-loop-word : goal.invariant-loop-word
-invariant-loop-word l = AreNumbered l.rows

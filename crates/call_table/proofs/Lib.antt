@@ -1,0 +1,3 @@
+mod NumberedLemmas
+mod FoldLemmas
+mod ShownLemmas

@@ -1,0 +1,108 @@
+// Rows that are read and transformed: what a call is told and the data as JSON with a tab between them; the answer is JSON too.
+use crate::transformed::{folded, folded_twice, looked_up};
+use crate::{shown, told};
+use cell_value::Rows;
+use json_exact::Json;
+use std::alloc::Global;
+use text_kit::{OutOfMemory, Text};
+
+/// Why a line has no answer.
+#[derive(Clone, Copy, Debug)]
+pub(crate) enum Stop {
+    /// It isn't as it should be.
+    Shape,
+    /// Memory was refused.
+    Memory,
+}
+
+impl From<OutOfMemory> for Stop {
+    fn from(_: OutOfMemory) -> Stop {
+        Stop::Memory
+    }
+}
+
+// The tree of a text.
+fn tree_of(alloc: Global, text: &str) -> Result<Json, Stop> {
+    json_exact::read(alloc, text.as_bytes()).map_err(|_| Stop::Shape)
+}
+
+// The rows of a tree of JSON.
+fn of_json(alloc: Global, how: &Json, data: &Json) -> Result<Json, Stop> {
+    let kinds = told::kinds(alloc, how)?;
+    shown::read(alloc, data_rows::rows_of_json(alloc, data, &kinds))
+}
+
+// The rows of bytes of CSV.
+fn of_csv(alloc: Global, how: &Json, data: &Json) -> Result<Json, Stop> {
+    let bytes = told::bytes(alloc, data)?;
+    let kinds = told::kinds(alloc, how)?;
+    shown::read(
+        alloc,
+        data_rows::rows_of_csv(alloc, bytes.as_slice(), &kinds),
+    )
+}
+
+// What one fold makes of rows.
+fn fold(alloc: Global, how: &Json, data: &Json) -> Result<Rows, Stop> {
+    let rows = told::rows(alloc, data)?;
+    folded(alloc, &rows, &told::fold(alloc, how)?, 2)
+}
+
+// What two folds make of rows, one after the other.
+fn folds(alloc: Global, how: &Json, data: &Json) -> Result<Rows, Stop> {
+    let (first, second) = told::two(how)?;
+    let first = told::fold(alloc, first)?;
+    let second = told::fold(alloc, second)?;
+    folded_twice(alloc, &told::rows(alloc, data)?, &first, &second)
+}
+
+// What a lookup makes of the first list of rows in the second.
+fn lookup(alloc: Global, how: &Json, data: &Json) -> Result<Rows, Stop> {
+    let (rows, other) = told::two(data)?;
+    let how = told::lookup(alloc, how)?;
+    looked_up(
+        alloc,
+        &told::rows(alloc, rows)?,
+        &told::rows(alloc, other)?,
+        &how,
+    )
+}
+
+// What a call that transforms rows answers.
+fn transformed(alloc: Global, call: &str, how: &Json, data: &Json) -> Result<Json, Stop> {
+    let rows = match call {
+        "fold" => fold(alloc, how, data)?,
+        "folds" => folds(alloc, how, data)?,
+        "lookup" => lookup(alloc, how, data)?,
+        _ => return Err(Stop::Shape),
+    };
+    shown::keyed(alloc, &rows)
+}
+
+// What a call answers.
+fn answer_of(alloc: Global, call: &str, how: &Json, data: &Json) -> Result<Json, Stop> {
+    match call {
+        "json" => of_json(alloc, how, data),
+        "csv" => of_csv(alloc, how, data),
+        _ => transformed(alloc, call, how, data),
+    }
+}
+
+// What a call answers that is told a text.
+fn answer(alloc: Global, call: &str, told: &str) -> Result<Json, Stop> {
+    let Some((how, data)) = told.split_once('\t') else {
+        return Err(Stop::Shape);
+    };
+    let how = tree_of(alloc, how)?;
+    let data = tree_of(alloc, data)?;
+    answer_of(alloc, call, &how, &data)
+}
+
+/// What is found for a question.
+pub(crate) fn found(alloc: Global, call: &str, told: &str) -> Result<Text, OutOfMemory> {
+    match answer(alloc, call, told) {
+        Ok(tree) => json_exact::write(alloc, &tree),
+        Err(Stop::Shape) => Text::of(alloc, "no call"),
+        Err(Stop::Memory) => Err(OutOfMemory),
+    }
+}

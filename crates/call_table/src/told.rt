@@ -1,0 +1,141 @@
+// What calls are told, of JSON.
+ghost use Rattle.std.specs.Prelude.{IfOk};
+ghost use Rattle.plain_rows.specs.Rows.{AreRows};
+ghost use Rattle.call_table.specs.Numbered.{BranchesBelow};
+
+use crate::json_rows::Stop;
+use crate::keys;
+use cell_value::{Cell, Rows, SharedText};
+use data_rows::{ParseKind, rows_of_json};
+use json_exact::{Json, at_path};
+use plain_rows::{FoldOf, LookupOf};
+use std::alloc::Global;
+use text_kit::{OutOfMemory, Seq, Text};
+
+/// The bytes of a text, in which `ÿ` stands for a byte that is never part of UTF-8.
+pub(crate) fn bytes(alloc: Global, data: &Json) -> Result<Vec<u8>, Stop> {
+    let Json::Text(text) = data else {
+        return Err(Stop::Shape);
+    };
+    let mut bytes = Vec::new(alloc);
+    for c in text.as_str().chars() {
+        push_char(&mut bytes, c)?;
+    }
+    Ok(bytes)
+}
+
+fn push_char(bytes: &mut Vec<u8>, c: char) -> Result<(), OutOfMemory> {
+    if c == 'ÿ' {
+        bytes.push(0xff)?;
+    } else {
+        let mut units = [0; 4];
+        bytes.extend_from_slice(c.encode_utf8(&mut units).as_bytes())?;
+    }
+    Ok(())
+}
+
+/// The kinds of fields, an object of their names.
+pub(crate) fn kinds(alloc: Global, told: &Json) -> Result<Seq<(Text, ParseKind)>, Stop> {
+    let Json::Object(members) = told else {
+        return Err(Stop::Shape);
+    };
+    let mut kinds = Seq::new(alloc);
+    for member in members.as_slice() {
+        kinds.push((member.name.copy()?, kind(&member.value)?))?;
+    }
+    Ok(kinds)
+}
+
+fn kind(told: &Json) -> Result<ParseKind, Stop> {
+    let Json::Text(word) = told else {
+        return Err(Stop::Shape);
+    };
+    match word.as_str() {
+        "number" => Ok(ParseKind::Number),
+        "boolean" => Ok(ParseKind::Boolean),
+        "string" => Ok(ParseKind::Text),
+        "date" => Ok(ParseKind::Date),
+        _ => Err(Stop::Shape),
+    }
+}
+
+/// Rows with the ids that count from 1.
+pub(crate) fn rows(alloc: Global, data: &Json) -> Result<Rows, Stop>
+    ensures rows { IfOk result AreRows }
+    ensures branches { IfOk result (BranchesBelow 2) }
+{
+    match rows_of_json(alloc, data, &Seq::new(alloc)) {
+        Ok(rows) => Ok(keys::keyed(alloc, rows, true)?),
+        Err(_) => Err(Stop::Shape),
+    }
+}
+
+/// The two values of a list.
+pub(crate) fn two(told: &Json) -> Result<(&Json, &Json), Stop> {
+    let Json::List(items) = told else {
+        return Err(Stop::Shape);
+    };
+    match items.as_slice() {
+        [first, second] => Ok((first, second)),
+        _ => Err(Stop::Shape),
+    }
+}
+
+fn text(told: &Json, path: &str) -> Result<Text, Stop> {
+    match at_path(told, path) {
+        Some(Json::Text(text)) => Ok(text.copy()?),
+        _ => Err(Stop::Shape),
+    }
+}
+
+fn texts(alloc: Global, told: &Json, path: &str) -> Result<Seq<Text>, Stop> {
+    let Some(Json::List(items)) = at_path(told, path) else {
+        return Err(Stop::Shape);
+    };
+    let mut texts = Seq::new(alloc);
+    for item in items.as_slice() {
+        texts.push(text(item, "")?)?;
+    }
+    Ok(texts)
+}
+
+fn cell(told: &Json, path: &str) -> Result<Cell, Stop> {
+    match at_path(told, path) {
+        Some(Json::Null) => Ok(Cell::Null),
+        Some(Json::Number(number)) => Ok(Cell::Number(*number)),
+        Some(Json::Text(text)) => Ok(Cell::Text(text.copy()?)),
+        _ => Err(Stop::Shape),
+    }
+}
+
+fn shared(alloc: Global, told: &Json, path: &str) -> Result<SharedText, Stop> {
+    Ok(SharedText::of_text(alloc, text(told, path)?)?)
+}
+
+fn shared_texts(alloc: Global, told: &Json, path: &str) -> Result<Seq<SharedText>, Stop> {
+    let mut shared = Seq::new(alloc);
+    for text in texts(alloc, told, path)?.as_slice() {
+        shared.push(SharedText::of(alloc, text.as_str())?)?;
+    }
+    Ok(shared)
+}
+
+/// What a fold is told.
+pub(crate) fn fold(alloc: Global, told: &Json) -> Result<FoldOf, Stop> {
+    Ok(FoldOf {
+        fields: shared_texts(alloc, told, "/fields")?,
+        out_key: shared(alloc, told, "/as/0")?,
+        out_value: shared(alloc, told, "/as/1")?,
+    })
+}
+
+/// What a lookup is told.
+pub(crate) fn lookup(alloc: Global, told: &Json) -> Result<LookupOf, Stop> {
+    Ok(LookupOf {
+        key_here: text(told, "/here")?,
+        key_there: text(told, "/there")?,
+        fields: texts(alloc, told, "/fields")?,
+        outs: shared_texts(alloc, told, "/as")?,
+        otherwise: cell(told, "/default")?,
+    })
+}

@@ -1,2 +1,0 @@
-mod TestRows
-mod TestScales
