@@ -48,7 +48,7 @@ use Rattle.vega_standing.proofs.Rows.{DullBut, OneLoud, one_loud, of_member}
 
 -- ---- the list of transforms
 
-transforms_taken : (o : Opened) (f : Form) → taken_form vega_schema TRANSFORMS o ≡ Some f →
+pub transforms_taken : (o : Opened) (f : Form) → taken_form vega_schema TRANSFORMS o ≡ Some f →
     (list_passes (has_length 0 MAX_LENGTH) o ≡ true) × (form.List 0 MAX_LENGTH TRANSFORM ≡ f)
 unfolding vega_schema leaves named_shapes lists objects
 transforms_taken o f e = (if_taken (list_passes (has_length 0 MAX_LENGTH) o) _ f e, form_taken (list_passes (has_length 0 MAX_LENGTH) o) _ f e)

@@ -86,12 +86,12 @@ earlier_some : (b : Bool) (x y : Fault) → (if b then Some y else Some x) ≡ N
 earlier_some true x y e = cc
 earlier_some false x y e = cc
 
-none_earlier : (a b : Option Fault) → earlier a b ≡ None → (a ≡ None) × (b ≡ None)
+pub none_earlier : (a b : Option Fault) → earlier a b ≡ None → (a ≡ None) × (b ≡ None)
 none_earlier None b e = (refl, e)
 none_earlier (Some x) None e = absurd cc
 none_earlier (Some x) (Some y) e = absurd (earlier_some (is_before y.place x.place) x y e)
 
-none_placed : (tree : Json) (o : Option PlacedFault) → with_path tree o ≡ None → o ≡ None
+pub none_placed : (tree : Json) (o : Option PlacedFault) → with_path tree o ≡ None → o ≡ None
 none_placed tree None e = refl
 none_placed tree (Some f) e = absurd cc
 
@@ -99,7 +99,7 @@ sooner_some : (b : Bool) (x y : PlacedFault) → (if b then Some y else Some x) 
 sooner_some true x y e = cc
 sooner_some false x y e = cc
 
-none_sooner : (a b : Option PlacedFault) → sooner a b ≡ None → (a ≡ None) × (b ≡ None)
+pub none_sooner : (a b : Option PlacedFault) → sooner a b ≡ None → (a ≡ None) × (b ≡ None)
 none_sooner None b e = (refl, e)
 none_sooner (Some x) None e = absurd cc
 none_sooner (Some x) (Some y) e = absurd (sooner_some (is_before y.place x.place) x y e)
@@ -132,7 +132,7 @@ no_fault tree e =
 
 -- ---- the top
 
-top_taken : (o : Opened) (f : Form) → taken_form vega_schema TOP o ≡ Some f →
+pub top_taken : (o : Opened) (f : Form) → taken_form vega_schema TOP o ≡ Some f →
     (object_passes (λ members. is_some (layout_in vega_schema TOP members)) o ≡ true) × (form.Object TOP ≡ f)
 unfolding vega_schema leaves named lists objects
 top_taken o f e = (
@@ -140,7 +140,7 @@ top_taken o f e = (
   form_taken (object_passes (λ members. is_some (layout_in vega_schema TOP members)) o) _ f e,
 )
 
-top_layout : (ms : List Member) → layout_in vega_schema TOP ms ≡ Some top
+pub top_layout : (ms : List Member) → layout_in vega_schema TOP ms ≡ Some top
 unfolding vega_schema group_mark axis legend grid_layout top data_set data_format parse sort extent_signal
     filter formula extent bin time_unit stack fold aggregate join_aggregate window lookup no_transform signal on_event expression_signal
     linear_scale time_scale band_scale point_scale ordinal_scale no_scale domain_of_signal domain_of_field domain_of_fields reference

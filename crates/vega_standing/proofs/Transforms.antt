@@ -188,7 +188,7 @@ module _ (round : Trail) (number : ℕ) (tree : Json) (s : Stands round number T
       by_value (Some v) e = by_text (out-Json v) e
 
   -- what a lookup gives
-  lookup_is : text_at ms (codes "type") ≡ Some (codes "lookup") → by_type trail tree ≡ lookup_parts trail tree
+  pub lookup_is : text_at ms (codes "type") ≡ Some (codes "lookup") → by_type trail tree ≡ lookup_parts trail tree
   lookup_is e =
       ap (λ b. if b then extent_name trail tree
       else (if says_text (codes "type") (codes "lookup") tree then lookup_parts trail tree

@@ -28,7 +28,7 @@ files_kept bytes tree reads small e =
     all_kept tree own e (few_groups bytes tree t.members reads small t.opened)
 
 -- what is read where there is no fault
-read_as : (o : Option Fault) (g h : VgSpec) → unless_fault o h ≡ Ok g → (o ≡ None) × (h ≡ g)
+pub read_as : (o : Option Fault) (g h : VgSpec) → unless_fault o h ≡ Ok g → (o ≡ None) × (h ≡ g)
 read_as None g h e = (refl, cc)
 read_as (Some f) g h e = absurd cc
 

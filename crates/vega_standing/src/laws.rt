@@ -1,5 +1,6 @@
 //! Laws of specifications that are read.
 ghost use Rattle.vega_standing.specs.Laws.{ObjectsAreKept, FoldsAreKept, RulesAreKept, FilesKeepRules, AcceptedAreCharts};
+ghost use Rattle.vega_standing.specs.Orders.{AcceptedAreInOrder};
 
 /// Where a tree has no fault and no object in it has a name twice, the objects of the specification that it says keep what charts ask.
 pub fn objects_are_kept()
@@ -24,4 +25,9 @@ pub fn files_keep_rules()
 /// What is read of a tree of at most 16 MiB is a specification that is drawn, where it has no selections.
 pub fn accepted_are_charts()
     ensures { AcceptedAreCharts }
+{}
+
+/// The signals of each object of what is read without selections stand in an order, in which each needs only those before it.
+pub fn accepted_signals_are_in_order()
+    ensures { AcceptedAreInOrder }
 {}
