@@ -26,7 +26,9 @@ use Rattle.vega_charts.specs.Outlines.{Object, outline_of}
 use Rattle.vega_charts.specs.Built.{is_plain, is_plain_object, are_plain, IsBuilt}
 use Rattle.vega_charts.proofs.OutlineLemmas.{opened_object}
 use Rattle.vega_standing.specs.OwnNames.{HasOwnNames}
-use Rattle.vega_standing.specs.Orders.{IsInOrder, AcceptedAreInOrder}
+use Rattle.vega_signals.specs.Laws.{SettleInOrder}
+use Rattle.vega_charts.specs.Outlines.{Marks, NoMarks, AMark, AGroup}
+use Rattle.vega_standing.specs.Orders.{HasOrder, Settles, EachObject, OfAll, AcceptedAreInOrder, AcceptedSettle}
 use Rattle.vega_standing.proofs.Trees.{Each}
 use Rattle.vega_standing.proofs.ReadTrees.{read_own}
 use Rattle.vega_standing.proofs.Quiet.{each_of}
@@ -75,7 +77,7 @@ plain_top ms built =
     ap (list_all is_plain) (sym (ap (λ (o : Object). o.signals) (opened_object g.group)
     ∙ ap (λ (x : Group-F Group VgMark). unwrap_or x.signals []) (group_opened ms (marks_at ms (codes "marks"))))) ∙ first
 
-of_tree : (tree : Json) → HasOwnNames tree → first_fault_of tree ≡ None → IsBuilt (spec_of tree) → IsInOrder (spec_of tree)
+of_tree : (tree : Json) → HasOwnNames tree → first_fault_of tree ≡ None → IsBuilt (spec_of tree) → OfAll HasOrder (spec_of tree)
 of_tree tree own e built =
     let t : IsTop tree = the_top tree own e in
     let same : members_of tree ≡ t.members = ap (λ o. unwrap_or (members_in o) []) t.opened in
@@ -85,4 +87,19 @@ of_tree tree own e built =
 pub accepted : AcceptedAreInOrder
 accepted bytes tree g reads e built =
     let read : (first_fault_of tree ≡ None) × (spec_of tree ≡ g) = read_as (first_fault_of tree) g (spec_of tree) e in
-    subst IsInOrder read.1 (of_tree tree (read_own bytes tree reads) read.0 (subst IsBuilt (sym read.1) built))
+    subst (OfAll HasOrder) read.1 (of_tree tree (read_own bytes tree reads) read.0 (subst IsBuilt (sym read.1) built))
+
+-- ---- what settles
+
+each_object : (P Q : Object → Type 0) → ((o : Object) → P o → Q o) → (marks : Marks) → EachObject P marks → EachObject Q marks
+each_object P Q f NoMarks e = tt
+each_object P Q f (AMark unit mark others) e = each_object P Q f others e
+each_object P Q f (AGroup o inside others) e = (f o e.0, each_object P Q f inside e.1, each_object P Q f others e.2)
+
+settles : SettleInOrder → (o : Object) → HasOrder o → Settles o
+settles law o order = λ sources lists outer given. law sources lists outer given o.signals o.sets order.0 order.1
+
+pub all_settle : SettleInOrder → AcceptedSettle
+all_settle law bytes tree g reads e built =
+    let orders : OfAll HasOrder g = accepted bytes tree g reads e built in
+    record { top = settles law (outline_of g).object orders.top; inside = each_object HasOrder Settles (settles law) (outline_of g).marks orders.inside }

@@ -21,7 +21,6 @@ use Rattle.expr_syntax.specs.declared.expr.Expr.TheVariants as expr
 use Rattle.vega_spec.specs.declared.transforms.BinExtent.TheVariants as bounds
 use Rattle.spec_schema.specs.declared.layout.Layout.{Layout}
 use Rattle.expr_syntax.specs.Names.{names_in}
-use Rattle.expr_reading.specs.Readings.{expression_of}
 use Rattle.vega_schema.specs.declared.codes.TheConstants.{TRANSFORM, EXTENT, EXTENT_SIGNAL, NUMBER, NOTHING, EXPRESSION, TEXT, TOP}
 use Rattle.vega_schema.specs.Schema.{vega_schema}
 use Rattle.vega_schema.specs.Shapes.{leaves, named as named_shapes, lists, objects}

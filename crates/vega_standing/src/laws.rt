@@ -1,6 +1,6 @@
 //! Laws of specifications that are read.
 ghost use Rattle.vega_standing.specs.Laws.{ObjectsAreKept, FoldsAreKept, RulesAreKept, FilesKeepRules, AcceptedAreCharts};
-ghost use Rattle.vega_standing.specs.Orders.{AcceptedAreInOrder};
+ghost use Rattle.vega_standing.specs.Orders.{AcceptedAreInOrder, AcceptedSettle};
 
 /// Where a tree has no fault and no object in it has a name twice, the objects of the specification that it says keep what charts ask.
 pub fn objects_are_kept()
@@ -31,3 +31,10 @@ pub fn accepted_are_charts()
 pub fn accepted_signals_are_in_order()
     ensures { AcceptedAreInOrder }
 {}
+
+/// They settle: they are computed from the values at which they settle as these are, at the top and in each group.
+pub fn accepted_signals_settle()
+    ensures { AcceptedSettle }
+{
+    vega_signals::laws_of_signals();
+}
