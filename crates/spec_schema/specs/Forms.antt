@@ -1,6 +1,6 @@
 -- Which form of its shape a value has.
-use Rattle.std.specs.Prelude.{ℕ, ◌==◌, Bool, true, ◌&&◌, Option, Some, None, List, [], find, slice_get}
-use Rattle.std.specs.Option.{option_map, option_map_or, is_some}
+use Rattle.std.specs.Prelude.{ℕ, ◌==◌, Bool, true, ◌&&◌, not, Option, Some, None, List, find}
+use Rattle.std.specs.Option.{option_map, is_some}
 use Rattle.json_exact.specs.declared.json.Member.{Member}
 use Rattle.spec_schema.specs.declared.form.Form.{Form}
 use Rattle.spec_schema.specs.declared.form.Shape.{Shape}
@@ -10,11 +10,7 @@ use Rattle.spec_schema.specs.declared.schema.Schema.{Schema}
 use Rattle.fixed_num.specs.Ranges.{is_within}
 use Rattle.spec_schema.specs.Values.{Opened, is_null, is_flag, is_true, number_passes, is_whole_between, is_text, text_passes}
 use Rattle.spec_schema.specs.Values.{among, is_cell, is_pair, list_passes, has_length, object_passes}
-use Rattle.spec_schema.specs.Layouts.{layout_in}
-
--- the names of a list
-abbrev pub names_of : Schema → ℕ → List (List ℕ)
-names_of schema code = option_map_or (λ names. names) (slice_get schema.names code) []
+use Rattle.spec_schema.specs.Layouts.{names_of, layout_in}
 
 -- a value, opened by one level, has a form, apart from what stands inside it
 abbrev pub fits : Schema → Form → Opened → Bool
@@ -25,6 +21,7 @@ fits schema (form.Number least most) tree = number_passes (is_within least most)
 fits schema (form.Whole least most) tree = number_passes (is_whole_between least most) tree
 fits schema form.Text tree = is_text tree
 fits schema (form.Name code) tree = text_passes (among (names_of schema code)) tree
+fits schema (form.Except code) tree = not (text_passes (among (names_of schema code)) tree)
 fits schema form.Cell tree = is_cell tree
 fits schema form.Free tree = true
 fits schema (form.Pair items) tree = list_passes is_pair tree

@@ -33,6 +33,8 @@ pub enum Form {
     Text,
     /// A text that is one of the names of this list.
     Name(u16),
+    /// Any value but a text that is one of the names of this list.
+    Except(u16),
     /// What a cell can hold: null, a truth value, a number, a text or two numbers in a list.
     Cell,
     /// Any value at all.
@@ -168,8 +170,8 @@ pub fn is_text(tree: &Json) -> bool
     }
 }
 
-// Whether a name is one of these.
-fn among(names: &[Text], name: &str) -> bool
+/// Whether a name is one of these.
+pub fn among(names: &[Text], name: &str) -> bool
     ensures { result ≡ among names.now name.now }
 {
     for other in names {
@@ -260,6 +262,7 @@ impl Form {
             | Form::Whole { .. }
             | Form::Text
             | Form::Name(_)
+            | Form::Except(_)
             | Form::Cell
             | Form::Free
             | Form::Object(_) => None,

@@ -1,13 +1,9 @@
 //! Which members an object may have.
 ghost use Rattle.std.specs.Prelude.{◌≡◌};
-ghost use Rattle.spec_schema.specs.Values.{text_passes};
-ghost use Rattle.spec_schema.specs.Layouts.{has_name, says, holds, applies, rule_in, shape_in};
-ghost use Rattle.std.specs.List.{list_any, list_all};
+ghost use Rattle.spec_schema.specs.Layouts.{has_name, rule_in, shape_in};
 ghost use Rattle.std.specs.Option.{option_copied};
-ghost use Rattle.std.specs.Str.{bytes_eq};
-ghost use Rattle.json_exact.specs.declared.json.Json.{out-Json};
 
-use json_exact::{Json, Member};
+use json_exact::Member;
 use text_kit::{Seq, Text};
 
 /// A member that an object may have.
@@ -30,6 +26,14 @@ pub enum Test {
     Lacks(Text),
     /// There is a member of this name whose value is this text.
     Says(Text, Text),
+    /// There is a member that has one of the names of this list.
+    Any(u16),
+    /// Of the members that have one of the names of this list, the first has this name.
+    Leads(u16, Text),
+    /// There is a member of this name, and none that has another of the names of this list.
+    Alone(u16, Text),
+    /// There is a member that has none of the names of this list.
+    Beyond(u16),
 }
 
 /// The members that an object may have, where some tests hold.
@@ -55,63 +59,6 @@ pub fn has_name(members: &[Member], name: &str) -> bool
         }
     }
     false
-}
-
-// Whether a value is this text.
-fn is_text_of(tree: &Json, text: &str) -> bool
-    ensures { result ≡ text_passes (bytes_eq text.now) (out-Json tree.now) }
-{
-    match tree {
-        Json::Text(other) => text == other.as_str(),
-        Json::Null
-        | Json::Flag(_)
-        | Json::Number(_)
-        | Json::Huge
-        | Json::List(_)
-        | Json::Object(_) => false,
-    }
-}
-
-// Whether there is a member of this name whose value is this text.
-fn says(members: &[Member], name: &str, text: &str) -> bool
-    ensures { result ≡ list_any (says name.now text.now) members.now }
-{
-    for member in members {
-        if member.name.as_str() == name && is_text_of(&member.value, text) {
-            return true;
-        }
-    }
-    false
-}
-
-// Whether a test holds of the members.
-fn holds(test: &Test, members: &[Member]) -> bool
-    ensures { result ≡ holds members.now test.now }
-{
-    match test {
-        Test::Has(name) => has_name(members, name.as_str()),
-        Test::Lacks(name) => !has_name(members, name.as_str()),
-        Test::Says(name, text) => says(members, name.as_str(), text.as_str()),
-    }
-}
-
-// Whether all tests hold of the members.
-fn hold(tests: &[Test], members: &[Member]) -> bool
-    ensures { result ≡ list_all (holds members.now) tests.now }
-{
-    for test in tests {
-        if !holds(test, members) {
-            return false;
-        }
-    }
-    true
-}
-
-/// Whether a layout is one of the object and applies to the members.
-pub fn applies(layout: &Layout, object: u16, members: &[Member]) -> bool
-    ensures { result ≡ applies object members.now layout.now }
-{
-    layout.object == object && hold(layout.when.as_slice(), members)
 }
 
 // The rule of this name.

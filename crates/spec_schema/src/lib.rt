@@ -5,6 +5,7 @@
 
 mod fault;
 mod form;
+mod holding;
 mod layout;
 mod order;
 mod rows;
@@ -15,6 +16,6 @@ pub use fault::{Fault, path_word};
 pub use form::{Form, Shape};
 pub use layout::{Layout, Rule, Test, shape_in};
 pub use order::{earlier, faults_are_in_order};
-pub use rows::{Row, When, layout_by, names_by};
+pub use rows::{Row, When, layout_by, layout_of_rules, names_by, push_rules};
 pub use schema::{Schema, form_of, layout_of};
 pub use search::first_fault;

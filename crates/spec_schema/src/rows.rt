@@ -1,6 +1,6 @@
 //! Tables of members and names, written in the program, as values.
-ghost use Rattle.std.specs.Prelude.{◌≡◌, map, IfOk};
-ghost use Rattle.spec_schema.specs.Rows.{rule_of, test_of, layout_by};
+ghost use Rattle.std.specs.Prelude.{◌≡◌, ◌++◌, map, IfOk, OnOk};
+ghost use Rattle.spec_schema.specs.Rows.{rule_of, test_of, layout_by, layout_of_rules};
 
 use crate::layout::{Layout, Rule, Test};
 use std::alloc::Global;
@@ -23,6 +23,14 @@ pub enum When<'a> {
     Lacks(&'a str),
     /// There is a member of the first name whose value is the second text.
     Says(&'a str, &'a str),
+    /// There is a member that has one of the names of this list.
+    Any(u16),
+    /// Of the members that have one of the names of this list, the first has this name.
+    Leads(u16, &'a str),
+    /// There is a member of this name, and none that has another of the names of this list.
+    Alone(u16, &'a str),
+    /// There is a member that has none of the names of this list.
+    Beyond(u16),
 }
 
 /// A table of members: `must NAME SHAPE` for one that has to be there, else `may NAME SHAPE`.
@@ -74,6 +82,10 @@ fn test_of(alloc: Global, when: &When) -> Result<Test, OutOfMemory>
         When::Has(name) => Ok(Test::Has(Text::of(alloc, name)?)),
         When::Lacks(name) => Ok(Test::Lacks(Text::of(alloc, name)?)),
         When::Says(name, text) => Ok(Test::Says(Text::of(alloc, name)?, Text::of(alloc, text)?)),
+        When::Any(names) => Ok(Test::Any(*names)),
+        When::Leads(names, name) => Ok(Test::Leads(*names, Text::of(alloc, name)?)),
+        When::Alone(names, name) => Ok(Test::Alone(*names, Text::of(alloc, name)?)),
+        When::Beyond(names) => Ok(Test::Beyond(*names)),
     }
 }
 
@@ -102,6 +114,31 @@ pub fn layout_by(
         object,
         when: tests_of(alloc, whens)?,
         rules: rules_of(alloc, rows)?,
+        others,
+    })
+}
+
+/// Adds the rules of a table.
+pub fn push_rules(alloc: Global, out: &mut Seq<Rule>, rows: &[Row]) -> Result<(), OutOfMemory>
+    ensures { OnOk result (out.new ≡ out.old ++ map rule_of rows.now) }
+{
+    out.append(rules_of(alloc, rows)?)
+}
+
+/// A layout of an object by the rules of several tables.
+pub fn layout_of_rules(
+    alloc: Global,
+    object: u16,
+    whens: &[When],
+    rules: Seq<Rule>,
+    others: Option<u16>,
+) -> Result<Layout, OutOfMemory>
+    ensures { IfOk result (λ l. l ≡ layout_of_rules object whens.now rules others) }
+{
+    Ok(Layout {
+        object,
+        when: tests_of(alloc, whens)?,
+        rules,
         others,
     })
 }

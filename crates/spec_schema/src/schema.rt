@@ -2,7 +2,7 @@
 ghost use Rattle.std.specs.Prelude.{◌≡◌};
 ghost use Rattle.std.specs.Option.{option_copied, is_some};
 ghost use Rattle.json_exact.specs.declared.json.Json.{out-Json};
-ghost use Rattle.spec_schema.specs.Forms.{taken_form, takes, fits, names_of, layout_of};
+ghost use Rattle.spec_schema.specs.Forms.{taken_form, takes, fits, layout_of};
 ghost use Rattle.spec_schema.specs.Values.{object_passes};
 ghost use Rattle.spec_schema.specs.Layouts.{layout_in};
 
@@ -10,7 +10,8 @@ use crate::form::{
     Form, Shape, has_length, is_cell, is_flag, is_null, is_number_between, is_one_of, is_pair_list,
     is_text, is_true, is_whole_between,
 };
-use crate::layout::{Layout, applies};
+use crate::holding::{applies, names_of};
+use crate::layout::Layout;
 use json_exact::{Json, Member};
 use text_kit::{Seq, Text};
 
@@ -26,22 +27,12 @@ pub struct Schema {
     pub layouts: Seq<Layout>,
 }
 
-// A list of names, empty where none has the code.
-fn names_of(schema: &Schema, code: u16) -> &[Text]
-    ensures { result.now ≡ names_of schema.now code }
-{
-    match schema.names.get(usize::from(code)) {
-        Some(names) => names.as_slice(),
-        None => &[],
-    }
-}
-
 /// The first layout of the object that applies to the members.
 pub fn layout_in<'a>(schema: &'a Schema, object: u16, members: &[Member]) -> Option<&'a Layout>
     ensures { option_copied result ≡ layout_in schema.now object members.now }
 {
     for layout in schema.layouts.as_slice() {
-        if applies(layout, object, members) {
+        if applies(schema, layout, object, members) {
             return Some(layout);
         }
     }
@@ -71,6 +62,7 @@ fn fits(schema: &Schema, form: Form, tree: &Json) -> bool
         Form::Whole { least, most } => is_whole_between(tree, least, most),
         Form::Text => is_text(tree),
         Form::Name(code) => is_one_of(tree, names_of(schema, code)),
+        Form::Except(code) => !is_one_of(tree, names_of(schema, code)),
         Form::Cell => is_cell(tree),
         Form::Free => true,
         Form::Pair(_) => is_pair_list(tree),
@@ -115,6 +107,7 @@ pub fn layout_of<'a>(schema: &'a Schema, form: Form, members: &[Member]) -> Opti
         | Form::Whole { .. }
         | Form::Text
         | Form::Name(_)
+        | Form::Except(_)
         | Form::Cell
         | Form::Free
         | Form::Pair(_)

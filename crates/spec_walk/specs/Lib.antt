@@ -1,3 +1,4 @@
 pub mod Walk
 pub mod Paths
+pub mod Places
 pub mod inner
