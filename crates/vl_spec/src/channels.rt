@@ -1,0 +1,187 @@
+// Channels, and their conditions.
+ghost use Rattle.std.specs.Prelude.{◌≡◌, IfOk};
+
+use crate::{Definition, Filter, ParamTest};
+use std::alloc::Global;
+use text_kit::{Boxed, Copies, OutOfMemory, Seq};
+
+/// The channels of a view, in the order of the text.
+#[derive(Drop)]
+pub struct Encoding {
+    /// The channels.
+    pub channels: Seq<ChannelOf>,
+}
+
+/// A channel by its name.
+#[derive(Drop)]
+pub struct ChannelOf {
+    /// The code of the channel among `case_table::CHANNELS`.
+    pub channel: u16,
+    /// What it shows.
+    pub shows: ChannelKind,
+}
+
+/// What a channel shows.
+#[derive(Drop)]
+pub enum ChannelKind {
+    /// One definition.
+    One(Channel),
+    /// A list of them, for `detail`.
+    Several(Seq<Channel>),
+}
+
+/// A definition of a channel.
+#[cycle(channels)]
+#[derive(Drop)]
+pub struct Channel {
+    /// What it shows where no condition holds.
+    pub definition: Definition,
+    /// What it shows where one holds.
+    pub condition: Option<Conditions>,
+}
+
+/// The conditions of a channel.
+#[cycle(channels)]
+#[derive(Drop)]
+pub enum Conditions {
+    /// One that stands alone.
+    One(Boxed<Condition>),
+    /// A list, of which the first that holds counts.
+    Several(Seq<Condition>),
+}
+
+/// A condition of a channel.
+#[cycle(channels)]
+#[derive(Drop)]
+pub struct Condition {
+    /// When it holds.
+    pub test: Test,
+    /// What the channel then shows.
+    pub shows: Channel,
+}
+
+/// When a condition holds.
+#[derive(Drop)]
+pub enum Test {
+    /// Where a parameter allows it.
+    Param(ParamTest),
+    /// Where a filter lets the row pass.
+    Filter(Filter),
+}
+
+impl Copies for Encoding {
+    fn copied(&self, alloc: Global) -> Result<Encoding, OutOfMemory> {
+        Ok(Encoding {
+            channels: self.channels.copied(alloc)?,
+        })
+    }
+}
+
+impl Copies for ChannelOf {
+    fn copied(&self, alloc: Global) -> Result<ChannelOf, OutOfMemory> {
+        Ok(ChannelOf {
+            channel: self.channel,
+            shows: self.shows.copied(alloc)?,
+        })
+    }
+}
+
+impl Copies for ChannelKind {
+    fn copied(&self, alloc: Global) -> Result<ChannelKind, OutOfMemory> {
+        match self {
+            ChannelKind::One(channel) => Ok(ChannelKind::One(channel.copied(alloc)?)),
+            ChannelKind::Several(channels) => Ok(ChannelKind::Several(channels.copied(alloc)?)),
+        }
+    }
+}
+
+impl Channel {
+    /// A channel that equals this one.
+    #[cycle(channels)]
+    pub fn copy(&self, alloc: Global) -> Result<Channel, OutOfMemory>
+        ensures { IfOk result (λ copy. copy ≡ self.now) }
+    {
+        let condition = copied_conditions(alloc, &self.condition)?;
+        let definition = self.definition.copied(alloc)?;
+        Ok(Channel {
+            definition,
+            condition,
+        })
+    }
+}
+
+impl Conditions {
+    /// Conditions that equal these.
+    #[cycle(channels)]
+    pub fn copy(&self, alloc: Global) -> Result<Conditions, OutOfMemory>
+        ensures { IfOk result (λ copy. copy ≡ self.now) }
+    {
+        match self {
+            Conditions::One(condition) => Ok(Conditions::One(boxed_copy(alloc, condition)?)),
+            Conditions::Several(conditions) => Ok(Conditions::Several(copied_list(
+                alloc, conditions,
+            )?)),
+        }
+    }
+}
+
+impl Condition {
+    /// A condition that equals this one.
+    #[cycle(channels)]
+    pub fn copy(&self, alloc: Global) -> Result<Condition, OutOfMemory>
+        ensures { IfOk result (λ copy. copy ≡ self.now) }
+    {
+        let test = self.test.copied(alloc)?;
+        let shows = self.shows.copy(alloc)?;
+        Ok(Condition { test, shows })
+    }
+}
+
+// A copy of conditions that may be absent.
+#[cycle(channels)]
+fn copied_conditions(
+    alloc: Global,
+    conditions: &Option<Conditions>,
+) -> Result<Option<Conditions>, OutOfMemory>
+    ensures { IfOk result (λ copy. copy ≡ conditions.now) }
+{
+    match conditions {
+        Some(conditions) => Ok(Some(conditions.copy(alloc)?)),
+        None => Ok(None),
+    }
+}
+
+// A copy of a condition in a box.
+#[cycle(channels)]
+fn boxed_copy(alloc: Global, condition: &Boxed<Condition>) -> Result<Boxed<Condition>, OutOfMemory>
+    ensures { IfOk result (λ copy. copy ≡ condition.now) }
+{
+    Boxed::new(alloc, condition.get().copy(alloc)?)
+}
+
+// Copies of conditions.
+#[cycle(channels)]
+fn copied_list(alloc: Global, conditions: &Seq<Condition>) -> Result<Seq<Condition>, OutOfMemory>
+    ensures { IfOk result (λ copy. copy ≡ conditions.now) }
+{
+    let mut out = Seq::new(alloc);
+    for condition in conditions.as_slice() {
+        out.push(condition.copy(alloc)?)?;
+    }
+    Ok(out)
+}
+
+impl Copies for Channel {
+    fn copied(&self, alloc: Global) -> Result<Channel, OutOfMemory> {
+        self.copy(alloc)
+    }
+}
+
+impl Copies for Test {
+    fn copied(&self, alloc: Global) -> Result<Test, OutOfMemory> {
+        match self {
+            Test::Param(of) => Ok(Test::Param(of.copied(alloc)?)),
+            Test::Filter(filter) => Ok(Test::Filter(filter.copy(alloc)?)),
+        }
+    }
+}

@@ -1,0 +1,175 @@
+// Definitions of channels, apart from their conditions.
+use crate::copying::{copied_five, copied_seven};
+use crate::{Axis, Header, Legend, Offset, Scale, Sort};
+use cell_value::Cell;
+use fixed_num::Num;
+use std::alloc::Global;
+use text_kit::{Copies, OutOfMemory, Text};
+
+/// What a channel shows.
+#[derive(Drop)]
+pub enum Definition {
+    /// `value`: this, without a scale.
+    Value(Cell),
+    /// `datum`: a cell that is written, on a scale.
+    Datum(DatumDefinition),
+    /// The cells of a field, or what is made of it.
+    Field(FieldDefinition),
+}
+
+/// A cell that is written, on a scale.
+#[derive(Drop)]
+pub struct DatumDefinition {
+    /// The cell.
+    pub datum: Cell,
+    /// What kind of cell it is.
+    pub type_: Option<FieldType>,
+    /// The scale.
+    pub scale: Option<Scale>,
+    /// The axis; null for none.
+    pub axis: Option<Option<Axis>>,
+    /// The legend; null for none.
+    pub legend: Option<Option<Legend>>,
+    /// The title; null for none.
+    pub title: Option<Option<Text>>,
+}
+
+/// The cells of a field, or what is made of it.
+#[derive(Drop)]
+pub struct FieldDefinition {
+    /// The field.
+    pub field: Option<Text>,
+    /// What kind of cells it has.
+    pub type_: Option<FieldType>,
+    /// The code of the operation over it, among `case_table::OPERATIONS`.
+    pub aggregate: Option<u16>,
+    /// How it is put into bins.
+    pub bin: Option<Bin>,
+    /// The code of the unit of time among `case_table::TIME_UNITS`.
+    pub time_unit: Option<u16>,
+    /// The title; null for none.
+    pub title: Option<Option<Text>>,
+    /// How its cells stand.
+    pub sort: Option<Sort>,
+    /// The scale.
+    pub scale: Option<Scale>,
+    /// How it is stacked.
+    pub stack: Option<Stacking>,
+    /// The axis; null for none.
+    pub axis: Option<Option<Axis>>,
+    /// The legend; null for none.
+    pub legend: Option<Option<Legend>>,
+    /// The headers of its panels.
+    pub header: Option<Header>,
+    /// How it is written.
+    pub format: Option<Text>,
+    /// How many of its panels stand side by side.
+    pub columns: Option<Num>,
+    /// The space between its panels, in pixels.
+    pub spacing: Option<Num>,
+}
+
+/// What kind of cells a field has.
+#[derive(Clone, Copy, PartialEq, Eq)]
+pub enum FieldType {
+    /// `quantitative`
+    Quantitative,
+    /// `temporal`
+    Temporal,
+    /// `ordinal`
+    Ordinal,
+    /// `nominal`
+    Nominal,
+}
+
+/// How a field is put into bins.
+#[derive(Clone, Copy)]
+pub enum Bin {
+    /// Whether it is.
+    Flag(bool),
+    /// In this way.
+    Settings(BinSettings),
+}
+
+/// In which way a field is put into bins.
+#[derive(Clone, Copy)]
+pub struct BinSettings {
+    /// How many bins there are at most.
+    pub maxbins: Option<Num>,
+    /// How wide a bin is.
+    pub step: Option<Num>,
+}
+
+/// How a channel is stacked.
+#[derive(Clone, Copy, PartialEq, Eq)]
+pub enum Stacking {
+    /// Null: not at all.
+    Null,
+    /// True: from 0; false: not at all.
+    Flag(bool),
+    /// From here.
+    Offset(Offset),
+}
+
+impl Copies for Definition {
+    fn copied(&self, alloc: Global) -> Result<Definition, OutOfMemory> {
+        match self {
+            Definition::Value(cell) => Ok(Definition::Value(cell.copied(alloc)?)),
+            Definition::Datum(of) => Ok(Definition::Datum(of.copied(alloc)?)),
+            Definition::Field(of) => Ok(Definition::Field(of.copied(alloc)?)),
+        }
+    }
+}
+
+impl Copies for DatumDefinition {
+    fn copied(&self, alloc: Global) -> Result<DatumDefinition, OutOfMemory> {
+        let (datum, title, legend, axis, scale) = copied_five(
+            alloc,
+            &self.datum,
+            &self.title,
+            &self.legend,
+            &self.axis,
+            &self.scale,
+        )?;
+        Ok(DatumDefinition {
+            datum,
+            type_: self.type_,
+            scale,
+            axis,
+            legend,
+            title,
+        })
+    }
+}
+
+impl Copies for FieldDefinition {
+    fn copied(&self, alloc: Global) -> Result<FieldDefinition, OutOfMemory> {
+        let (field, title, format, legend, axis, sort, scale) = copied_seven(
+            alloc,
+            &self.field,
+            &self.title,
+            &self.format,
+            &self.legend,
+            &self.axis,
+            &self.sort,
+            &self.scale,
+        )?;
+        Ok(FieldDefinition {
+            field,
+            type_: self.type_,
+            aggregate: self.aggregate,
+            bin: self.bin,
+            time_unit: self.time_unit,
+            title,
+            sort,
+            scale,
+            stack: self.stack,
+            axis,
+            legend,
+            header: self.header,
+            format,
+            columns: self.columns,
+            spacing: self.spacing,
+        })
+    }
+}

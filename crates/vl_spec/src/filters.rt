@@ -1,0 +1,146 @@
+// Filters, and tests of conditions.
+ghost use Rattle.std.specs.Prelude.{◌≡◌, IfOk};
+
+use crate::copying::copied_two;
+use cell_value::Cell;
+use expr_syntax::Expr;
+use fixed_num::Num;
+use std::alloc::Global;
+use text_kit::{Boxed, Copies, OutOfMemory, Seq, Text};
+
+/// Which rows pass.
+#[cycle(filters)]
+#[derive(Drop)]
+pub enum Filter {
+    /// Those for which an expression holds.
+    Expr(Expr),
+    /// Those that a selection holds; all, where a parameter that is none is true.
+    Param(ParamTest),
+    /// Those of which a field passes.
+    Field(FieldTest),
+    /// Those that pass each of these.
+    And(Seq<Filter>),
+    /// Those that pass one of these.
+    Or(Seq<Filter>),
+    /// Those that don't pass this.
+    Not(Boxed<Filter>),
+}
+
+/// A test by a parameter.
+#[derive(Drop)]
+pub struct ParamTest {
+    /// The parameter.
+    pub param: Text,
+    /// Whether an empty selection holds every row; without it, it does.
+    pub empty: Option<bool>,
+}
+
+/// A test of a field.
+#[derive(Drop)]
+pub struct FieldTest {
+    /// The field.
+    pub field: Text,
+    /// The code of the unit of time of which its start is compared, among `case_table::TIME_UNITS`.
+    pub time_unit: Option<u16>,
+    /// The comparison.
+    pub comparison: Comparison,
+}
+
+/// A comparison of a cell.
+#[derive(Drop)]
+pub enum Comparison {
+    /// `equal`
+    Equal(Cell),
+    /// `lt`
+    Less(Cell),
+    /// `lte`
+    LessSame(Cell),
+    /// `gt`
+    More(Cell),
+    /// `gte`
+    MoreSame(Cell),
+    /// `range`: from the first number to the second; null for no bound.
+    Range(Option<Num>, Option<Num>),
+    /// `oneOf`
+    OneOf(Seq<Cell>),
+    /// `valid`: whether it isn't null.
+    Valid(bool),
+}
+
+impl Filter {
+    /// A filter that equals this one.
+    #[cycle(filters)]
+    pub fn copy(&self, alloc: Global) -> Result<Filter, OutOfMemory>
+        ensures { IfOk result (λ copy. copy ≡ self.now) }
+    {
+        match self {
+            Filter::Expr(e) => Ok(Filter::Expr(e.copy(alloc)?)),
+            Filter::Param(of) => Ok(Filter::Param(of.copied(alloc)?)),
+            Filter::Field(of) => Ok(Filter::Field(of.copied(alloc)?)),
+            Filter::And(filters) => Ok(Filter::And(copied_filters(alloc, filters)?)),
+            Filter::Or(filters) => Ok(Filter::Or(copied_filters(alloc, filters)?)),
+            Filter::Not(filter) => Ok(Filter::Not(boxed_copy(alloc, filter)?)),
+        }
+    }
+}
+
+// Copies of filters.
+#[cycle(filters)]
+fn copied_filters(alloc: Global, filters: &Seq<Filter>) -> Result<Seq<Filter>, OutOfMemory>
+    ensures { IfOk result (λ copy. copy ≡ filters.now) }
+{
+    let mut out = Seq::new(alloc);
+    for filter in filters.as_slice() {
+        out.push(filter.copy(alloc)?)?;
+    }
+    Ok(out)
+}
+
+// A copy of a filter in a box.
+#[cycle(filters)]
+fn boxed_copy(alloc: Global, filter: &Boxed<Filter>) -> Result<Boxed<Filter>, OutOfMemory>
+    ensures { IfOk result (λ copy. copy ≡ filter.now) }
+{
+    Boxed::new(alloc, filter.get().copy(alloc)?)
+}
+
+impl Copies for Filter {
+    fn copied(&self, alloc: Global) -> Result<Filter, OutOfMemory> {
+        self.copy(alloc)
+    }
+}
+
+impl Copies for ParamTest {
+    fn copied(&self, _: Global) -> Result<ParamTest, OutOfMemory> {
+        Ok(ParamTest {
+            param: self.param.copy()?,
+            empty: self.empty,
+        })
+    }
+}
+
+impl Copies for FieldTest {
+    fn copied(&self, alloc: Global) -> Result<FieldTest, OutOfMemory> {
+        let (field, comparison) = copied_two(alloc, &self.field, &self.comparison)?;
+        Ok(FieldTest {
+            field,
+            time_unit: self.time_unit,
+            comparison,
+        })
+    }
+}
+
+impl Copies for Comparison {
+    fn copied(&self, alloc: Global) -> Result<Comparison, OutOfMemory> {
+        match self {
+            Comparison::Equal(cell) => Ok(Comparison::Equal(cell.copied(alloc)?)),
+            Comparison::Less(cell) => Ok(Comparison::Less(cell.copied(alloc)?)),
+            Comparison::LessSame(cell) => Ok(Comparison::LessSame(cell.copied(alloc)?)),
+            Comparison::More(cell) => Ok(Comparison::More(cell.copied(alloc)?)),
+            Comparison::MoreSame(cell) => Ok(Comparison::MoreSame(cell.copied(alloc)?)),
+            Comparison::Range(a, b) => Ok(Comparison::Range(*a, *b)),
+            Comparison::OneOf(cells) => Ok(Comparison::OneOf(cells.copied(alloc)?)),
+            Comparison::Valid(valid) => Ok(Comparison::Valid(*valid)),
+        }
+    }
+}

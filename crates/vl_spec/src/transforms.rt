@@ -1,0 +1,179 @@
+// Transforms of rows.
+use crate::copying::{copied_four, copied_two};
+use crate::{AggregateTransform, Bin, Filter, LookupTransform, Offset, SortField, WindowTransform};
+use expr_syntax::Expr;
+use std::alloc::Global;
+use text_kit::{Copies, OutOfMemory, Seq, Text};
+
+/// A transform, by the member that decides.
+#[derive(Drop)]
+pub enum Transform {
+    /// `filter`
+    Filter(Filter),
+    /// `calculate`
+    Calculate(CalculateTransform),
+    /// `bin`
+    Bin(BinTransform),
+    /// `timeUnit`
+    TimeUnit(TimeUnitTransform),
+    /// `aggregate`
+    Aggregate(AggregateTransform),
+    /// `joinaggregate`
+    JoinAggregate(AggregateTransform),
+    /// `stack`
+    Stack(StackTransform),
+    /// `window`
+    Window(WindowTransform),
+    /// `lookup`
+    Lookup(LookupTransform),
+    /// `fold`
+    Fold(FoldTransform),
+}
+
+/// The name of a start, with or without that of its end.
+#[derive(Drop)]
+pub enum Names {
+    /// A name to which `_end` is added for the end.
+    One(Text),
+    /// Both names.
+    Two(Text, Text),
+}
+
+/// A cell computed of each row.
+#[derive(Drop)]
+pub struct CalculateTransform {
+    /// The name of the cell.
+    pub as_: Text,
+    /// What is computed.
+    pub calculate: Expr,
+}
+
+/// How the numbers of a field are put into bins.
+#[derive(Drop)]
+pub struct BinTransform {
+    /// In which way.
+    pub bin: Bin,
+    /// The field.
+    pub field: Text,
+    /// The names of the bin's start and end.
+    pub as_: Names,
+}
+
+/// How the instants of a field are put into units of time.
+#[derive(Drop)]
+pub struct TimeUnitTransform {
+    /// The code of the unit among `case_table::TIME_UNITS`.
+    pub time_unit: u16,
+    /// The field.
+    pub field: Text,
+    /// The name of the unit's start, to which `_end` is added for its end.
+    pub as_: Text,
+}
+
+/// How the numbers of a field are stacked.
+#[derive(Drop)]
+pub struct StackTransform {
+    /// The field.
+    pub stack: Text,
+    /// The fields whose equal cells make a stack.
+    pub groupby: Option<Seq<Text>>,
+    /// The order within a stack.
+    pub sort: Option<Seq<SortField>>,
+    /// Where a stack begins.
+    pub offset: Option<Offset>,
+    /// The names of where a number begins and ends.
+    pub as_: Names,
+}
+
+/// How one row is made for each of several fields.
+#[derive(Drop)]
+pub struct FoldTransform {
+    /// The fields.
+    pub fold: Seq<Text>,
+    /// The names of the field's name and of its cell.
+    pub as_: Option<(Text, Text)>,
+}
+
+impl Copies for Transform {
+    fn copied(&self, alloc: Global) -> Result<Transform, OutOfMemory> {
+        match self {
+            Transform::Filter(of) => Ok(Transform::Filter(of.copy(alloc)?)),
+            Transform::Calculate(of) => Ok(Transform::Calculate(of.copied(alloc)?)),
+            Transform::Bin(of) => Ok(Transform::Bin(of.copied(alloc)?)),
+            Transform::TimeUnit(of) => Ok(Transform::TimeUnit(of.copied(alloc)?)),
+            Transform::Aggregate(of) => Ok(Transform::Aggregate(of.copied(alloc)?)),
+            Transform::JoinAggregate(of) => Ok(Transform::JoinAggregate(of.copied(alloc)?)),
+            Transform::Stack(of) => Ok(Transform::Stack(of.copied(alloc)?)),
+            Transform::Window(of) => Ok(Transform::Window(of.copied(alloc)?)),
+            Transform::Lookup(of) => Ok(Transform::Lookup(of.copied(alloc)?)),
+            Transform::Fold(of) => Ok(Transform::Fold(of.copied(alloc)?)),
+        }
+    }
+}
+
+impl Copies for Names {
+    fn copied(&self, _: Global) -> Result<Names, OutOfMemory> {
+        match self {
+            Names::One(name) => Ok(Names::One(name.copy()?)),
+            Names::Two(start, end) => Ok(Names::Two(start.copy()?, end.copy()?)),
+        }
+    }
+}
+
+impl Copies for CalculateTransform {
+    fn copied(&self, alloc: Global) -> Result<CalculateTransform, OutOfMemory> {
+        let as_ = self.as_.copy()?;
+        Ok(CalculateTransform {
+            as_,
+            calculate: self.calculate.copy(alloc)?,
+        })
+    }
+}
+
+impl Copies for BinTransform {
+    fn copied(&self, alloc: Global) -> Result<BinTransform, OutOfMemory> {
+        let (field, as_) = copied_two(alloc, &self.field, &self.as_)?;
+        Ok(BinTransform {
+            bin: self.bin,
+            field,
+            as_,
+        })
+    }
+}
+
+impl Copies for TimeUnitTransform {
+    fn copied(&self, alloc: Global) -> Result<TimeUnitTransform, OutOfMemory> {
+        let (field, as_) = copied_two(alloc, &self.field, &self.as_)?;
+        Ok(TimeUnitTransform {
+            time_unit: self.time_unit,
+            field,
+            as_,
+        })
+    }
+}
+
+impl Copies for StackTransform {
+    fn copied(&self, alloc: Global) -> Result<StackTransform, OutOfMemory> {
+        let (stack, groupby, sort, as_) = copied_four(
+            alloc,
+            &self.stack,
+            &self.groupby,
+            &self.sort,
+            &self.as_,
+        )?;
+        Ok(StackTransform {
+            stack,
+            groupby,
+            sort,
+            offset: self.offset,
+            as_,
+        })
+    }
+}
+
+impl Copies for FoldTransform {
+    fn copied(&self, alloc: Global) -> Result<FoldTransform, OutOfMemory> {
+        let (fold, as_) = copied_two(alloc, &self.fold, &self.as_)?;
+        Ok(FoldTransform { fold, as_ })
+    }
+}
