@@ -1,0 +1,27 @@
+//! The rules of Vega-Lite specifications as data: which members each object has, of which forms, and which are required. There is
+//! one object for each place where it is judged otherwise. Which layout an object has, its members say.
+#![tactic(auto)]
+
+mod channels;
+mod codes;
+mod conditions;
+mod facets;
+mod filters;
+mod guides;
+mod layers;
+mod marks;
+mod operations;
+mod parameters;
+mod schema;
+mod shapes;
+mod sizes;
+mod sources;
+mod transforms;
+mod views;
+mod words;
+
+pub use codes::{
+    DATA, DATASETS, EXPRESSION, FILTER, LABEL_FORMAT, PARAMETER, PARAMETER_NAME, PARAMETERS,
+    SELECT, TOP, URL, VIEW,
+};
+pub use schema::vl_schema;
