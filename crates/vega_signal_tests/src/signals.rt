@@ -32,6 +32,7 @@ j=10 i=9 h=8 g=7 f=6 e=5 d=4 c=3 b=2 a=1\n\
 e = d + 1; j = i + 1; b = a + 1; i = h + 1; g = f + 1; a = 1; f = e + 1; h = g + 1; d = c + 1; c = b + 1 -> \
 e=5 j=10 b=2 i=9 g=7 a=1 f=6 h=8 d=4 c=3\n\
 a = b -> a=null\n\
+a = length(data('b_store')) + 1; b = a + 1 -> a=1 b=2\n\
 k: 1; a = datum.k === null ? k : 5 -> k=1 a=1\n\
 a = 1000000000000000 + 1 -> overflow\n\
 a = 1000000000000000 + 1; b = true ? 1 : a -> overflow\n\

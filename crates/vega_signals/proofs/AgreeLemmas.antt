@@ -7,7 +7,7 @@ use Rattle.cell_value.specs.Cell.{truth}
 use Rattle.cell_value.specs.Datum.{CellAt}
 use Rattle.expr_syntax.specs.declared.expr.Expr.{Expr, Expr-F, roll-Expr, map-Expr, fold-roll-Expr, ind-Expr}
 use Rattle.expr_syntax.specs.declared.expr.Expr.TheOpen as form
-use Rattle.expr_syntax.specs.Names.{names_in, names_here}
+use Rattle.expr_reading.specs.Mentions.{parameters_in}
 use Rattle.expr_eval.specs.Numbers.{cell_number, number_or_null}
 use Rattle.expr_eval.specs.Operations.{negated, binary_of, paired}
 use Rattle.expr_eval.specs.Table.{called, chosen}
@@ -44,52 +44,59 @@ module _ (outer a b : Values) (row : CellAt) where
   abbrev second : Expr → Option Cell
   second = value_of row (reading outer b)
 
-  -- an expression has the same value where its names agree
+  -- an expression has the same value where the parameters agree that it mentions; it reads the same stores and scales in both
   abbrev Same : Expr → Type 0
-  Same e = AgreeOn a b (names_in e) → first e ≡ second e
+  Same e = AgreeOn a b (parameters_in e) → first e ≡ second e
+
+  -- a form does, where it gives the same for the values of its parts
+  formed : (z : Expr-F Expr) (names : List (List ℕ)) → parameters_in (roll-Expr z) ≡ names
+      → (AgreeOn a b names → value_here row (reading outer a) (map-Expr Expr (Option Cell) first z) ≡ value_here row (reading outer b) (map-Expr Expr (Option Cell) second z))
+      → Same (roll-Expr z)
+  formed z names is same h =
+      fold-roll-Expr (Option Cell) (value_here row (reading outer a)) z ∙ same (subst (AgreeOn a b) is h)
+      ∙ sym (fold-roll-Expr (Option Cell) (value_here row (reading outer b)) z)
 
   module _ {X : Type 0} (part : X → Expr) (same : (x : X) → Same (part x)) where
-    all_same : (xs : List X) → AgreeOn a b (flat_map (λ names. names) (map names_in (map part xs))) → map first (map part xs) ≡ map second (map part xs)
+    abbrev names : X → List (List ℕ)
+    names x = parameters_in (part x)
+
+    all_same : (xs : List X) → AgreeOn a b (flat_map (λ arg. arg) (map parameters_in (map part xs))) → map first (map part xs) ≡ map second (map part xs)
     all_same [] h = refl
     all_same (x ∷ xs) h =
-        let rest = flat_map (λ names. names) (map names_in (map part xs)) in
-        ap₂ (λ v vs. v ∷ vs) (same x (front a b (names_in (part x)) rest h)) (all_same xs (back a b (names_in (part x)) rest h))
+        let rest = flat_map (λ arg. arg) (map parameters_in (map part xs)) in
+        ap₂ (λ v vs. v ∷ vs) (same x (front a b (names x) rest h)) (all_same xs (back a b (names x) rest h))
 
-    -- what a form gives for parts that have the same values
-    layer : (y : Expr-F X) → AgreeOn a b (names_here (map-Expr Expr (List (List ℕ)) names_in (map-Expr X Expr part y)))
-        → value_here row (reading outer a) (map-Expr Expr (Option Cell) first (map-Expr X Expr part y)) ≡ value_here row (reading outer b) (map-Expr Expr (Option Cell) second (map-Expr X Expr part y))
-    layer form.Null h = refl
-    layer (form.Flag f) h = refl
-    layer (form.Number n) h = refl
-    layer (form.Text t) h = refl
-    layer (form.Field name) h = refl
-    layer (form.Param name) h = h.0.value
-    layer (form.Member name field) h = ap Some (h.0.member field)
-    layer (form.Not x) h = ap (λ o. o >>= λ v. Some (Flag (not (truth v)))) (same x h)
-    layer (form.Minus x) h = ap (λ o. o >>= negated) (same x h)
-    layer (form.Plus x) h = ap (λ o. o >>= λ v. Some (number_or_null (cell_number v))) (same x h)
-    layer (form.Binary op x y) h = ap₂ (binary_of op) (same x (front a b (names_in (part x)) (names_in (part y)) h)) (same y (back a b (names_in (part x)) (names_in (part y)) h))
-    layer (form.Choose x y z) h =
-        let both = front a b (names_in (part x) ++ names_in (part y)) (names_in (part z)) h in
-        let p = same x (front a b (names_in (part x)) (names_in (part y)) both) in
-        let q = same y (back a b (names_in (part x)) (names_in (part y)) both) in
-        let r = same z (back a b (names_in (part x) ++ names_in (part y)) (names_in (part z)) h) in
-        λ i. chosen (p i) (q i) (r i)
-    layer (form.Pair x y) h =
-        ap₂ (λ o p. o >>= λ v. p >>= λ w. Some (paired v w)) (same x (front a b (names_in (part x)) (names_in (part y)) h))
-        (same y (back a b (names_in (part x)) (names_in (part y)) h))
-    layer (form.Call code xs) h = ap (called code) (all_same xs h)
-    layer (form.Selected store) h = refl
-    layer (form.Stored store) h = refl
-    layer (form.DomainLength scale) h = refl
+    two_same : (x y : X) (f : Option Cell → Option Cell → Option Cell) → AgreeOn a b (names x ++ names y) → f (first (part x)) (first (part y)) ≡ f (second (part x)) (second (part y))
+    two_same x y f h = ap₂ f (same x (front a b (names x) (names y) h)) (same y (back a b (names x) (names y) h))
 
     step : (y : Expr-F X) → Same (roll-Expr (map-Expr X Expr part y))
-    step y h =
-        let x = map-Expr X Expr part y in
-        fold-roll-Expr (Option Cell) (value_here row (reading outer a)) x
-        ∙ layer y (subst (AgreeOn a b) (fold-roll-Expr (List (List ℕ)) names_here x) h)
-        ∙ sym (fold-roll-Expr (Option Cell) (value_here row (reading outer b)) x)
+    step form.Null = formed form.Null [] (fold-roll-Expr _ _ form.Null) (λ h. refl)
+    step (form.Flag f) = formed (form.Flag f) [] (fold-roll-Expr _ _ (form.Flag f)) (λ h. refl)
+    step (form.Number n) = formed (form.Number n) [] (fold-roll-Expr _ _ (form.Number n)) (λ h. refl)
+    step (form.Text t) = formed (form.Text t) [] (fold-roll-Expr _ _ (form.Text t)) (λ h. refl)
+    step (form.Field name) = formed (form.Field name) [] (fold-roll-Expr _ _ (form.Field name)) (λ h. refl)
+    step (form.Param name) = formed (form.Param name) (name ∷ []) (fold-roll-Expr _ _ (form.Param name)) (λ h. h.0.value)
+    step (form.Member name field) = formed (form.Member name field) (name ∷ []) (fold-roll-Expr _ _ (form.Member name field)) (λ h. ap Some (h.0.member field))
+    step (form.Not x) = let z = form.Not (part x) in formed z (names x) (fold-roll-Expr _ _ z) (λ h. ap (λ o. o >>= λ v. Some (Flag (not (truth v)))) (same x h))
+    step (form.Minus x) = let z = form.Minus (part x) in formed z (names x) (fold-roll-Expr _ _ z) (λ h. ap (λ o. o >>= negated) (same x h))
+    step (form.Plus x) = let z = form.Plus (part x) in formed z (names x) (fold-roll-Expr _ _ z) (λ h. ap (λ o. o >>= λ v. Some (number_or_null (cell_number v))) (same x h))
+    step (form.Binary op x y) = let z = form.Binary op (part x) (part y) in formed z (names x ++ names y) (fold-roll-Expr _ _ z) (λ h. two_same x y (binary_of op) h)
+    step (form.Choose x y w) =
+        let z = form.Choose (part x) (part y) (part w) in
+        formed z (names x ++ names y ++ names w) (fold-roll-Expr _ _ z) (λ h.
+        let both = front a b (names x ++ names y) (names w) h in
+        let p = same x (front a b (names x) (names y) both) in
+        let q = same y (back a b (names x) (names y) both) in
+        let r = same w (back a b (names x ++ names y) (names w) h) in
+        λ i. chosen (p i) (q i) (r i))
+    step (form.Pair x y) =
+        let z = form.Pair (part x) (part y) in formed z (names x ++ names y) (fold-roll-Expr _ _ z) (λ h. two_same x y (λ o p. o >>= λ v. p >>= λ w. Some (paired v w)) h)
+    step (form.Call code xs) =
+        let z = form.Call code (map part xs) in formed z (flat_map (λ arg. arg) (map parameters_in (map part xs))) (fold-roll-Expr _ _ z) (λ h. ap (called code) (all_same xs h))
+    step (form.Selected store) = formed (form.Selected store) [] (fold-roll-Expr _ _ (form.Selected store)) (λ h. refl)
+    step (form.Stored store) = formed (form.Stored store) [] (fold-roll-Expr _ _ (form.Stored store)) (λ h. refl)
+    step (form.DomainLength scale) = formed (form.DomainLength scale) [] (fold-roll-Expr _ _ (form.DomainLength scale)) (λ h. refl)
 
-  -- an expression has the same value where its names agree
+  -- each expression does
   pub same_value : (e : Expr) → Same e
   same_value = ind-Expr Same (λ x y is. subst (λ z. Same (roll-Expr z)) is (step (λ e. e.0) (λ e. e.1) y))

@@ -13,7 +13,7 @@ use Rattle.cell_value.specs.State.{Dataset}
 use Rattle.cell_value.specs.Cell.{truth}
 use Rattle.cell_value.specs.Datum.{Datum, datum_with}
 use Rattle.expr_syntax.specs.declared.expr.Expr.{Expr}
-use Rattle.expr_syntax.specs.Names.{names_in}
+use Rattle.expr_reading.specs.Mentions.{parameters_in}
 use Rattle.expr_eval.specs.Plain.{null_row}
 use Rattle.expr_eval.specs.Value.{value_of}
 use Rattle.expr_eval.specs.Values.{Values}
@@ -59,7 +59,7 @@ module _ (outer v w : Values) where
   both_follow (x ∷ xs) (y ∷ ys) (d ∷ ds) xs' ys' ds' h k = (h.0, both_follow xs ys ds xs' ys' ds' h.1 k)
 
   -- a computed signal follows what its update mentions
-  updated : (o : Option Expr) → AgreeOn v w (option_map_or names_in o []) → option_map_or (value_of null_row (reading outer v)) o (Some Null) ≡ option_map_or (value_of null_row (reading outer w)) o (Some Null)
+  updated : (o : Option Expr) → AgreeOn v w (option_map_or parameters_in o []) → option_map_or (value_of null_row (reading outer v)) o (Some Null) ≡ option_map_or (value_of null_row (reading outer w)) o (Some Null)
   updated None h = refl
   updated (Some e) h = same_value outer v w null_row e h
 
@@ -72,7 +72,7 @@ module _ (outer v w : Values) where
   computed_follow [] = tt
   computed_follow (s ∷ signals) =
       both_follow (computed_here (reading outer v) s) (computed_here (reading outer w) s) (computed_needs s) _ _ _
-      (computed_either (is_computed s) s.name _ _ (option_map_or names_in (update_of s) []) (updated (update_of s)))
+      (computed_either (is_computed s) s.name _ _ (option_map_or parameters_in (update_of s) []) (updated (update_of s)))
       (computed_follow signals)
 
   -- lists are the same where what they read is

@@ -1,4 +1,4 @@
--- Which data sets mention a name that has no value.
+-- Which data sets mention a signal that has no value.
 use Rattle.std.specs.Prelude.{◌≡◌, refl, ℕ, Bool, true, false, None, List, [], ◌∷◌, is_none, codes}
 use Rattle.std.specs.List.{list_any}
 use Rattle.expr_eval.specs.Plain.{no_values}
@@ -15,7 +15,7 @@ use Rattle.vega_signals.specs.Settling.{values_inside}
 abbrev pub lacks : Values → List ℕ → Bool
 lacks values name = is_none (values.value name)
 
--- whether a transform mentions such a name, evaluated there or not
+-- whether a transform mentions such a signal, evaluated there or not; a store that it tests or counts is none
 abbrev pub transform_lacks : Values → Transform → Bool
 transform_lacks values t = list_any (lacks values) (transform_reads no_reads t)
 

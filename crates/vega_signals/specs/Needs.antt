@@ -1,8 +1,8 @@
--- Which signals need which.
+-- Which signals need which. What is read of stores isn't among their needs, as no signal gives a store.
 use Rattle.std.specs.Prelude.{ℕ, ◌<◌, ◌≤◌, List, [], ◌∷◌, ◌++◌, length, flat_map, All, if◌then◌else◌}
 use Rattle.std.specs.Option.{option_map_or}
 use Rattle.std.specs.Str.{bytes_eq}
-use Rattle.expr_syntax.specs.Names.{names_in}
+use Rattle.expr_reading.specs.Mentions.{parameters_in}
 use Rattle.vega_spec.specs.declared.data.DataSet.{DataSet}
 use Rattle.vega_spec.specs.declared.signals.Signal.{Signal}
 use Rattle.vega_spec.specs.declared.transforms.BinExtent.{BinExtent}
@@ -22,7 +22,7 @@ abbrev pub extent_reads : BinExtent → List (List ℕ)
 extent_reads (bounds.Pair a b) = []
 extent_reads (bounds.Signal name) = name ∷ []
 
--- the names that the rows of each list read, by itself or through the lists from which they come
+-- the names of signals that the rows of each list read, by itself or through the lists from which they come
 abbrev pub Reads : Type 0
 Reads = List ℕ → List (List ℕ)
 
@@ -32,10 +32,10 @@ no_reads name = []
 abbrev pub with_reads : List ℕ → List (List ℕ) → Reads → Reads
 with_reads name names reads = λ other. if bytes_eq name other then names else reads other
 
--- the names that a transform reads, those of the list that it looks up among them
+-- the names of signals that a transform reads, those of the list that it looks up among them
 abbrev pub transform_reads : Reads → Transform → List (List ℕ)
-transform_reads reads (vega.Filter f) = names_in f.expr
-transform_reads reads (vega.Formula f) = names_in f.expr
+transform_reads reads (vega.Filter f) = parameters_in f.expr
+transform_reads reads (vega.Formula f) = parameters_in f.expr
 transform_reads reads (vega.Extent e) = []
 transform_reads reads (vega.Bin b) = extent_reads b.extent
 transform_reads reads (vega.TimeUnit t) = []
@@ -68,9 +68,9 @@ set_needs reads (set ∷ others) =
     extent_needs reads (transforms_of set) (begun_reads reads set)
     ++ set_needs (with_reads set.name (all_reads reads (transforms_of set) (begun_reads reads set)) reads) others
 
--- a computed signal needs those that its update mentions
+-- a computed signal needs those of which its update mentions the value or a member
 abbrev pub computed_needs : Signal → List Need
-computed_needs s = if is_computed s then (s.name, option_map_or names_in (update_of s) []) ∷ [] else []
+computed_needs s = if is_computed s then (s.name, option_map_or parameters_in (update_of s) []) ∷ [] else []
 
 -- the signals of an object that aren't given, each with those of its own that it needs by itself
 abbrev pub own_needs : List Signal → List DataSet → List Need

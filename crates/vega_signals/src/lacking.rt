@@ -1,12 +1,13 @@
-// Which data sets mention a name that has no value.
+// Which data sets mention a signal that has no value.
 ghost use Rattle.std.specs.Prelude.{◌≡◌, IfOk, map};
 ghost use Rattle.std.specs.List.{list_any};
-ghost use Rattle.expr_syntax.specs.Names.{names_in};
+ghost use Rattle.expr_reading.specs.Mentions.{parameters_in};
 ghost use Rattle.vega_signals.specs.Needs.{extent_reads};
 ghost use Rattle.vega_signals.specs.Lacking.{lacks, transform_lacks, set_lacks};
 
 use expr_eval::{EvalError, ParamReader};
-use expr_syntax::{Expr, names_of};
+use expr_reading::parameters_of;
+use expr_syntax::Expr;
 use std::alloc::Global;
 use text_kit::OutOfMemory;
 use vega_spec::{BinExtent, DataSet, Transform};
@@ -34,15 +35,15 @@ fn any_lacks<P: ParamReader>(alloc: Global, values: &P, names: &[&str]) -> Resul
     Ok(false)
 }
 
-// Whether an expression mentions a name that has none.
+// Whether an expression mentions a parameter that has none.
 fn expression_lacks<P: ParamReader>(
     alloc: Global,
     values: &P,
     e: &Expr,
 ) -> Result<bool, OutOfMemory>
-    ensures { IfOk result (λ found. found ≡ list_any (lacks (P.values values.now)) (names_in e.now)) }
+    ensures { IfOk result (λ found. found ≡ list_any (lacks (P.values values.now)) (parameters_in e.now)) }
 {
-    let names = names_of(alloc, e)?;
+    let names = parameters_of(alloc, e)?;
     any_lacks(alloc, values, names.as_slice())
 }
 
@@ -60,7 +61,7 @@ fn extent_lacks<P: ParamReader>(
     }
 }
 
-// Whether a transform mentions a name that has none.
+// Whether a transform mentions a signal that has none.
 fn transform_lacks<P: ParamReader>(
     alloc: Global,
     values: &P,
@@ -106,8 +107,8 @@ fn set_lacks<P: ParamReader>(alloc: Global, values: &P, set: &DataSet) -> Result
     any_transform_lacks(alloc, values, vega_lists::transforms_of(set))
 }
 
-/// Whether a transform of one of some data sets mentions a name that has no value: an expression, or the bounds of bins. It counts whether
-/// it is evaluated there or not.
+/// Whether a transform of one of some data sets mentions a signal that has no value: an expression, or the bounds of bins. It counts
+/// whether it is evaluated there or not. The store of a selection that an expression tests or counts is no signal.
 pub fn any_set_lacks<P: ParamReader>(
     alloc: Global,
     values: &P,

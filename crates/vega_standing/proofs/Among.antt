@@ -18,15 +18,6 @@ pub in_back : {X : Type 0} (x : X) (xs ys : List X) → In x ys → In x (xs ++ 
 in_back x [] ys i = i
 in_back x (y ∷ xs) ys i = inr (in_back x xs ys i)
 
-pub in_either : {X : Type 0} (x : X) (xs ys : List X) → In x (xs ++ ys) → In x xs ⊎ In x ys
-in_either x [] ys i = inr i
-in_either x (y ∷ xs) ys (inl same) = inl (inl same)
-in_either x (y ∷ xs) ys (inr i) = by_rest (in_either x xs ys i)
-  where
-    by_rest : In x xs ⊎ In x ys → In x (y ∷ xs) ⊎ In x ys
-    by_rest (inl a) = inl (inr a)
-    by_rest (inr b) = inr b
-
 pub in_flat : {X Y : Type 0} (f : X → List Y) (x : X) (y : Y) (xs : List X) → In x xs → In y (f x) → In y (flat_map f xs)
 in_flat f x y [] i j = absurd i
 in_flat f x y (z ∷ xs) (inl same) j = in_front y (f z) (flat_map f xs) (subst (λ w. In y (f w)) same j)

@@ -27,10 +27,10 @@ use Rattle.vega_spec.specs.declared.spec.VgMark.{VgMark, VgMark-F, out-VgMark}
 use Rattle.vega_building.specs.Parts.{text_at}
 use Rattle.vega_building.specs.Names.{mark_type_named}
 use Rattle.vega_building.specs.Spec.{mark_with, marks_at}
-use Rattle.vega_charts.specs.Outlines.{count_marks}
-use Rattle.vega_charts.specs.inner.Outlined.{is_group, is_group_type, marks_of}
-use Rattle.vega_charts.specs.inner.Outlined as outlined
-use Rattle.vega_charts.proofs.OutlineLemmas.{plain_counted, group_counted, counted_first}
+use Rattle.vega_copies.specs.Outlines.{count_marks}
+use Rattle.vega_copies.specs.inner.Outlined.{is_group, is_group_type, marks_of}
+use Rattle.vega_copies.specs.inner.Outlined as outlined
+use Rattle.vega_copies.proofs.OutlineLemmas.{plain_counted, group_counted, counted_first}
 use Rattle.vega_standing.proofs.Stands.{StandsObject, parts_of_members}
 use Rattle.vega_standing.proofs.Members.{text_is}
 use Rattle.vega_standing.proofs.Transforms.{says_member}

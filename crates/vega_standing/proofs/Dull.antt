@@ -52,6 +52,7 @@ dull_object (form.Number least most) = true
 dull_object (form.Whole least most) = true
 dull_object form.Text = true
 dull_object (form.Name code) = true
+dull_object (form.Except code) = true
 dull_object form.Cell = true
 dull_object form.Free = true
 dull_object (form.Pair items) = true
@@ -129,8 +130,8 @@ ruled_dull (Some r) others inner a b e = let same : r.shape ≡ inner = cc in su
 laid_dull : (object : ℕ) (ms : List Member) (l : Layout) (name : List ℕ) (inner : ℕ) → is_dull object ≡ true → layout_in vega_schema object ms ≡ Some l →
     shape_in l name ≡ Some inner → is_dull inner ≡ true
 laid_dull object ms l name inner dull laid ruled =
-    let passed : (applies object ms l ≡ true) × (dull_layout l ≡ true) = found_passes (applies object ms) dull_layout vega_schema.layouts l laid dull_layouts in
-    let code : l.object ≡ object = same_code l.object object (both (l.object == object) (list_all (holds ms) l.when) passed.0).0 in
+    let passed : (applies vega_schema object ms l ≡ true) × (dull_layout l ≡ true) = found_passes (applies vega_schema object ms) dull_layout vega_schema.layouts l laid dull_layouts in
+    let code : l.object ≡ object = same_code l.object object (both (l.object == object) (list_all (holds vega_schema ms) l.when) passed.0).0 in
     let members : dull_members l ≡ true = then_dull (is_dull l.object) (dull_members l) passed.1 (ap is_dull code ∙ dull) in
     let parts : (list_all (λ (r : Rule). is_dull r.shape) l.rules ≡ true) × (option_map_or is_dull l.others true ≡ true) =
     both (list_all (λ (r : Rule). is_dull r.shape) l.rules) (option_map_or is_dull l.others true) members in
@@ -146,6 +147,7 @@ object_dull (form.Number least most) ms l name inner d e r = absurd cc
 object_dull (form.Whole least most) ms l name inner d e r = absurd cc
 object_dull form.Text ms l name inner d e r = absurd cc
 object_dull (form.Name code) ms l name inner d e r = absurd cc
+object_dull (form.Except code) ms l name inner d e r = absurd cc
 object_dull form.Cell ms l name inner d e r = absurd cc
 object_dull form.Free ms l name inner d e r = absurd cc
 object_dull (form.Pair items) ms l name inner d e r = absurd cc

@@ -21,10 +21,10 @@ use Rattle.vega_building.specs.Parts.{members_of, objects_at}
 use Rattle.vega_building.specs.Sources.{data_set_of}
 use Rattle.vega_building.specs.Spec.{spec_of, spec_with, marks_at}
 use Rattle.vega_lists.specs.Products.{Products, no_folds, products_after, FoldsFit}
-use Rattle.vega_charts.specs.Outlines.{Object, outline_of, opened, numbered, Marks, NoMarks, AMark, AGroup, count_marks, count_groups}
-use Rattle.vega_charts.specs.Built.{FoldsFitIn, products_in_copy}
-use Rattle.vega_charts.specs.inner.Outlined.{marks_of}
-use Rattle.vega_charts.proofs.OutlineLemmas.{opened_object, opened_marks}
+use Rattle.vega_copies.specs.Outlines.{Object, outline_of, opened, numbered, Marks, NoMarks, AMark, AGroup, count_marks, count_groups}
+use Rattle.vega_copies.specs.Built.{FoldsFitIn, products_in_copy}
+use Rattle.vega_copies.specs.inner.Outlined.{marks_of}
+use Rattle.vega_copies.proofs.OutlineLemmas.{opened_object, opened_marks}
 use Rattle.vega_standing.specs.OwnNames.{HasOwnNames}
 use Rattle.vega_standing.specs.Laws.{KeepsFolds}
 use Rattle.vega_standing.proofs.Trees.{Each}

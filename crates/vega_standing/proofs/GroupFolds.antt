@@ -40,10 +40,10 @@ use Rattle.vega_building.specs.Spec.{mark_with, mark_of, marks_in, marks_at}
 use Rattle.vega_building.proofs.Nested.{mark_of-Object}
 use Rattle.vega_lists.specs.Transforms.{transforms_of}
 use Rattle.vega_lists.specs.Products.{Products, ProductsFit, most_folded, begun_product, and_its_product, FoldsFit, products_after}
-use Rattle.vega_charts.specs.Outlines.{Marks, facet_in}
-use Rattle.vega_charts.specs.Built.{FoldsFitIn, products_in_copy}
-use Rattle.vega_charts.specs.inner.Outlined.{is_group, before_of, marks_of}
-use Rattle.vega_charts.proofs.OutlineLemmas.{plain_first, group_first}
+use Rattle.vega_copies.specs.Outlines.{Marks, facet_in}
+use Rattle.vega_copies.specs.Built.{FoldsFitIn, products_in_copy}
+use Rattle.vega_copies.specs.inner.Outlined.{is_group, before_of, marks_of}
+use Rattle.vega_copies.proofs.OutlineLemmas.{plain_first, group_first}
 use Rattle.vega_standing.proofs.Trees.{Each, Inner, of_each, object_of}
 use Rattle.vega_standing.proofs.Stands.{EachFrom, Stands, StandsObject, formed, parts_in, parts_of_members, quiet_here, quiet_parts}
 use Rattle.vega_standing.proofs.Members.{Laid, laid_out, opened_as, found_as}

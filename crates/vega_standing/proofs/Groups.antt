@@ -13,10 +13,10 @@ use Rattle.vega_spec.specs.declared.spec.VgMark.{VgMark, VgMark-F, out-VgMark}
 use Rattle.vega_spec.specs.declared.spec.VgSpec.{VgSpec}
 use Rattle.vega_building.specs.Parts.{members_of}
 use Rattle.vega_building.specs.Spec.{mark_of, mark_with, marks_in, mark_items, marks_among, marks_at, spec_with, spec_of}
-use Rattle.vega_charts.specs.Outlines.{count_groups, count_marks, numbered, Marks, NoMarks, AMark, AGroup, outline_of, opened}
-use Rattle.vega_charts.specs.inner.Outlined.{is_group, is_group_type, marks_of}
-use Rattle.vega_charts.specs.inner.Outlined as outlined
-use Rattle.vega_charts.proofs.OutlineLemmas.{plain_grouped, group_grouped, grouped_first, opened_marks}
+use Rattle.vega_copies.specs.Outlines.{count_groups, count_marks, numbered, Marks, NoMarks, AMark, AGroup, outline_of, opened}
+use Rattle.vega_copies.specs.inner.Outlined.{is_group, is_group_type, marks_of}
+use Rattle.vega_copies.specs.inner.Outlined as outlined
+use Rattle.vega_copies.proofs.OutlineLemmas.{plain_grouped, group_grouped, grouped_first, opened_marks}
 use Rattle.vega_standing.proofs.Trees.{object_of}
 use Rattle.vega_standing.proofs.Marks.{mark_opened, group_opened}
 use Rattle.vega_standing.proofs.Weights.{total}

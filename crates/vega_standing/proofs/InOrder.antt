@@ -39,10 +39,10 @@ use Rattle.vega_building.specs.Sources.{data_set_of}
 use Rattle.vega_building.specs.Spec.{mark_with, mark_of, marks_in, marks_at, spec_of, spec_with}
 use Rattle.vega_building.proofs.Nested.{marks_in-List, mark_of-Object}
 use Rattle.vega_signals.specs.Needs.{AreInOrder}
-use Rattle.vega_charts.specs.Outlines.{Object, Marks, NoMarks, AMark, AGroup, numbered, count_marks, count_groups, opened}
-use Rattle.vega_charts.specs.inner.Outlined.{is_group_type, before_of, marks_of, group_object}
-use Rattle.vega_charts.specs.inner.Outlined as outlined
-use Rattle.vega_charts.proofs.OutlineLemmas.{plain_first, group_first, opened_object, opened_marks}
+use Rattle.vega_copies.specs.Outlines.{Object, Marks, NoMarks, AMark, AGroup, numbered, count_marks, count_groups, opened}
+use Rattle.vega_copies.specs.inner.Outlined.{is_group_type, before_of, marks_of, group_object}
+use Rattle.vega_copies.specs.inner.Outlined as outlined
+use Rattle.vega_copies.proofs.OutlineLemmas.{plain_first, group_first, opened_object, opened_marks}
 use Rattle.vega_standing.specs.Orders.{HasOrder, EachObject, OfAll}
 use Rattle.vega_standing.proofs.Trees.{Each, Inner, of_each, list_of, object_of}
 use Rattle.vega_standing.proofs.Stands.{EachFrom, Stands, StandsObject, formed}
@@ -56,7 +56,7 @@ use Rattle.vega_standing.proofs.Owned.{Ordered}
 use Rattle.vega_standing.proofs.OwnObjects.{object_ordered}
 
 -- a value that says a text, says it
-pub says_of : (word : List ℕ) (o : Option Json) → option_and_then (λ v. text_in (out-Json v)) o ≡ Some word → option_map_or (λ v. text_passes (bytes_eq word) (out-Json v)) o false ≡ bytes_eq word word
+says_of : (word : List ℕ) (o : Option Json) → option_and_then (λ v. text_in (out-Json v)) o ≡ Some word → option_map_or (λ v. text_passes (bytes_eq word) (out-Json v)) o false ≡ bytes_eq word word
 says_of word None e = absurd cc
 says_of word (Some v) e = by_text (out-Json v) e
   where

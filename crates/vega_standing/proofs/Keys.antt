@@ -14,7 +14,6 @@ use Rattle.expr_reading.specs.Mentions.{parameters_in, selections_in, scales_in}
 use Rattle.vega_schema.specs.declared.codes.TheConstants.{AXIS, DATA, EXPRESSION, EXTENT, FACET, LABEL_FORMAT, LEGEND, MARK, MARK_FROM, REFERENCE, SCALE, SCALE_DOMAIN, SIGNAL, SIZE_EXPRESSION, SORT, TOP, TRANSFORM}
 use Rattle.vega_parts.specs.declared.part.Part.{Part}
 use Rattle.vega_parts.specs.declared.part.Part.TheVariants as part
-use Rattle.vega_parts.specs.declared.part.Given.{Given}
 use Rattle.vega_parts.specs.declared.part.Given.TheVariants as given_as
 use Rattle.vega_parts.specs.declared.part.Used.{Used}
 use Rattle.vega_parts.specs.declared.part.Used.TheVariants as for_
@@ -33,7 +32,6 @@ use Rattle.vega_parts.specs.Expressions.{read_parts, expression_parts}
 use Rattle.vega_parts.specs.Scales.{scale_parts, for_size, for_legend, two_scales}
 use Rattle.vega_parts.specs.Marks.{plot_parts, is_open_plot, beside_layout, layout_in_plot, mark_faults, mark_parts}
 use Rattle.vega_parts.specs.Parts.{signal_itself, signal_parts, leaf_parts, use_parts, guide_parts, is_value, is_size}
-use Rattle.std.proofs.lemmas.Bool.{and_parts as both}
 use Rattle.std.proofs.lemmas.Bool.Decides.{nat_tests}
 use Rattle.json_exact.specs.declared.json.Json.TheOpen as level
 use Rattle.spec_schema.specs.Values.{Opened}
@@ -53,35 +51,15 @@ use Rattle.vega_standing.proofs.Trees.{Each}
 use Rattle.vega_standing.proofs.Quiet.{each_append, each_of, each_flat}
 use Rattle.vega_standing.proofs.Rows.{parent_child}
 
--- a name is that of a store
-abbrev pub is_store : Given → Bool
-is_store given_as.Data = false
-is_store given_as.Source = false
-is_store given_as.Facet = false
-is_store given_as.Signal = false
-is_store given_as.Store = true
-is_store given_as.Scale = false
-is_store given_as.FacetName = false
-is_store given_as.Selector = false
-is_store given_as.Header = false
-
--- a part gives no store
-abbrev pub is_storeless : Part → Bool
-is_storeless (part.Given g) = not (is_store g.kind)
-is_storeless other = true
-
-abbrev pub IsStoreless : Part → Type 0
-IsStoreless p = is_storeless p ≡ true
-
--- it has no key among things that need something or are needed, and gives no store
+-- it has no key among things that need something or are needed
 abbrev pub IsKeyless : Part → Type 0
-IsKeyless p = (is_none (key_of p) && is_storeless p) ≡ true
+IsKeyless p = is_none (key_of p) ≡ true
 
 abbrev pub AreKeyless : List Part → Type 0
 AreKeyless parts = Each IsKeyless parts
 
-silent : (kind : Used) (at : List ℕ) → is_source kind ≡ false → (is_none (if is_source kind then Some (key thing.Source (parent at)) else None) && true) ≡ true
-silent kind at other = ap (λ b. is_none (if b then Some (key thing.Source (parent at)) else None) && true) other
+silent : (kind : Used) (at : List ℕ) → is_source kind ≡ false → is_none (if is_source kind then Some (key thing.Source (parent at)) else None) ≡ true
+silent kind at other = ap (λ b. is_none (if b then Some (key thing.Source (parent at)) else None)) other
 
 pub both_keyless : (xs ys : List Part) → AreKeyless xs → AreKeyless ys → AreKeyless (xs ++ ys)
 both_keyless xs ys a b = each_append IsKeyless xs ys a b
@@ -313,7 +291,7 @@ none_kept None P e = tt
 none_kept (Some k) P e = absurd cc
 
 keyless_keyed : (place : List ℕ) (shape : ℕ) (p : Part) → IsKeyless p → IsKeyed place shape p
-keyless_keyed place shape p e = none_kept (key_of p) _ (both (is_none (key_of p)) (is_storeless p) e).0
+keyless_keyed place shape p e = none_kept (key_of p) _ e
 
 all_keyless : (place : List ℕ) (shape : ℕ) (parts : List Part) → AreKeyless parts → Each (IsKeyed place shape) parts
 all_keyless place shape parts each = each_of IsKeyless (IsKeyed place shape) (keyless_keyed place shape) parts each
@@ -419,82 +397,3 @@ keyed_here number shape tree round =
 
     Q : (ps : List Part) → AreKeyless ps → Each P ps
     Q = all_keyless (place_of trail) shape
-
--- ---- stores
-
-all_storeless : (parts : List Part) → AreKeyless parts → Each IsStoreless parts
-all_storeless parts each = each_of IsKeyless IsStoreless (λ p e. (both (is_none (key_of p)) (is_storeless p) e).1) parts each
-
-storeless_set : (trail : Trail) (tree : Json) → Each IsStoreless (data_parts trail tree)
-storeless_set trail tree =
-    let P : Part → Type 0 = IsStoreless in
-    each_append P (data_set trail ++ data_names trail tree ++ used_member for_.Source (codes "source") trail tree) (data_faults trail tree)
-    (each_append P (data_set trail ++ data_names trail tree) (used_member for_.Source (codes "source") trail tree)
-    (each_append P (data_set trail) (data_names trail tree) (refl, tt)
-    (some_each P (λ (m : ℕ × List ℕ). data_name trail m ++ source_name trail tree m) (λ m. (refl, if_each P (has_member (codes "source") tree) [] _ tt (refl, tt))) (text_at (codes "name") tree)))
-    (some_each P (λ (m : ℕ × List ℕ). used for_.Source (scope_of trail) (child trail m.0) m.1 ∷ []) (λ m. (refl, tt)) (text_at (codes "source") tree)))
-    (all_storeless (data_faults trail tree)
-    (both_keyless (transform_in_facet trail tree) (far_url trail tree)
-    (if_keyless (is_faceted (object_round trail)) _ [] (keyless_fault Unsupported (codes "transform") trail tree) tt)
-    (some_keyless _ (λ (m : ℕ × List ℕ). if_keyless (is_far m.1) (part.Fault (child trail m.0) Unsupported ∷ []) [] (refl, tt) tt) (text_at (codes "url") tree))))
-
-storeless_step : (trail : Trail) (tree : Json) → Each IsStoreless (transform_parts trail tree)
-storeless_step trail tree =
-    let P : Part → Type 0 = IsStoreless in
-    let Q : (ps : List Part) → AreKeyless ps → Each P ps = all_storeless in
-    each_append P (step trail) (by_type trail tree) (refl, tt)
-    (if_each P (says_text (codes "type") (codes "extent") tree) _ _
-    (some_each P (λ (m : ℕ × List ℕ). given given_as.Signal (scope_of trail) (place_of trail) (child trail m.0) m.1 ∷ []) (λ m. (refl, tt)) (text_at (codes "signal") tree))
-    (if_each P (says_text (codes "type") (codes "lookup") tree) _ _
-    (Q (lookup_parts trail tree) (both_keyless (used_member for_.From (codes "from") trail tree) (other_length (codes "as") (codes "values") trail tree)
-    (keyless_use for_.From refl (codes "from") trail tree) (keyless_lengths (codes "as") (codes "values") trail tree)))
-    (if_each P (says_text (codes "type") (codes "fold") tree) _ _
-    (Q (fold_fields trail tree) (some_keyless _ (λ (m : ℕ × List Json). (refl, tt)) (items_at (codes "fields") tree)))
-    (if_each P (says_text (codes "type") (codes "window") tree) _ _ (Q (window_lists (count_of_window tree) trail tree) (keyless_window (count_of_window tree) trail tree))
-    (if_each P (says_text (codes "type") (codes "aggregate") tree || says_text (codes "type") (codes "joinaggregate") tree) _ _
-    (Q (aggregate_lists (count_of_ops tree) trail tree) (keyless_aggregate (count_of_ops tree) trail tree)) tt)))))
-
--- a signal gives no store where it has no `on` or isn't one of the top
-pub storeless_signal : (trail : Trail) (tree : Json) → (has_member (codes "on") tree && is_top (object_round trail)) ≡ false → Each IsStoreless (signal_parts trail tree)
-storeless_signal trail tree none =
-    let P : Part → Type 0 = IsStoreless in
-    let Q : (ps : List Part) → AreKeyless ps → Each P ps = all_storeless in
-    each_append P (signal_itself trail tree ++ selectors trail tree) (update_parts trail tree)
-    (each_append P (signal_itself trail tree) (selectors trail tree)
-    (each_append P (signal_names trail tree ++ on_in_group trail tree) (mark_names trail tree)
-    (each_append P (signal_names trail tree) (on_in_group trail tree)
-    (some_each P (λ (m : ℕ × List ℕ). signal_name trail m ++ store_name trail tree m)
-    (λ m. (refl, if_known P (has_member (codes "on") tree && is_top (object_round trail)) _ [] (λ e. never (has_member (codes "on") tree && is_top (object_round trail)) _ e none) (λ e. tt))) (text_at (codes "name") tree))
-    (Q (on_in_group trail tree) (keyless_on trail tree)))
-    (Q (mark_names trail tree) (keyless_marks trail tree)))
-    (Q (selectors trail tree) (keyless_selectors trail tree)))
-    (Q (update_parts trail tree) (keyless_updates trail tree))
-  where
-    never : (b : Bool) (P : Type 0) → b ≡ true → b ≡ false → P
-    never true P e f = absurd cc
-    never false P e f = absurd cc
-
--- nor does a value of another shape
-pub storeless_here : (number shape : ℕ) (tree : Json) (round : Trail) → (shape == SIGNAL) ≡ false → Each IsStoreless (parts_at (noted number shape tree ∷ round) tree)
-storeless_here number shape tree round other =
-    if_each P (shape == DATA) _ _ (storeless_set trail tree)
-    (if_each P (shape == TRANSFORM) _ _ (storeless_step trail tree)
-    (if_each P (shape == SORT) _ _ (Q (sort_parts trail tree) (keyless_sort trail tree))
-    (if_known P (shape == SIGNAL) _ _ (λ e. never (shape == SIGNAL) _ e other) (λ c.
-    if_each P (shape == TOP) _ _ (Q (plot_parts trail) (keyless_plot trail))
-    (if_each P (shape == MARK) _ _ (Q (mark_parts trail tree) (keyless_mark trail tree))
-    (if_each P (shape == FACET) _ _ (Q (facet_parts trail tree) (keyless_facet trail tree))
-    (if_each P (shape == SCALE) _ _ (Q (scale_parts trail tree) (keyless_scale trail tree)) (Q (guide_parts shape trail tree) (keyless_guide shape trail tree)))))))))
-  where
-    trail : Trail
-    trail = noted number shape tree ∷ round
-
-    P : Part → Type 0
-    P = IsStoreless
-
-    Q : (ps : List Part) → AreKeyless ps → Each P ps
-    Q = all_storeless
-
-    never : (b : Bool) (P : Type 0) → b ≡ true → b ≡ false → P
-    never true P e f = absurd cc
-    never false P e f = absurd cc

@@ -35,7 +35,6 @@ pub mod Whole
 pub mod Among
 pub mod Keys
 pub mod Seats
-pub mod Mentions
 pub mod Nodes
 pub mod Placed
 pub mod Seated
@@ -45,5 +44,4 @@ pub mod OwnSteps
 pub mod OwnSets
 pub mod OwnObjects
 pub mod InOrder
-pub mod Stores
 pub mod Accepted

@@ -46,9 +46,9 @@ use Rattle.vega_building.specs.Names.{mark_type_named}
 use Rattle.vega_building.specs.Spec.{mark_with, mark_of, marks_in, marks_at}
 use Rattle.vega_building.proofs.Nested.{marks_in-List}
 use Rattle.vega_lists.specs.Products.{Products}
-use Rattle.vega_charts.specs.Outlines.{Marks}
-use Rattle.vega_charts.specs.Built.{FoldsFitIn}
-use Rattle.vega_charts.specs.inner.Outlined.{is_group, is_group_type, before_of, marks_of}
+use Rattle.vega_copies.specs.Outlines.{Marks}
+use Rattle.vega_copies.specs.Built.{FoldsFitIn}
+use Rattle.vega_copies.specs.inner.Outlined.{is_group, is_group_type, before_of, marks_of}
 use Rattle.vega_standing.proofs.Trees.{Each, list_of}
 use Rattle.vega_standing.proofs.Stands.{EachFrom, Stands, StandsMember, StandsObject, parts_in, parts_of_items, parts_of_members}
 use Rattle.vega_standing.proofs.Members.{found_as, required, says_is}

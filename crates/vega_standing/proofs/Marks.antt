@@ -51,11 +51,11 @@ use Rattle.vega_lists.specs.Transforms.{is_kept, OfTransforms}
 use Rattle.vega_scales.specs.Scales.{is_domain_built, KeepsBounds}
 use Rattle.vega_scales.specs.Scales as scaling
 use Rattle.vega_guides.specs.Shown.{IsCount, IsAxis}
-use Rattle.vega_charts.specs.Outlines.{Object, Marks, NoMarks, AMark, AGroup, numbered, count_marks, count_groups, object_here}
-use Rattle.vega_charts.specs.Built.{KeepsObject, KeepsMarks}
-use Rattle.vega_charts.specs.inner.Outlined.{is_group, is_group_type, before_of, marks_of, group_object, plain_of}
-use Rattle.vega_charts.specs.inner.Outlined as outlined
-use Rattle.vega_charts.proofs.OutlineLemmas.{plain_first, group_first}
+use Rattle.vega_copies.specs.Outlines.{Object, Marks, NoMarks, AMark, AGroup, numbered, count_marks, count_groups, object_here}
+use Rattle.vega_copies.specs.Built.{KeepsObject, KeepsMarks}
+use Rattle.vega_copies.specs.inner.Outlined.{is_group, is_group_type, before_of, marks_of, group_object, plain_of}
+use Rattle.vega_copies.specs.inner.Outlined as outlined
+use Rattle.vega_copies.proofs.OutlineLemmas.{plain_first, group_first}
 use Rattle.vega_standing.proofs.Trees.{Each, Inner, of_each, list_of, object_of}
 use Rattle.vega_standing.proofs.Stands.{EachFrom, Stands, StandsObject, formed, list_stands}
 use Rattle.vega_standing.proofs.Shapes.{if_taken, form_taken}

@@ -14,7 +14,7 @@ use Rattle.spec_schema.specs.Layouts.{shape_in, layout_in}
 use Rattle.spec_schema.specs.Forms.{taken_form}
 use Rattle.spec_schema.specs.Tables.{must}
 use Rattle.expr_syntax.specs.declared.expr.Expr.{Expr}
-use Rattle.expr_syntax.specs.Names.{names_in}
+use Rattle.expr_reading.specs.Mentions.{parameters_in}
 use Rattle.expr_reading.specs.Readings.{expression_of}
 use Rattle.vega_schema.specs.declared.codes.TheConstants.{SIGNAL, SIGNALS, EXPRESSION, TEXT, TOP}
 use Rattle.vega_schema.specs.Schema.{vega_schema}
@@ -61,7 +61,7 @@ use Rattle.vega_standing.proofs.Owned.{Ordered, Kept, Reached, gives_node, expre
 
 -- ---- the table
 
-pub signal_taken : (o : Opened) (f : Form) → taken_form vega_schema SIGNAL o ≡ Some f →
+signal_taken : (o : Opened) (f : Form) → taken_form vega_schema SIGNAL o ≡ Some f →
     (object_passes (λ members. is_some (layout_in vega_schema SIGNAL members)) o ≡ true) × (form.Object SIGNAL ≡ f)
 unfolding vega_schema leaves named_shapes lists objects
 signal_taken o f e = (
@@ -69,12 +69,12 @@ signal_taken o f e = (
   form_taken (object_passes (λ members. is_some (layout_in vega_schema SIGNAL members)) o) _ f e,
 )
 
-pub signals_taken : (o : Opened) (f : Form) → taken_form vega_schema SIGNALS o ≡ Some f →
+signals_taken : (o : Opened) (f : Form) → taken_form vega_schema SIGNALS o ≡ Some f →
     (list_passes (has_length 0 MAX_LENGTH) o ≡ true) × (form.List 0 MAX_LENGTH SIGNAL ≡ f)
 unfolding vega_schema leaves named_shapes lists objects
 signals_taken o f e = (if_taken (list_passes (has_length 0 MAX_LENGTH) o) _ f e, form_taken (list_passes (has_length 0 MAX_LENGTH) o) _ f e)
 
-pub signal_layout : (ms : List Member) → layout_in vega_schema SIGNAL ms ≡ Some signal
+signal_layout : (ms : List Member) → layout_in vega_schema SIGNAL ms ≡ Some signal
 unfolding vega_schema group_mark axis legend grid_layout top data_set data_format parse sort extent_signal
     filter formula extent bin time_unit stack fold aggregate join_aggregate window lookup no_transform signal on_event expression_signal
     linear_scale time_scale band_scale point_scale ordinal_scale no_scale domain_of_signal domain_of_field domain_of_fields reference
@@ -163,7 +163,7 @@ module _ (tree : Json) (ordered : Ordered tree) (here : Around) (round : Trail) 
               (in_front (p (scope_of trail)) (signal_names trail t) (on_in_group trail t) n.1))))),
         )
 
-    one_computed : (e : Expr) → update_of (signal_of ms) ≡ Some e → In (needed_text ms (codes "name")) names → OneKept (needed_text ms (codes "name"), names_in e)
+    one_computed : (e : Expr) → update_of (signal_of ms) ≡ Some e → In (needed_text ms (codes "name")) names → OneKept (needed_text ms (codes "name"), parameters_in e)
     one_computed e updated own =
         let v = gives_node tree ordered S names (place_of trail) (child trail the_name.0) (needed_text ms (codes "name")) the_name.1 own in
         let (w, text, valued, is_text, reads) = found_value (member_value ms (codes "update")) e (not_on (is_some (signal_of ms).on) (expression_at ms (codes "update")) e updated) in
@@ -175,14 +175,14 @@ module _ (tree : Json) (ordered : Ordered tree) (here : Around) (round : Trail) 
         ∙ reader_signal tree (place_of trail) v.0 t s.at v.2 in (
           v.0,
           v.1,
-          all_of_each (Reached tree ordered S names v.0) (names_in e)
+          all_of_each (Reached tree ordered S names v.0) (parameters_in e)
               (expression_reached tree ordered S names trail seat.0 w text e thing.Signal (place_of trail) v.0 seat.1 is_text reads in_scope read v.2),
         )
 
     one_signal : (is_computed (signal_of ms) ≡ true → In (needed_text ms (codes "name")) names) → Each OneKept (computed_needs (signal_of ms))
     one_signal own = by_update (update_of (signal_of ms)) refl
       where
-        by_update : (u : Option Expr) → update_of (signal_of ms) ≡ u → Each OneKept (if is_some u then (needed_text ms (codes "name"), option_map_or names_in u []) ∷ [] else [])
+        by_update : (u : Option Expr) → update_of (signal_of ms) ≡ u → Each OneKept (if is_some u then (needed_text ms (codes "name"), option_map_or parameters_in u []) ∷ [] else [])
         by_update None e = tt
         by_update (Some x) e = (one_computed x e (own (ap is_some e)), tt)
 

@@ -20,7 +20,7 @@ use Rattle.expr_syntax.specs.declared.expr.Expr.TheOpen as form_of
 use Rattle.expr_syntax.specs.declared.expr.Expr.TheVariants as expr
 use Rattle.vega_spec.specs.declared.transforms.BinExtent.TheVariants as bounds
 use Rattle.spec_schema.specs.declared.layout.Layout.{Layout}
-use Rattle.expr_syntax.specs.Names.{names_in}
+use Rattle.expr_reading.specs.Mentions.{parameters_in}
 use Rattle.vega_schema.specs.declared.codes.TheConstants.{TRANSFORM, EXTENT, EXTENT_SIGNAL, NUMBER, NOTHING, EXPRESSION, TEXT, TOP}
 use Rattle.vega_schema.specs.Schema.{vega_schema}
 use Rattle.vega_schema.specs.Shapes.{leaves, named as named_shapes, lists, objects}
@@ -186,8 +186,8 @@ module _ (tree : Json) (ordered : Ordered tree) (S : List ℕ) (names : List (Li
       read_at i shape w seat no_step no_signal =
           reader_of_child tree at i shape w (ap (value_at TOP tree) (sym (place_child (noted i shape w) (noted j TRANSFORM t) round)) ∙ seat.at) no_step no_signal ∙ reader_step tree at p is_step
 
-      expression : (l : Layout) → o.laid.layout ≡ l → shape_in l (codes "expr") ≡ Some EXPRESSION → (x : Option Expr) → expression_at ms (codes "expr") ≡ x → Each P (names_in (unwrap_or x expr.Null))
-      expression l laid ruled None e = subst (Each P) (sym (ap names_in (sym expr.rolls-Null) ∙ fold-roll-Expr _ _ form_of.Null)) tt
+      expression : (l : Layout) → o.laid.layout ≡ l → shape_in l (codes "expr") ≡ Some EXPRESSION → (x : Option Expr) → expression_at ms (codes "expr") ≡ x → Each P (parameters_in (unwrap_or x expr.Null))
+      expression l laid ruled None e = subst (Each P) (sym (ap parameters_in (sym expr.rolls-Null) ∙ fold-roll-Expr _ _ form_of.Null)) tt
       expression l laid ruled (Some x) e =
           let (w, text, valued, is_text, reads_as) = found_value (member_value ms (codes "expr")) x e in
           let seat = seat_from tree round j TRANSFORM t s l 0 ms (codes "expr") EXPRESSION w (seated l laid) ruled valued in

@@ -1,6 +1,6 @@
 -- The signals of an object that aren't given, as nodes of the graph of needs.
-use Rattle.std.proofs.Common.{◌≡◌, ℕ, suc, ◌≤◌, List, [], ◌∷◌, ◌++◌, map, drop, length, refl, sym, ap, subst, ◌∙◌, ◌⊎◌, inl, inr, All, cond, arith}
-use Rattle.std.specs.Prelude.{Option, Some, None, Bool, true, false, ◌&&◌, ◌||◌, ◌==◌, IfSome, is_none, filter_map, flat_map, find, bytes_eq, if◌then◌else◌}
+use Rattle.std.proofs.Common.{◌≡◌, ℕ, suc, ◌≤◌, List, [], ◌∷◌, ◌++◌, map, drop, length, refl, sym, ap, subst, ◌∙◌, inl, inr, All, arith}
+use Rattle.std.specs.Prelude.{Option, Some, None, Bool, true, false, ◌&&◌, ◌||◌, IfSome, filter_map, bytes_eq, if◌then◌else◌}
 use Rattle.std.specs.Option.{option_and_then, option_or, option_map_or}
 use Rattle.std.specs.List.{list_any, cons_option}
 use Rattle.std.proofs.lemmas.Slice.Eq.{bytes_eq-Decides}
@@ -8,7 +8,6 @@ use Rattle.json_exact.specs.declared.json.Json.{Json, out-Json}
 use Rattle.json_exact.specs.declared.spec_error.SpecKind.TheVariants.{Wrong}
 use Rattle.json_exact.specs.Inside.{text_in}
 use Rattle.expr_syntax.specs.declared.expr.Expr.{Expr}
-use Rattle.expr_syntax.specs.Names.{names_in}
 use Rattle.expr_syntax.specs.Expressions.{has_domain_length}
 use Rattle.expr_reading.specs.Readings.{expression_of}
 use Rattle.expr_reading.specs.Mentions.{parameters_in, selections_in, scales_in}
@@ -24,17 +23,15 @@ use Rattle.vega_parts.specs.Names.{given, used, used_names}
 use Rattle.vega_parts.specs.Expressions.{read_parts, names_in as name_parts}
 use Rattle.vega_parts.specs.Trails.{Trail, noted, place_of, scope_of}
 use Rattle.vega_parts.specs.Parts.{parts_at, parts_of}
-use Rattle.vega_rules.specs.Faults.{fault_if}
 use Rattle.vega_rules.specs.Rules.{shown}
-use Rattle.vega_rules.specs.Places.{fronts, same_place}
-use Rattle.vega_rules.specs.Names.{given_by, given_names, number_of as kind_number, is_given, first_given}
+use Rattle.vega_rules.specs.Places.{fronts}
+use Rattle.vega_rules.specs.Names.{first_given}
 use Rattle.vega_rules.specs.Twice.{twice}
-use Rattle.vega_rules.specs.Unknown.{unknown, unknown_by, is_unknown}
 use Rattle.vega_rules.specs.Resolved.{resolved_use, given_in, first_found, served}
 use Rattle.vega_needs.specs.declared.nodes.Thing.{Thing}
 use Rattle.vega_needs.specs.declared.nodes.Thing.TheVariants as thing
 use Rattle.vega_needs.specs.Nodes.{node_at}
-use Rattle.vega_needs.specs.Edges.{need, reader, reader_at, meant, signal_needs}
+use Rattle.vega_needs.specs.Edges.{need, reader, reader_at, meant}
 use Rattle.vega_needs.specs.Edges as edges
 use Rattle.vega_needs.specs.Graph.{graph}
 use Rattle.vega_needs.specs.Cycles.{first_cycle, signals}
@@ -42,8 +39,7 @@ use Rattle.vega_signals.specs.Needs.{Need, IsPlaced}
 use Rattle.vega_standing.proofs.Trees.{Each}
 use Rattle.vega_standing.proofs.Members.{all_of_each}
 use Rattle.vega_standing.proofs.Stands.{parts_in, formed, quiet_here, parts_open}
-use Rattle.vega_standing.proofs.Among.{In, in_front, in_back, in_map, in_filter, each_in, each_from_in}
-use Rattle.vega_standing.proofs.Mentions.{all_mentioned}
+use Rattle.vega_standing.proofs.Among.{In, in_front, in_map, in_filter, each_in, each_from_in}
 use Rattle.vega_standing.proofs.Nodes.{node_there, no_node, signal_node, free_signals, shows, the_only}
 use Rattle.vega_standing.proofs.Keys.{suits}
 use Rattle.vega_standing.proofs.Quiet.{each_of}
@@ -66,45 +62,10 @@ fronts_child (n ∷ ns) k = ap (λ fs. map (λ (front : List ℕ). n ∷ front) 
 
 -- ---- what is known of a tree
 
--- no part gives the store of a selection
-abbrev pub NoStore : Part → Type 0
-NoStore p = IfSome (given_by p) (λ (g : GivenName). (kind_number given_as.Store == kind_number g.kind) ≡ false)
-
--- a tree gives no name twice, uses no unknown one, has no signal that needs itself, and no selections
+-- a tree gives no name twice and has no signal that needs itself
 pub record Ordered (tree : Json) : Type 0 where
   pub twice : twice (parts_of tree) ≡ []
-  pub unknown : unknown (parts_of tree) ≡ []
   pub cycle : first_cycle (parts_of tree) ≡ None
-  pub stores : Each NoStore (parts_of tree)
-
-none_of : {X : Type 0} (xs ys : List X) → xs ++ ys ≡ [] → (xs ≡ []) × (ys ≡ [])
-none_of [] ys e = (refl, e)
-none_of (x ∷ xs) ys e = absurd cc
-
-none_in : {X Y : Type 0} (f : X → List Y) (x : X) (xs : List X) → flat_map f xs ≡ [] → In x xs → f x ≡ []
-none_in f x [] e i = absurd i
-none_in f x (y ∷ xs) e (inl same) = ap f same ∙ (none_of (f y) (flat_map f xs) e).0
-none_in f x (y ∷ xs) e (inr i) = none_in f x xs (none_of (f y) (flat_map f xs) e).1 i
-
--- ---- stores
-
-no_store : (parts : List Part) (scope name : List ℕ) → Each NoStore parts → first_given parts given_as.Store scope name ≡ None
-no_store [] scope name each = refl
-no_store (p ∷ parts) scope name each = by_given (given_by p) each.0 (no_store parts scope name each.1)
-  where
-    by_given : (o : Option GivenName) → IfSome o (λ (g : GivenName). (kind_number given_as.Store == kind_number g.kind) ≡ false) → first_given parts given_as.Store scope name ≡ None →
-        find (is_given given_as.Store scope name) (cons_option o (given_names parts)) ≡ None
-    by_given None e rest = rest
-    by_given (Some g) e rest = ap (λ b. cond (b && same_place scope g.scope && bytes_eq name g.name) (Some g) (first_given parts given_as.Store scope name)) e ∙ rest
-
-none_scopes : (parts : List Part) (name : List ℕ) (scopes : List (List ℕ)) → Each NoStore parts → first_found (given_in parts for_.Store name) scopes ≡ None
-none_scopes parts name [] each = refl
-none_scopes parts name (scope ∷ scopes) each =
-    ap (λ o. option_or (option_or o None) (first_found (given_in parts for_.Store name) scopes)) (no_store parts scope name each) ∙ none_scopes parts name scopes each
-
-never_known : (b : Bool) (at : List ℕ) → fault_if b Wrong at ≡ [] → b ≡ true → ⊥
-never_known true at e f = cc
-never_known false at e f = cc
 
 -- ---- readers
 
@@ -243,13 +204,6 @@ module _ (tree : Json) (ordered : Ordered tree) (scope : List ℕ) (names : List
           (λ j. need (read j) (option_and_then (λ (name : GivenName). node_at all thing.Signal name.of) (means j))) ∙ ap (λ o. need (Some x) o) node_is in
           shows all (part.Used u) t y x w i (subst (In (x, w)) (sym edge) (inl refl)) is
 
-  -- no name of a selection is used
-  no_selection : (at r : List ℕ) → In (used for_.Store scope at r) all → ⊥
-  no_selection at r i =
-      let u : UsedName = record { kind = for_.Store; scope = scope; at = at; name = r } in
-      let means : resolved_use all u ≡ None = ap (option_and_then (served for_.Store at)) (none_scopes all r (fronts scope) ordered.stores) in
-      never_known (is_unknown all u) at (none_in (unknown_by all) (part.Used u) all ordered.unknown i) (ap is_none means)
-
   -- ---- expressions
 
   quiet_read : (trail : Trail) (e : Expr) (b : Bool) → shown (if b then part.Fault (place_of trail) Wrong ∷ [] else name_parts trail e) ≡ [] →
@@ -257,12 +211,11 @@ module _ (tree : Json) (ordered : Ordered tree) (scope : List ℕ) (names : List
   quiet_read trail e true quiet = absurd cc
   quiet_read trail e false quiet = refl
 
-  -- what reads an expression needs the own signals among its names
+  -- what reads an expression needs the own signals among its parameters
   pub expression_reached : (round : Trail) (number : ℕ) (v : Json) (text : List ℕ) (e : Expr) (t : Thing) (y : List ℕ) (x : ℕ) → Seat tree round number EXPRESSION v →
       text_in (out-Json v) ≡ Some text → expression_of text ≡ Some e → scope_of (noted number EXPRESSION v ∷ round) ≡ scope →
-      reader (node_at all) (place_of (noted number EXPRESSION v ∷ round)) ≡ Some x → node_at all t y ≡ Some x → Each (Reached x) (names_in e)
-  expression_reached round number v text e t y x s is reads in_scope read at =
-      each_from_in (Reached x) (names_in e) (λ r i. by_kind r (all_mentioned e r i))
+      reader (node_at all) (place_of (noted number EXPRESSION v ∷ round)) ≡ Some x → node_at all t y ≡ Some x → Each (Reached x) (parameters_in e)
+  expression_reached round number v text e t y x s is reads in_scope read at = each_from_in (Reached x) (parameters_in e) one
     where
       trail : Trail
       trail = noted number EXPRESSION v ∷ round
@@ -279,18 +232,11 @@ module _ (tree : Json) (ordered : Ordered tree) (scope : List ℕ) (names : List
       among : (p : Part) → In p (name_parts trail e) → In p all
       among p i = own_among tree round number EXPRESSION v opened.0 s opened.1 p (subst (In p) (sym named) i)
 
-      by_kind : (r : List ℕ) → In r (parameters_in e) ⊎ In r (selections_in e) → Reached x r
-      by_kind r (inl i) =
+      one : (r : List ℕ) → In r (parameters_in e) → Reached x r
+      one r i =
           use_reached (place_of trail) r t y x
           (subst (λ sc. In (used for_.Signal sc (place_of trail) r) all) in_scope
           (among (used for_.Signal (scope_of trail) (place_of trail) r)
           (in_front _ (used_names for_.Signal trail (parameters_in e) ++ used_names for_.Store trail (selections_in e)) (used_names for_.Scale trail (scales_in e))
           (in_front _ (used_names for_.Signal trail (parameters_in e)) (used_names for_.Store trail (selections_in e))
           (in_map (λ (name : List ℕ). used for_.Signal (scope_of trail) (place_of trail) name) r (parameters_in e) i))))) read at
-      by_kind r (inr i) =
-          absurd (no_selection (place_of trail) r
-          (subst (λ sc. In (used for_.Store sc (place_of trail) r) all) in_scope
-          (among (used for_.Store (scope_of trail) (place_of trail) r)
-          (in_front _ (used_names for_.Signal trail (parameters_in e) ++ used_names for_.Store trail (selections_in e)) (used_names for_.Scale trail (scales_in e))
-          (in_back _ (used_names for_.Signal trail (parameters_in e)) (used_names for_.Store trail (selections_in e))
-          (in_map (λ (name : List ℕ). used for_.Store (scope_of trail) (place_of trail) name) r (selections_in e) i))))))

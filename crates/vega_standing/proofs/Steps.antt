@@ -84,8 +84,8 @@ steps_dull = refl
 -- the members of a transform are dull
 step_dull : (ms : List Member) (l : Layout) (name : List ℕ) (inner : ℕ) → layout_in vega_schema TRANSFORM ms ≡ Some l → shape_in l name ≡ Some inner → is_dull inner ≡ true
 step_dull ms l name inner laid ruled =
-    let passed : (applies TRANSFORM ms l ≡ true) × (dull_step l ≡ true) = found_passes (applies TRANSFORM ms) dull_step vega_schema.layouts l laid steps_dull in
-    let is : (l.object == TRANSFORM) ≡ true = (both (l.object == TRANSFORM) (list_all (holds ms) l.when) passed.0).0 in
+    let passed : (applies vega_schema TRANSFORM ms l ≡ true) × (dull_step l ≡ true) = found_passes (applies vega_schema TRANSFORM ms) dull_step vega_schema.layouts l laid steps_dull in
+    let is : (l.object == TRANSFORM) ≡ true = (both (l.object == TRANSFORM) (list_all (holds vega_schema ms) l.when) passed.0).0 in
     let members : dull_members l ≡ true = then_dull (l.object == TRANSFORM) (dull_members l) passed.1 is in
     let parts : (list_all (λ (r : Rule). is_dull r.shape) l.rules ≡ true) × (option_map_or is_dull l.others true ≡ true) =
     both (list_all (λ (r : Rule). is_dull r.shape) l.rules) (option_map_or is_dull l.others true) members in

@@ -50,10 +50,10 @@ use Rattle.vega_spec.specs.declared.spec.VgMark.{VgMark}
 use Rattle.vega_building.specs.Parts.{members_of}
 use Rattle.vega_building.specs.Spec.{spec_of, spec_with, group_with, marks_at}
 use Rattle.vega_spec.specs.Names.{sources_of, sources_in}
-use Rattle.vega_charts.specs.Outlines.{object_here, outline_of, opened, numbered, Marks, NoMarks, AMark, AGroup, count_marks, count_groups}
-use Rattle.vega_charts.specs.Built.{KeepsObject, KeepsMarks, KeepsRules}
-use Rattle.vega_charts.specs.inner.Outlined.{marks_of}
-use Rattle.vega_charts.proofs.OutlineLemmas.{opened_object, opened_marks}
+use Rattle.vega_copies.specs.Outlines.{object_here, outline_of, opened, numbered, Marks, NoMarks, AMark, AGroup, count_marks, count_groups}
+use Rattle.vega_copies.specs.Built.{KeepsObject, KeepsMarks, KeepsRules}
+use Rattle.vega_copies.specs.inner.Outlined.{marks_of}
+use Rattle.vega_copies.proofs.OutlineLemmas.{opened_object, opened_marks}
 use Rattle.vega_standing.specs.OwnNames.{HasOwnNames}
 use Rattle.vega_standing.specs.Laws.{KeepsObjects, KeepsFolds, HasFewGroups}
 use Rattle.vega_standing.proofs.Stands.{Stands, StandsObject, formed, parts_of_members}

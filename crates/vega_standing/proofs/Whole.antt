@@ -8,9 +8,9 @@ use Rattle.vega_model.specs.Faults.{first_fault_of}
 use Rattle.vega_model.specs.Reading.{read_of, unless_fault}
 use Rattle.vega_spec.specs.declared.spec.VgSpec.{VgSpec}
 use Rattle.vega_building.specs.Spec.{spec_of}
-use Rattle.vega_charts.specs.Built.{KeepsRules, IsBuilt}
-use Rattle.vega_charts.specs.Tested.{is_chart}
-use Rattle.vega_charts.proofs.PassLaw.{law as passes}
+use Rattle.vega_copies.specs.Built.{KeepsRules, IsBuilt}
+use Rattle.vega_copies.specs.Tested.{is_chart}
+use Rattle.vega_copies.proofs.PassLaw.{law as passes}
 use Rattle.vega_standing.specs.OwnNames.{HasOwnNames}
 use Rattle.vega_standing.specs.Laws.{HasFewGroups}
 use Rattle.vega_standing.proofs.ReadTrees.{read_own}

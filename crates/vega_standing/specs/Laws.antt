@@ -7,11 +7,11 @@ use Rattle.vega_spec.specs.declared.spec.VgSpec.{VgSpec}
 use Rattle.vega_building.specs.Spec.{spec_of}
 use Rattle.vega_model.specs.Faults.{first_fault_of}
 use Rattle.vega_model.specs.Reading.{read_of}
-use Rattle.vega_charts.specs.Sizes.{IsSizeKept}
+use Rattle.vega_copies.specs.Built.{IsSizeKept}
 use Rattle.vega_lists.specs.Products.{no_folds, products_after, FoldsFit}
-use Rattle.vega_charts.specs.Outlines.{outline_of, count_groups}
-use Rattle.vega_charts.specs.Built.{KeepsObject, KeepsMarks, FoldsFitIn, IsBuilt, KeepsRules}
-use Rattle.vega_charts.specs.Tested.{is_chart}
+use Rattle.vega_copies.specs.Outlines.{outline_of, count_groups}
+use Rattle.vega_copies.specs.Built.{KeepsObject, KeepsMarks, FoldsFitIn, IsBuilt, KeepsRules}
+use Rattle.vega_copies.specs.Tested.{is_chart}
 use Rattle.vega_standing.specs.OwnNames.{HasOwnNames}
 
 -- what a specification keeps that its objects keep each by itself

@@ -9,8 +9,7 @@ use Rattle.vega_lists.specs.Scopes.{Scope}
 use Rattle.vega_model.specs.Reading.{read_of}
 use Rattle.vega_signals.specs.Settling.{Valued, as_given, next_own, settled_own}
 use Rattle.vega_signals.specs.Needs.{AreInOrder}
-use Rattle.vega_charts.specs.Outlines.{Object, Marks, NoMarks, AMark, AGroup, outline_of}
-use Rattle.vega_charts.specs.Built.{IsBuilt}
+use Rattle.vega_copies.specs.Outlines.{Object, Marks, NoMarks, AMark, AGroup, outline_of}
 
 -- P holds of each object among marks
 abbrev pub EachObject : (Object → Type 0) → Marks → Type 0
@@ -33,10 +32,10 @@ Settles o = (sources : List Dataset) (lists : Scope) (outer : Values) (given : V
     → next_own sources lists outer (as_given given) o.signals o.sets (settled_own sources lists outer given o.signals o.sets)
     ≡ settled_own sources lists outer given o.signals o.sets
 
--- what is read, where it has no selections, has such places in each of its objects
+-- what is read has such places in each of its objects
 abbrev pub AcceptedAreInOrder : Type 0
-AcceptedAreInOrder = (bytes : List ℕ) (tree : Json) (g : VgSpec) → Reads bytes tree → read_of tree ≡ Ok g → IsBuilt g → OfAll HasOrder g
+AcceptedAreInOrder = (bytes : List ℕ) (tree : Json) (g : VgSpec) → Reads bytes tree → read_of tree ≡ Ok g → OfAll HasOrder g
 
 -- and the signals of each of its objects settle
 abbrev pub AcceptedSettle : Type 0
-AcceptedSettle = (bytes : List ℕ) (tree : Json) (g : VgSpec) → Reads bytes tree → read_of tree ≡ Ok g → IsBuilt g → OfAll Settles g
+AcceptedSettle = (bytes : List ℕ) (tree : Json) (g : VgSpec) → Reads bytes tree → read_of tree ≡ Ok g → OfAll Settles g

@@ -27,7 +27,7 @@ pub fn accepted_are_charts()
     ensures { AcceptedAreCharts }
 {}
 
-/// The signals of each object of what is read without selections stand in an order, in which each needs only those before it.
+/// The signals of each object of what is read stand in an order, in which each needs only those before it.
 pub fn accepted_signals_are_in_order()
     ensures { AcceptedAreInOrder }
 {}
