@@ -1,6 +1,6 @@
 use cell_value::{Cell, Key, Row, SharedText};
 use fixed_num::Num;
-use scene_tree::{Anchor, Item, ItemRef, Panel, Point, Scene, Shape, pick};
+use scene_tree::{Anchor, Item, ItemRef, Items, Panel, Point, Scene, Shape, pick};
 use std::alloc::Global;
 use std::test::Fail;
 use text_kit::{Seq, Text};
@@ -87,7 +87,7 @@ fn scene_of(alloc: Global) -> Result<Scene, Fail> {
         height: pixels(20),
         view: Some(0),
         facet: Some(facet(alloc)?),
-        items: items(alloc)?,
+        items: Items::from_seq(alloc, items(alloc)?)?,
     };
     let mut panels = Seq::new(alloc);
     panels.push(panel)?;
@@ -107,12 +107,17 @@ fn is_words(item: &Item) -> bool {
     }
 }
 
+// Whether the words of the scene are the fifth item of a run.
+fn ends_with_words(run: &Seq<Item>) -> bool {
+    run.get(4).is_some_and(is_words)
+}
+
 // Whether a panel has all of its parts.
 fn is_whole(panel: &Panel) -> bool {
     panel.view == Some(0)
         && panel.facet.is_some()
         && panel.items.len() == 5
-        && panel.items.get(4).is_some_and(is_words)
+        && panel.items.runs().iter().any(ends_with_words)
 }
 
 #[test]
@@ -173,12 +178,19 @@ fn frame() -> Item {
     frame
 }
 
-// Two circles that overlap, under a frame.
-fn circles(alloc: Global) -> Result<Seq<Item>, Fail> {
+// A circle under a frame.
+fn framed(alloc: Global) -> Result<Seq<Item>, Fail> {
     let mut items = Seq::new(alloc);
-    items.push(circle(10))?;
     items.push(circle(12))?;
     items.push(frame())?;
+    Ok(items)
+}
+
+// Two circles that overlap, under a frame, in two runs.
+fn circles(alloc: Global) -> Result<Items, Fail> {
+    let mut items = Items::new(alloc);
+    items.push(alloc, circle(10))?;
+    items.append(Items::from_seq(alloc, framed(alloc)?)?)?;
     Ok(items)
 }
 

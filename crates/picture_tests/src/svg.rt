@@ -1,7 +1,7 @@
 use cell_value::SharedText;
 use chart_io::{ListSink, WriteFault};
 use fixed_num::Num;
-use scene_tree::{Anchor, Item, Panel, Point, Scene, Shape};
+use scene_tree::{Anchor, Item, Items, Panel, Point, Scene, Shape};
 use std::alloc::Global;
 use std::test::Fail;
 use svg_text::print;
@@ -147,7 +147,7 @@ fn all_items(alloc: Global) -> Result<Seq<Item>, Fail> {
     Ok(items)
 }
 
-fn panel_of(x: i32, items: Seq<Item>) -> Panel {
+fn panel_of(x: i32, items: Items) -> Panel {
     Panel {
         x: pixels(x),
         y: pixels(5),
@@ -163,7 +163,8 @@ fn panel_of(x: i32, items: Seq<Item>) -> Panel {
 fn scene_of(alloc: Global, panels: usize) -> Result<Scene, Fail> {
     let mut all = Seq::new(alloc);
     for _ in 0..panels {
-        all.push(panel_of(33, all_items(alloc)?))?;
+        let items = Items::from_seq(alloc, all_items(alloc)?)?;
+        all.push(panel_of(33, items))?;
     }
     Ok(Scene {
         width: pixels(78),
@@ -195,7 +196,7 @@ fn is_printed(alloc: Global, scene: &Scene, most: usize, text: &str) -> Result<b
 fn scenes_are_printed(rt: HostRuntime) -> Result<(), Fail> {
     let alloc = rt.alloc();
     let mut panels = Seq::new(alloc);
-    panels.push(panel_of(5, Seq::new(alloc)))?;
+    panels.push(panel_of(5, Items::new(alloc)))?;
     let no_panel = empty_scene(Seq::new(alloc));
     let no_item = empty_scene(panels);
     let all = scene_of(alloc, 1)?;

@@ -32,17 +32,17 @@ last-map f (x ∷ xs) = ap (λ o. Some (unwrap_or o (f x))) (last-map f xs) ∙ 
 one_further : (n k : ℕ) → n + 1 + k ≡ n + suc k
 one_further n k = omega arith
 
-enumerate_from-append : {X : Type 0} (n : ℕ) (xs ys : List X)
+pub enumerate_from-append : {X : Type 0} (n : ℕ) (xs ys : List X)
     → enumerate_from n (xs ++ ys) ≡ enumerate_from n xs ++ enumerate_from (n + length xs) ys
 enumerate_from-append n [] ys = let same : n ≡ n + 0 = omega arith in ap (λ k. enumerate_from k ys) same
 enumerate_from-append n (x ∷ xs) ys =
     ap (λ r. (n, x) ∷ r)
     (enumerate_from-append (n + 1) xs ys ∙ ap (λ k. enumerate_from (n + 1) xs ++ enumerate_from k ys) (one_further n (length xs)))
 
-abbrev place : {X : Type 0} → ℕ × X → ℕ
+abbrev pub place : {X : Type 0} → ℕ × X → ℕ
 place p = p.0
 
-abbrev passes_at : {X : Type 0} → (X → Bool) → ℕ × X → Bool
+abbrev pub passes_at : {X : Type 0} → (X → Bool) → ℕ × X → Bool
 passes_at test p = test p.1
 
 -- the elements before j, with their places: those before the last of them, and that one

@@ -1,5 +1,6 @@
 mod LastLemmas
+mod RunLemmas
 mod HitLemmas
 mod ExtentLemmas
 mod SquareLemmas
-mod MoveLemmas
+pub mod MoveLemmas

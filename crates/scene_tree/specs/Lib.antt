@@ -1,4 +1,5 @@
 pub mod Outcome
+pub mod Items
 pub mod Hits
 pub mod HitExamples
 pub mod Moves

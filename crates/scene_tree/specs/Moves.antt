@@ -1,7 +1,8 @@
 -- Items that are moved. Places and how far they are moved are millionths of a pixel.
-use Rattle.std.specs.Prelude.{◌≡◌, refl, ℤ, pos, negsuc, ◌+ℤ◌, Option, Some, None, List, [], ◌∷◌, map, All, ⊤}
+use Rattle.std.specs.Prelude.{◌≡◌, refl, ◌+◌, if◌then◌else◌, ℤ, pos, negsuc, ◌+ℤ◌, Option, Some, None, List, [], ◌∷◌, map}
 use Rattle.std.specs.Option.{option_map}
-use Rattle.fixed_num.specs.Number.{limit, IsNumber}
+use Rattle.std.specs.Ordering.{int_eq}
+use Rattle.fixed_num.specs.Number.{limit}
 use Rattle.fixed_num.specs.Ranges.{◌>>=◌, all_found, in_range}
 use Rattle.scene_tree.specs.declared.scene.Item.{Item}
 use Rattle.scene_tree.specs.declared.shape.Point.{Point}
@@ -9,9 +10,9 @@ use Rattle.scene_tree.specs.declared.shape.Point.TheVariants as point
 use Rattle.scene_tree.specs.declared.shape.Shape.{Shape}
 use Rattle.scene_tree.specs.declared.shape.Shape.TheVariants.{Rect, Circle, Path, Line, Words}
 
--- a place along one direction, moved; None where it is then out of range
+-- a place along one direction, moved: by nothing it stays; None where it is then out of range
 abbrev pub moved_to : ℤ → ℤ → Option ℤ
-moved_to by at = in_range (at +ℤ by)
+moved_to by at = if int_eq by (pos 0) then Some at else in_range (at +ℤ by)
 
 -- a place, moved
 abbrev pub moved_place : ℤ → ℤ → ℤ → ℤ → Option (ℤ × ℤ)
@@ -53,23 +54,9 @@ moved_shape dx dy (Words x y turned anchor size bold text) = do
 abbrev pub moved_item : ℤ → ℤ → Item → Option Item
 moved_item dx dy item = option_map (λ shape. record item { shape = shape }) (moved_shape dx dy item.shape)
 
--- a point of a path is in range
-abbrev pub IsPointInRange : Point → Type 0
-IsPointInRange (point.Move x y) = IsNumber x × IsNumber y
-IsPointInRange (point.Line x y) = IsNumber x × IsNumber y
-IsPointInRange point.Close = ⊤
-
--- the places of a shape are in range
-abbrev pub HasPlacesInRange : Shape → Type 0
-HasPlacesInRange (Rect x y width height) = IsNumber x × IsNumber y
-HasPlacesInRange (Circle x y r) = IsNumber x × IsNumber y
-HasPlacesInRange (Path points picked) = All IsPointInRange points
-HasPlacesInRange (Line x1 y1 x2 y2) = IsNumber x1 × IsNumber y1 × IsNumber x2 × IsNumber y2
-HasPlacesInRange (Words x y turned anchor size bold text) = IsNumber x × IsNumber y
-
 -- an item that is moved by nothing is the same
 abbrev pub StaysInPlace : Type 0
-StaysInPlace = (item : Item) → HasPlacesInRange item.shape → moved_item (pos 0) (pos 0) item ≡ Some item
+StaysInPlace = (item : Item) → moved_item (pos 0) (pos 0) item ≡ Some item
 
 -- The rules at work.
 
@@ -82,6 +69,9 @@ a_line_moved = refl
 a_path_moved : moved_shape (pos 10) (pos 20) (Path (point.Move (pos 0) (pos 1) ∷ point.Line (pos 2) (pos 3) ∷ point.Close ∷ []) None)
     ≡ Some (Path (point.Move (pos 10) (pos 21) ∷ point.Line (pos 12) (pos 23) ∷ point.Close ∷ []) None)
 a_path_moved = refl
+
+not_moved : moved_to (pos 0) (pos (limit + 1)) ≡ Some (pos (limit + 1))
+not_moved = refl
 
 moved_too_far : moved_shape (pos 1) (pos 0) (Circle (pos limit) (pos 0) (pos 5)) ≡ None
 moved_too_far = refl

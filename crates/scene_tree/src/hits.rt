@@ -1,10 +1,10 @@
 // The item that stands at a point of a picture.
-ghost use Rattle.std.specs.Prelude.{◌≡◌, ◌&&◌, ◌-ℤ◌};
+ghost use Rattle.std.specs.Prelude.{◌≡◌, ◌<◌, ◌&&◌, ◌-ℤ◌, length, IfSome};
 ghost use Rattle.scene_tree.specs.Hits.{holds_point, has_key, places_where, hits_among, last, hit_of};
 
 use crate::holding::holds;
 use crate::places::Place;
-use crate::{Item, Panel, Scene};
+use crate::{Item, Items, Panel, Scene};
 use fixed_num::Num;
 
 /// An item of a scene.
@@ -23,14 +23,31 @@ fn is_hit(item: &Item, x: Place, y: Place) -> bool
     item.key.is_some() && holds(&item.shape, x, y)
 }
 
-// The place of the last of a panel's items that has a key and holds a point of the panel.
+// The place of the last of some items of a panel that has a key and holds a point of the panel.
 #[tactic(auto, using(crate::proofs::LastLemmas::place_here, crate::proofs::LastLemmas::place_before))]
 fn last_hit(items: &[Item], x: Place, y: Place) -> Option<usize>
-    ensures { result ≡ last (places_where (λ item. has_key item && holds_point item.shape x y) items.now) }
+    ensures value { result ≡ last (places_where (λ item. has_key item && holds_point item.shape x y) items.now) }
+    ensures within { IfSome result (λ at. at < length items.now) }
 {
     for at in (0..items.len()).rev() {
         if is_hit(&items[at], x, y) {
             return Some(at);
+        }
+    }
+    None
+}
+
+// The same of a panel's items in runs, from the last of them on.
+fn last_hit_among(items: &Items, x: Place, y: Place) -> Option<usize>
+    ensures { result ≡ last (places_where (λ item. has_key item && holds_point item.shape x y) items.now) }
+{
+    let runs = items.runs();
+    let mut before = items.len();
+    for at in (0..runs.len()).rev() {
+        let run = runs[at].as_slice();
+        before -= run.len();
+        if let Some(item) = last_hit(run, x, y) {
+            return Some(before + item);
         }
     }
     None
@@ -42,7 +59,7 @@ fn last_hit_in(panel: &Panel, x: Num, y: Num) -> Option<usize>
 {
     let across = Place::from(panel.x, x);
     let down = Place::from(panel.y, y);
-    last_hit(panel.items.as_slice(), across, down)
+    last_hit_among(&panel.items, across, down)
 }
 
 /// The last item in drawing order that has a key and holds the point `x`, `y` of the picture, in pixels from its upper

@@ -4,6 +4,7 @@
 
 mod hits;
 mod holding;
+mod items;
 mod moves;
 mod places;
 mod scene;
@@ -11,6 +12,7 @@ mod shape;
 mod squares;
 
 pub use hits::{ItemRef, pick};
+pub use items::Items;
 pub use moves::{law_of_moves, moved_items};
 pub use scene::{Item, Panel, Scene};
 pub use shape::{Anchor, Point, Shape};

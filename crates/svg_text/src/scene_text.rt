@@ -3,6 +3,7 @@ ghost use Rattle.std.specs.Prelude.{◌≡◌, ◌++◌, ◌≤◌, codes, OnOk,
 ghost use Rattle.std.specs.List.{flat_map};
 ghost use Rattle.chart_io.specs.Outside.{Rose, Appended, AppendedPrefix};
 ghost use Rattle.svg_text.specs.inner.Printing.{Prints};
+ghost use Rattle.svg_text.specs.inner.Runs.{run_text};
 ghost use Rattle.svg_text.specs.SceneText.{xml_text, attribute, fill_text, outline_text, stroke_text, opacity_text, paint_text};
 ghost use Rattle.svg_text.specs.SceneText.{end_text, item_text, origin_text, panel_text, head_text, svg_of};
 
@@ -12,7 +13,7 @@ use crate::shapes::put_shape;
 use chart_io::{Sink, WriteFault};
 use fixed_num::Num;
 use scene_tree::{Item, Panel, Scene, Shape};
-use text_kit::Text;
+use text_kit::{Seq, Text};
 
 // A fill.
 fn put_filled<K: Sink>(out: &mut K, page: &mut Page, fill: &Text) -> Result<(), WriteFault>
@@ -147,6 +148,23 @@ fn put_items<K: Sink>(out: &mut K, page: &mut Page, items: &[Item]) -> Result<()
     Ok(())
 }
 
+// The items of a run in order.
+fn put_run<K: Sink>(out: &mut K, page: &mut Page, run: &Seq<Item>) -> Result<(), WriteFault>
+    ensures { Prints K.faults K.held out.old page.old out.new page.new result (run_text run.now) }
+{
+    put_items(out, page, run.as_slice())
+}
+
+// The items of runs in order.
+fn put_runs<K: Sink>(out: &mut K, page: &mut Page, runs: &[Seq<Item>]) -> Result<(), WriteFault>
+    ensures { Prints K.faults K.held out.old page.old out.new page.new result (flat_map run_text runs.now) }
+{
+    for run in runs {
+        put_run(out, page, run)?;
+    }
+    Ok(())
+}
+
 // The beginning of a group at this origin.
 fn put_origin<K: Sink>(out: &mut K, page: &mut Page, x: Num, y: Num) -> Result<(), WriteFault>
     ensures { Prints K.faults K.held out.old page.old out.new page.new result (origin_text x y) }
@@ -169,7 +187,7 @@ fn put_panel<K: Sink>(out: &mut K, page: &mut Page, panel: &Panel) -> Result<(),
     ensures { Prints K.faults K.held out.old page.old out.new page.new result (panel_text panel.now) }
 {
     put_origin(out, page, panel.x, panel.y)?;
-    put_items(out, page, panel.items.as_slice())?;
+    put_runs(out, page, panel.items.runs())?;
     put_text(out, page, "</g>\n")
 }
 
