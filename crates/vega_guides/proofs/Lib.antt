@@ -1,4 +1,1 @@
-pub mod AxisLemmas
-pub mod BareLaw
-mod LeafLemmas
 pub mod TestedLaw

@@ -12,7 +12,7 @@ use Rattle.vega_spec.specs.declared.guides.Axis.{Axis}
 use Rattle.vega_spec.specs.declared.spec.Group.{Group, Group-F}
 use Rattle.vega_spec.specs.declared.spec.VgMark.{VgMark}
 use Rattle.vega_guides.specs.Shown.{IsCount, IsAxis}
-use Rattle.vega_guides.specs.Plots.{axes_in, is_kept_axis, has_kept_axes, HasKeptAxes}
+use Rattle.vega_guides.specs.Tested.{axes_in, is_kept_axis, has_kept_axes, HasKeptAxes}
 
 both : (a b : Bool) → (a && b) ≡ true → (a ≡ true) × (b ≡ true)
 both true b e = (refl, e)

@@ -1,9 +1,3 @@
-pub mod Lengths
-pub mod Extents
 pub mod Shown
-pub mod Axes
 pub mod Legends
-pub mod Panels
-pub mod Plots
-pub mod Examples
-pub mod inner
+pub mod Tested

@@ -1,13 +1,9 @@
 -- What an axis of a specification shows.
 use Rattle.std.specs.Prelude.{◌≡◌, refl, ℕ, ◌*◌, ◌/◌, Bool, true, false, ◌||◌, ℤ, pos, neg_ℤ, ◌≤ℤ◌, unsigned_abs}
-use Rattle.std.specs.Prelude.{Option, Some, None, List, find, unwrap_or, IfSome, codes}
+use Rattle.std.specs.Prelude.{Option, Some, None, unwrap_or, IfSome, codes}
 use Rattle.std.specs.Option.{option_map, option_map_or}
 use Rattle.std.specs.Ordering.{int_eq}
-use Rattle.std.specs.Str.{bytes_eq}
 use Rattle.fixed_num.specs.Number.{million}
-use Rattle.scale_kit.specs.declared.scale.Scale.{Scale}
-use Rattle.scale_kit.specs.declared.scale.ScaleIn.{ScaleIn}
-use Rattle.scale_kit.specs.declared.scale.ScaleSet.{ScaleSet}
 use Rattle.guide_kit.specs.declared.axes.AxisOf.{AxisOf}
 use Rattle.guide_kit.specs.declared.frames.Side.{Side as Edge}
 use Rattle.guide_kit.specs.declared.frames.Side.TheVariants as edge
@@ -16,23 +12,12 @@ use Rattle.vega_spec.specs.declared.guides.Axis.{Axis}
 use Rattle.vega_spec.specs.declared.guides.Side.{Side}
 use Rattle.vega_spec.specs.declared.guides.Side.TheVariants.{Left, Right, Top, Bottom}
 
--- the first scale of a name
-abbrev pub scale_named : ScaleSet → List ℕ → Option Scale
-scale_named set n = option_map (λ (s : ScaleIn). s.scale) (find (λ (s : ScaleIn). bytes_eq s.name n) set.scales)
-
 -- the side of a plot
 abbrev pub edge_of : Side → Edge
 edge_of Left = edge.Left
 edge_of Right = edge.Right
 edge_of Top = edge.Top
 edge_of Bottom = edge.Bottom
-
--- an axis below or above a plot runs along x, one beside it along y
-abbrev pub runs_along_x : Side → Bool
-runs_along_x Left = false
-runs_along_x Right = false
-runs_along_x Top = true
-runs_along_x Bottom = true
 
 -- labels are turned exactly where their angle is -90 or 270 degrees
 abbrev pub turns_labels : ℤ → Bool

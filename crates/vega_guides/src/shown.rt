@@ -1,30 +1,13 @@
 // What an axis of a specification shows.
-ghost use Rattle.std.specs.Prelude.{◌≡◌, ◌≤◌, IfOk, IfSome, option_copied, unwrap_or};
+ghost use Rattle.std.specs.Prelude.{◌≡◌, ◌≤◌, IfOk, IfSome, unwrap_or};
 ghost use Rattle.std.specs.Option.{option_map};
-ghost use Rattle.scale_kit.specs.Scale.{IsScale, AreScales};
-ghost use Rattle.vega_guides.specs.Shown.{scale_named, edge_of, runs_along_x, turns_labels, are_turned};
-ghost use Rattle.vega_guides.specs.Shown.{IsCount, whole_of, IsAxis, axis_shown};
+ghost use Rattle.vega_guides.specs.Shown.{edge_of, turns_labels, are_turned, IsCount, whole_of, IsAxis, axis_shown};
 
 use fixed_num::Num;
 use guide_kit::{AxisOf, Side as Edge};
-use scale_kit::{Scale, ScaleSet};
 use std::alloc::Global;
 use text_kit::{Copies, OutOfMemory};
 use vega_spec::{Axis, Side};
-
-/// The first scale of a name.
-pub(crate) fn scale_named<'a>(set: &'a ScaleSet, name: &str) -> Option<&'a Scale>
-    requires { AreScales set.now }
-    ensures value { option_copied result ≡ scale_named set.now name.now }
-    ensures asked { IfSome result (λ s. IsScale s.now) }
-{
-    for scale in set.scales.as_slice() {
-        if scale.name.as_str() == name {
-            return Some(&scale.scale);
-        }
-    }
-    None
-}
 
 // The side of a plot.
 fn edge_of(side: Side) -> Edge
@@ -35,16 +18,6 @@ fn edge_of(side: Side) -> Edge
         Side::Right => Edge::Right,
         Side::Top => Edge::Top,
         Side::Bottom => Edge::Bottom,
-    }
-}
-
-/// Whether an axis at a side runs along x.
-pub(crate) fn runs_along_x(side: Side) -> bool
-    ensures { result ≡ runs_along_x side }
-{
-    match side {
-        Side::Left | Side::Right => false,
-        Side::Top | Side::Bottom => true,
     }
 }
 

@@ -1,0 +1,5 @@
+mod AxisLemmas
+pub mod OrderLemmas
+mod GridLemmas
+mod PanelLemmas
+pub mod OnePlotLaw

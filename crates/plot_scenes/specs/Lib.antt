@@ -1,0 +1,12 @@
+pub mod Lengths
+pub mod Extents
+pub mod Axes
+pub mod Titles
+pub mod Headers
+pub mod Legends
+pub mod Views
+pub mod Panels
+pub mod Contents
+pub mod Scenes
+pub mod OnePlot
+pub mod inner

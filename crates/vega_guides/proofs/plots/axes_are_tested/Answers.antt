@@ -1,5 +1,0 @@
-use Rattle.vega_guides.proofs.TestedLaw.{law}
-use Rattle.vega_guides.proofs.plots.axes_are_tested.Goals as goal
-
-pub returns : goal.returns
-returns c = law

@@ -1,2 +1,0 @@
--- Words that only private contracts and proofs cite.
-pub mod Steps

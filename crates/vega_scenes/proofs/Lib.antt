@@ -1,5 +1,0 @@
-mod AxisLemmas
-pub mod OrderLemmas
-mod GridLemmas
-mod PanelLemmas
-mod NamedLaw
