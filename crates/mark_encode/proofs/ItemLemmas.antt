@@ -17,7 +17,7 @@ use Rattle.mark_encode.specs.Orders.{data_of}
 use Rattle.mark_encode.specs.Items.{items_with}
 
 -- one and the others
-one_and_rest : {X : Type 0} (one : Option (Option X)) (rest : Option (List (Option X)))
+pub one_and_rest : {X : Type 0} (one : Option (Option X)) (rest : Option (List (Option X)))
     → option_map (filter_map (λ found. found)) (one >>= λ x. rest >>= λ xs. Some (x ∷ xs))
     ≡ (one >>= λ x. option_map (λ more. option_to_list x ++ more) (option_map (filter_map (λ found. found)) rest))
 one_and_rest None rest = refl

@@ -1,9 +1,7 @@
-mod HalfLemmas
 mod ItemLemmas
 mod RowLemmas
-mod RunLemmas
 mod PathLemmas
 mod ShapeLemmas
-mod TextLemmas
 mod GroupLemmas
 mod ScaleLemmas
+mod LawLemmas

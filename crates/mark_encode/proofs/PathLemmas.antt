@@ -13,9 +13,8 @@ use Rattle.expr_eval.specs.declared.error.EvalError.TheVariants.{Overflow, Memor
 use Rattle.expr_eval.specs.Answers.{Evaluates}
 use Rattle.expr_eval.specs.Values.{Values}
 use Rattle.scene_tree.specs.declared.scene.Item.{Item}
-use Rattle.scene_tree.specs.declared.shape.Point.{Point}
 use Rattle.mark_encode.specs.Orders.{data_of}
-use Rattle.mark_encode.specs.Paths.{PathValues, some_points, path_of, path_over}
+use Rattle.mark_encode.specs.Paths.{PathValues, path_of, path_over}
 
 -- what is found of the rows from a place on
 module _ {Y : Type 0} (f : Datum → Option Y) (rows : List (Bor Keyed)) (i : ℕ) where
@@ -56,15 +55,6 @@ module _ {Y : Type 0} (f : Datum → Option Y) (rows : List (Bor Keyed)) (i : �
 pub starts : {Y : Type 0} (out : List Y) (whole : Option (List Y)) → out ≡ [] → whole ≡ after out whole
 starts out None none = refl
 starts out (Some found) none = ap (λ l. Some (l ++ found)) (sym none)
-
--- no points are none
-pub no_points : (points : List Point) → points ≡ [] → None ≡ some_points points
-no_points points none = ap some_points (sym none)
-
--- others are themselves
-pub all_points : (points : List Point) → (points ≡ [] → ⊥) → Some points ≡ some_points points
-all_points [] some = absurd (some refl)
-all_points (first ∷ others) some = refl
 
 module _ (unit default : ℕ) (path : PathValues) (values : Values) where
   -- the path over rows of which one is the first

@@ -3,23 +3,21 @@ use Rattle.std.proofs.Common.{◌≡◌, ℕ, ℤ, List, Option, Some, ap, ◌�
 use Rattle.std.specs.Borrow.{Bor}
 use Rattle.fixed_num.specs.Ranges.{◌>>=◌}
 use Rattle.cell_value.specs.declared.state.Keyed.{Keyed}
+use Rattle.cell_value.specs.Datum.{Datum}
 use Rattle.expr_eval.specs.Values.{Values}
 use Rattle.vega_spec.specs.declared.marks.MarkType.{MarkType}
 use Rattle.mark_encode.specs.declared.channels.ChannelName.{ChannelName}
 use Rattle.mark_encode.specs.declared.items.MarkChannels.{MarkChannels}
 use Rattle.mark_encode.specs.Channels.{ScaledValue}
-use Rattle.mark_encode.specs.Looks.{looks_of}
 use Rattle.mark_encode.specs.Orders.{data_of}
-use Rattle.mark_encode.specs.Items.{shape_for, item_by, items_with, items_for}
-use Rattle.mark_encode.specs.inner.Scaled.{look_values}
-use Rattle.mark_encode.specs.inner.Shapes.{shape_by, row_item}
+use Rattle.mark_encode.specs.Items.{item_for, items_with, items_for}
+use Rattle.mark_encode.specs.Prepared.{item_of_row}
 
 pub same_items : (mark : MarkChannels) (type : MarkType) (unit : ℕ) (width height : ℤ) (channels : ChannelName → List ScaledValue)
-    (values : Values) (rows : List (Bor Keyed)) → mark.type_ ≡ type → shape_by mark.shape ≡ shape_for type width height channels
-    → look_values mark.looks ≡ looks_of channels
-    → items_with (row_item mark unit values) (data_of rows) ≡ items_for type unit width height channels values (data_of rows)
-same_items mark type unit width height channels values rows t s l =
-    λ i. items_with (item_by (t i) unit (s i) (l i) values) (data_of rows)
+    (values : Values) (rows : List (Bor Keyed))
+    → ((unit : ℕ) (values : Values) (row : Datum) → item_of_row mark unit values row ≡ item_for type unit width height channels values row)
+    → items_with (item_of_row mark unit values) (data_of rows) ≡ items_for type unit width height channels values (data_of rows)
+same_items mark type unit width height channels values rows same = λ i. items_with (λ row. same unit values row i) (data_of rows)
 
 -- four values in turn
 pub four_then : {A B : Type 0} (f : A → A → A → A → Option B) (a b c d : Option A) (x y z w : A) → a ≡ Some x → b ≡ Some y → c ≡ Some z → d ≡ Some w

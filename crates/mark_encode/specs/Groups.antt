@@ -12,10 +12,10 @@ use Rattle.scale_kit.specs.declared.scale.ScaleSet.{ScaleSet}
 use Rattle.vega_spec.specs.declared.encode.Channel.TheVariants.{One}
 use Rattle.vega_spec.specs.declared.encode.ChannelValue.{ChannelValue}
 use Rattle.vega_spec.specs.declared.encode.Encode.{Encode}
+use Rattle.mark_shapes.specs.declared.shown.Shown.{Shown}
+use Rattle.mark_shapes.specs.declared.shown.Shown.TheVariants.{Absent, Lacking, Given}
 use Rattle.mark_encode.specs.declared.channels.ChannelName.{ChannelName}
 use Rattle.mark_encode.specs.declared.channels.ChannelName.TheVariants as channel
-use Rattle.mark_encode.specs.declared.shown.Shown.{Shown}
-use Rattle.mark_encode.specs.declared.shown.Shown.TheVariants.{Absent, Lacking, Given}
 use Rattle.mark_encode.specs.Channels.{channel_values}
 use Rattle.mark_encode.specs.Values.{number_shown, bare, the_amount}
 

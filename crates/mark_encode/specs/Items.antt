@@ -1,15 +1,13 @@
 -- The items of marks.
-use Rattle.std.specs.Prelude.{◌≡◌, refl, ℕ, Bool, true, false, ◌&&◌, ℤ, pos, Option, Some, None, List, map, codes}
+use Rattle.std.specs.Prelude.{ℕ, Bool, true, false, ◌&&◌, ℤ, Option, Some, None, List, map}
 use Rattle.std.specs.Option.{option_map}
 use Rattle.std.specs.List.{filter_map}
-use Rattle.fixed_num.specs.Number.{million}
 use Rattle.fixed_num.specs.Ranges.{◌>>=◌, all_found}
 use Rattle.cell_value.specs.declared.state.Key.{Key}
 use Rattle.cell_value.specs.Datum.{CellAt, Datum}
 use Rattle.expr_eval.specs.Values.{Values}
 use Rattle.scene_tree.specs.declared.scene.Item.{Item}
 use Rattle.scene_tree.specs.declared.shape.Shape.{Shape}
-use Rattle.scene_tree.specs.declared.shape.Shape.TheVariants.{Rect}
 use Rattle.scale_kit.specs.declared.scale.ScaleSet.{ScaleSet}
 use Rattle.vega_spec.specs.declared.encode.Encode.{Encode}
 use Rattle.vega_spec.specs.declared.marks.MarkType.{MarkType}
@@ -18,11 +16,11 @@ use Rattle.vega_spec.specs.declared.marks.MarkFrom.{MarkFrom}
 use Rattle.vega_spec.specs.declared.marks.MarkFrom.TheVariants.{Data, Facet}
 use Rattle.vega_spec.specs.declared.orders.Sort.{Sort}
 use Rattle.vega_spec.specs.declared.spec.VgMark.{VgMark, out-VgMark}
+use Rattle.mark_shapes.specs.Items.{item_with}
 use Rattle.mark_encode.specs.declared.channels.ChannelName.{ChannelName}
-use Rattle.mark_encode.specs.declared.looks.Look.{Look}
 use Rattle.mark_encode.specs.Channels.{ScaledValue, channel_values}
-use Rattle.mark_encode.specs.Looks.{LookValues, default_stroke_width, look_for, looks_of, painted_on, bar_look}
-use Rattle.mark_encode.specs.Rects.{across_of, down_of, rect_over, rect_for}
+use Rattle.mark_encode.specs.Looks.{LookValues, default_stroke_width, look_for, looks_of, painted_on}
+use Rattle.mark_encode.specs.Rects.{across_of, down_of, rect_for}
 use Rattle.mark_encode.specs.Symbols.{symbol_values_of, symbol_for}
 use Rattle.mark_encode.specs.Rules.{rule_values_of, rule_for}
 use Rattle.mark_encode.specs.Texts.{text_values_of, text_for}
@@ -61,21 +59,6 @@ picked_key mark.Area key = None
 picked_key mark.Rule key = None
 picked_key mark.Text key = None
 picked_key mark.Group key = None
-
--- a shape that is painted, as the item of a mark
-abbrev pub item_with : ℕ → Option Key → Option Shape → Option Look → Option Item
-item_with unit key found painted = do
-  shape ← found
-  look ← painted
-  Some (record {
-    shape = shape;
-    fill = look.fill;
-    stroke = look.stroke;
-    stroke_width = look.stroke_width;
-    opacity = look.opacity;
-    unit = Some unit;
-    key = key;
-  })
 
 -- the item of a row by its shape and the values that paint it; none where the row lacks a place, a number or a colour that its mark needs
 abbrev pub item_by : MarkType → ℕ → (CellAt → Values → Option (Option Shape)) → LookValues → Values → Datum → Option (Option Item)
@@ -144,28 +127,3 @@ is_built_type mark.Group = false
 -- whether the items of a mark are built: it is no group, and comes from data
 abbrev pub is_built : VgMark → Bool
 is_built m = is_built_type (out-VgMark m).type_ && is_from_data (out-VgMark m).from
-
--- The rules at work.
-
--- the key of a row, and its rect
-abbrev the_key : Key
-the_key = record { id = 7; branch = 0 }
-
-abbrev the_rect : Option Shape
-the_rect = rect_over (Some (record { from = pos 1; size = pos 18 })) (Some (record { from = pos 98; size = pos 102 }))
-
-the_item_of_a_row : item_with 3 (Some the_key) the_rect (Some bar_look) ≡ Some (record {
-  shape = Rect (pos 1) (pos 98) (pos 18) (pos 102);
-  fill = Some (codes "#4c78a8");
-  stroke = None;
-  stroke_width = pos million;
-  opacity = pos million;
-  unit = Some 3;
-  key = Some the_key;
-})
-the_item_of_a_row = refl
-
--- a row that lacks a place or a look has no item
-rows_without_an_item : (item_with 3 (Some the_key) (rect_over None (Some (record { from = pos 98; size = pos 102 }))) (Some bar_look) ≡ None)
-    × (item_with 3 (Some the_key) the_rect None ≡ None)
-rows_without_an_item = (refl, refl)

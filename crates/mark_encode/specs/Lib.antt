@@ -8,8 +8,9 @@ pub mod Symbols
 pub mod Rules
 pub mod Texts
 pub mod Orders
-pub mod Runs
 pub mod Paths
 pub mod Items
 pub mod Groups
+pub mod Prepared
+pub mod Laws
 pub mod inner

@@ -1,5 +1,5 @@
 -- How items are painted. An outer None stands for a number out of range, an inner one for a colour or a number that is lacking.
-use Rattle.std.specs.Prelude.{◌≡◌, refl, ℕ, false, ℤ, pos, ◌*◌, Option, Some, None, List, codes}
+use Rattle.std.specs.Prelude.{◌≡◌, refl, ℕ, false, pos, Option, Some, None, List, codes}
 use Rattle.std.specs.Option.{option_map}
 use Rattle.fixed_num.specs.Number.{million}
 use Rattle.fixed_num.specs.Ranges.{◌>>=◌}
@@ -7,20 +7,13 @@ use Rattle.cell_value.specs.Datum.{CellAt}
 use Rattle.expr_eval.specs.Values.{Values}
 use Rattle.vega_spec.specs.declared.marks.MarkType.{MarkType}
 use Rattle.vega_spec.specs.declared.marks.MarkType.TheVariants as mark
+use Rattle.mark_shapes.specs.declared.looks.Look.{Look}
+use Rattle.mark_shapes.specs.declared.shown.Shown.TheVariants.{Absent, Lacking, Given}
+use Rattle.mark_shapes.specs.Looks.{look_of, without_stroke}
 use Rattle.mark_encode.specs.declared.channels.ChannelName.{ChannelName}
 use Rattle.mark_encode.specs.declared.channels.ChannelName.TheVariants as name
-use Rattle.mark_encode.specs.declared.looks.Look.{Look}
-use Rattle.mark_encode.specs.declared.shown.Shown.{Shown}
-use Rattle.mark_encode.specs.declared.shown.Shown.TheVariants.{Absent, Lacking, Given}
 use Rattle.mark_encode.specs.Channels.{ScaledValue}
 use Rattle.mark_encode.specs.Values.{number_shown, color_shown}
-use Rattle.mark_encode.specs.Spans.{or_default}
-
--- a colour that may be absent; None where it is encoded and lacks
-abbrev pub color_or_none : Shown (List ℕ) → Option (Option (List ℕ))
-color_or_none Absent = Some None
-color_or_none Lacking = None
-color_or_none (Given color) = Some (Some color)
 
 -- the width of a mark's line where none is encoded, in pixels
 abbrev pub default_stroke_width : MarkType → ℕ
@@ -31,15 +24,6 @@ default_stroke_width mark.Area = 1
 default_stroke_width mark.Rule = 1
 default_stroke_width mark.Text = 1
 default_stroke_width mark.Group = 1
-
--- how an item is painted: without encoded colours it has none, and without an encoded opacity it is opaque; None where one lacks
-abbrev pub look_of : ℕ → Shown (List ℕ) → Shown (List ℕ) → Shown ℤ → Shown ℤ → Option Look
-look_of default fill stroke stroke_width opacity = do
-  f ← color_or_none fill
-  s ← color_or_none stroke
-  w ← or_default (pos (default * million)) stroke_width
-  o ← or_default (pos million) opacity
-  Some (record { fill = f; stroke = s; stroke_width = w; opacity = o })
 
 -- the values in the channels that say how an item is painted
 pub record LookValues : Type 0 where
@@ -66,10 +50,6 @@ looks_of channels = record {
   opacity = channels name.Opacity;
 }
 
--- how a text is painted: it has no line, whatever is encoded
-abbrev pub without_stroke : Look → Look
-without_stroke look = record { fill = look.fill; stroke = None; stroke_width = pos million; opacity = look.opacity }
-
 -- how the items of a mark of a type are painted by their looks
 abbrev pub painted_on : MarkType → Option Look → Option Look
 painted_on mark.Rect look = look
@@ -81,17 +61,6 @@ painted_on mark.Text look = option_map without_stroke look
 painted_on mark.Group look = look
 
 -- The rules at work.
-
-abbrev pub bar_look : Look
-bar_look = record { fill = Some (codes "#4c78a8"); stroke = None; stroke_width = pos million; opacity = pos million }
-
--- with a fill alone the rest takes its defaults
-the_look_of_a_bar : look_of 1 (Given (codes "#4c78a8")) Absent Absent Absent ≡ Some bar_look
-the_look_of_a_bar = refl
-
--- a colour or a number that is encoded and lacks leaves none
-lacking_looks : (look_of 1 Lacking Absent Absent Absent ≡ None) × (look_of 1 Absent Absent Absent Lacking ≡ None)
-lacking_looks = (refl, refl)
 
 -- a line that is encoded is drawn round a rect, and not round a text; one that lacks its colour leaves none of both
 outlines : (painted_on mark.Rect (look_of 1 Absent (Given (codes "#000")) (Given (pos 2000000)) Absent)

@@ -1,5 +1,5 @@
 -- The paths of lines and areas. An outer None stands for a number out of range.
-use Rattle.std.specs.Prelude.{◌≡◌, refl, ℕ, Bool, true, false, ℤ, pos, ◌*◌, Option, Some, None, List, [], ◌∷◌, map, codes, if◌then◌else◌}
+use Rattle.std.specs.Prelude.{◌≡◌, refl, ℕ, Bool, true, false, pos, ◌*◌, Option, Some, None, List, [], ◌∷◌, map, codes, if◌then◌else◌}
 use Rattle.std.specs.Option.{option_to_list}
 use Rattle.std.specs.Str.{bytes_eq}
 use Rattle.fixed_num.specs.Number.{million, limit, rounded, floor_quotient}
@@ -17,34 +17,16 @@ use Rattle.scene_tree.specs.declared.shape.Point.TheVariants.{Move, Line, Close}
 use Rattle.scene_tree.specs.declared.shape.Shape.TheVariants.{Path}
 use Rattle.vega_spec.specs.declared.marks.MarkType.{MarkType}
 use Rattle.vega_spec.specs.declared.marks.MarkType.TheVariants as mark
+use Rattle.mark_shapes.specs.declared.looks.Look.{Look}
+use Rattle.mark_shapes.specs.declared.runs.Pass.{Pass}
+use Rattle.mark_shapes.specs.declared.runs.Stop.{Stop}
+use Rattle.mark_shapes.specs.Runs.{points_of}
+use Rattle.mark_shapes.specs.Paths.{pass_of, path_item, path_look, stop_at}
 use Rattle.mark_encode.specs.declared.channels.ChannelName.{ChannelName}
 use Rattle.mark_encode.specs.declared.channels.ChannelName.TheVariants as name
-use Rattle.mark_encode.specs.declared.looks.Look.{Look}
-use Rattle.mark_encode.specs.declared.runs.Pass.{Pass}
-use Rattle.mark_encode.specs.declared.runs.Stop.{Stop}
-use Rattle.mark_encode.specs.declared.shown.Shown.{Shown}
-use Rattle.mark_encode.specs.declared.shown.Shown.TheVariants.{Absent, Lacking, Given}
 use Rattle.mark_encode.specs.Channels.{ScaledValue}
 use Rattle.mark_encode.specs.Values.{number_shown, color_shown, bare}
-use Rattle.mark_encode.specs.Spans.{or_default}
-use Rattle.mark_encode.specs.Places.{place_of}
-use Rattle.mark_encode.specs.Looks.{default_stroke_width, look_of, LookValues, looks_of}
-use Rattle.mark_encode.specs.Runs.{points_of}
-
--- where a path passes along one direction, by its near end, its middle and its far end: it comes back at the far end, if there is one, or
--- else as it went; None where a place lacks
-abbrev pub pass_of : Shown ℤ → Shown ℤ → Shown ℤ → Option Pass
-pass_of near middle far = do
-  there ← place_of near middle
-  back ← or_default there far
-  Some (record { there = there; back = back })
-
--- where a path passes by its passes along x and y, if it has both
-abbrev pub stop_at : Option Pass → Option Pass → Option Stop
-stop_at across down = do
-  x ← across
-  y ← down
-  Some (record { across = x; down = y })
+use Rattle.mark_encode.specs.Looks.{default_stroke_width, LookValues, looks_of}
 
 -- the values in the channels that say where a path passes along one direction
 pub record PassValues : Type 0 where
@@ -78,17 +60,7 @@ stop_for path values cells = do
 abbrev pub stops_for : PathValues → Values → List Datum → Option (List (Option Stop))
 stops_for path values rows = all_found (map (λ (row : Datum). stop_for path values row.cell) rows)
 
--- what lacks counts as absent
-abbrev pub given_or_absent : {X : Type 0} → Shown X → Shown X
-given_or_absent Absent = Absent
-given_or_absent Lacking = Absent
-given_or_absent (Given x) = Given x
-
--- how a path is painted, by what its first row shows; None where a colour lacks. A width and an opacity that lack take their defaults
-abbrev pub path_look : ℕ → Shown (List ℕ) → Shown (List ℕ) → Shown ℤ → Shown ℤ → Option Look
-path_look default fill stroke stroke_width opacity =
-    look_of default fill stroke (given_or_absent stroke_width) (given_or_absent opacity)
-
+-- how a path is painted by its first row
 abbrev pub path_look_for : ℕ → LookValues → Values → CellAt → Option (Option Look)
 path_look_for default looks values cells = do
   f ← color_shown cells values looks.fill
@@ -96,26 +68,6 @@ path_look_for default looks values cells = do
   w ← number_shown false cells values looks.stroke_width
   o ← number_shown false cells values looks.opacity
   Some (path_look default f s w o)
-
--- points, if there are any
-abbrev pub some_points : List Point → Option (List Point)
-some_points [] = None
-some_points (first ∷ others) = Some (first ∷ others)
-
--- a path over points that is painted, as the item of a mark; none without a point
-abbrev pub path_item : ℕ → List Point → Option Look → Option Item
-path_item unit points painted = do
-  steps ← some_points points
-  look ← painted
-  Some (record {
-    shape = Path steps None;
-    fill = look.fill;
-    stroke = look.stroke;
-    stroke_width = look.stroke_width;
-    opacity = look.opacity;
-    unit = Some unit;
-    key = None;
-  })
 
 -- the items of a path over rows that is painted by the first of them: one, or none
 abbrev pub path_of : ℕ → ℕ → PathValues → Values → Datum → List Datum → Option (List Item)
@@ -163,18 +115,6 @@ path_items_of type unit channels values rows =
     path_over unit (default_stroke_width type) (path_values_of (is_closed type) channels) values rows
 
 -- The rules at work, in millionths.
-
--- the way back at the far end, or as the way there; where it lacks, the path has a gap
-ways_back : (pass_of (Given (pos 7)) Absent (Given (pos 90)) ≡ Some (record { there = pos 7; back = pos 90 }))
-    × (pass_of (Given (pos 7)) Absent Absent ≡ Some (record { there = pos 7; back = pos 7 }))
-    × (pass_of (Given (pos 7)) Absent Lacking ≡ None)
-ways_back = (refl, refl, refl)
-
--- a width and an opacity that are no numbers take the defaults, and a stroke that is no text leaves no look
-the_looks : (path_look 2 Absent (Given (codes "#4c78a8")) Lacking Lacking
-    ≡ Some (record { fill = None; stroke = Some (codes "#4c78a8"); stroke_width = pos (2 * million); opacity = pos million }))
-    × (path_look 2 Absent Lacking Absent Absent ≡ None)
-the_looks = (refl, refl)
 
 -- a row by its cells under three names
 abbrev row_of : Cell → Cell → Cell → Datum

@@ -4,10 +4,9 @@ use Rattle.fixed_num.specs.Ranges.{◌>>=◌}
 use Rattle.cell_value.specs.Datum.{CellAt}
 use Rattle.expr_eval.specs.Values.{Values}
 use Rattle.scene_tree.specs.declared.shape.Shape.{Shape}
-use Rattle.scene_tree.specs.declared.shape.Shape.TheVariants.{Rect}
+use Rattle.mark_shapes.specs.Rects.{rect_over}
 use Rattle.mark_encode.specs.declared.channels.ChannelName.{ChannelName}
 use Rattle.mark_encode.specs.declared.channels.ChannelName.TheVariants as name
-use Rattle.mark_encode.specs.declared.spans.Span.{Span}
 use Rattle.mark_encode.specs.Channels.{ScaledValue}
 use Rattle.mark_encode.specs.Spans.{AlongValues, span_for}
 
@@ -21,13 +20,6 @@ across_of channels = along_named channels name.X name.X2 name.Xc name.Width
 
 abbrev pub down_of : (ChannelName → List ScaledValue) → AlongValues
 down_of channels = along_named channels name.Y name.Y2 name.Yc name.Height
-
--- a rect over a span along x and one along y
-abbrev pub rect_over : Option Span → Option Span → Option Shape
-rect_over across down = do
-  x ← across
-  y ← down
-  Some (Rect x.from y.from x.size y.size)
 
 -- the rect of a row
 abbrev pub rect_for : AlongValues → AlongValues → CellAt → Values → Option (Option Shape)

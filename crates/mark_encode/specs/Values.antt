@@ -1,5 +1,6 @@
 -- What channels show of a row. An outer None stands for a number out of range.
-use Rattle.std.specs.Prelude.{◌≡◌, refl, ℕ, Bool, true, false, not, ◌&&◌, ◌||◌, ℤ, pos, ◌*◌, ◌+ℤ◌, Option, Some, None, List, [], ◌∷◌, codes, if◌then◌else◌}
+use Rattle.std.specs.Prelude.{◌≡◌, refl, ℕ, Bool, true, false, not, ◌&&◌, ◌||◌, ℤ, pos, ◌*◌, ◌+ℤ◌, Option, Some, None, List, [], ◌∷◌, codes}
+use Rattle.std.specs.Prelude.{if◌then◌else◌}
 use Rattle.std.specs.Option.{option_map, option_map_or, is_some}
 use Rattle.std.specs.Result.{result_ok}
 use Rattle.std.specs.Str.{bytes_eq}
@@ -18,8 +19,9 @@ use Rattle.scale_kit.specs.Places.{the_number, place_of, place_in_band_of, bands
 use Rattle.scale_kit.specs.Bands.{widths_of_band}
 use Rattle.scale_kit.specs.Colors.{the_text, paint_of}
 use Rattle.vega_spec.specs.declared.encode.ChannelValue.{ChannelValue}
-use Rattle.mark_encode.specs.declared.shown.Shown.{Shown}
-use Rattle.mark_encode.specs.declared.shown.Shown.TheVariants.{Absent, Lacking, Given}
+use Rattle.mark_shapes.specs.declared.shown.Shown.{Shown}
+use Rattle.mark_shapes.specs.declared.shown.Shown.TheVariants.{Absent, Lacking, Given}
+use Rattle.mark_shapes.specs.Shown.{shown}
 use Rattle.mark_encode.specs.Channels.{ScaledValue}
 
 -- whether a value counts for a row: its test is met, or it has none
@@ -127,11 +129,6 @@ color_at (Some s) band cell = color_on s cell band
 -- the colour of a value for a row
 abbrev pub color_for : CellAt → Values → ScaledValue → Option (Option (List ℕ))
 color_for cells values v = option_map (color_at v.scale v.value.band) (cell_for cells values v.value)
-
--- what is shown where a value counts: what it gives, if it gives that
-abbrev pub shown : {X : Type 0} → Option X → Shown X
-shown None = Lacking
-shown (Some x) = Given x
 
 -- what is shown by the value that counts, if one does
 abbrev pub shown_by : {X : Type 0} → (ScaledValue → Option (Option X)) → Option ScaledValue → Option (Shown X)

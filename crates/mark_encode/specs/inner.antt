@@ -2,5 +2,4 @@
 pub mod Scaled
 pub mod Scales
 pub mod Shapes
-pub mod Begun
 pub mod PathParts

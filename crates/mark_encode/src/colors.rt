@@ -7,11 +7,11 @@ ghost use Rattle.mark_encode.specs.Values.{color_on, text_of_cell, color_at, col
 ghost use Rattle.mark_encode.specs.inner.Scaled.{scaled_of, scaled_all};
 
 use crate::channels::Scaled;
-use crate::shown::{Shown, shown_color};
 use crate::values::{cell_for, first_met};
-use cell_value::{Cell, Keyed};
+use cell_value::{Cell, Keyed, SharedText, TextPool};
 use expr_eval::{EvalError, ParamReader};
 use fixed_num::Num;
+use mark_shapes::{Shown, shown_color, shown_shared};
 use scale_kit::Indexed;
 use std::alloc::Global;
 use text_kit::{OutOfMemory, Text};
@@ -85,4 +85,19 @@ pub fn color_shown<P: ParamReader>(
         return Ok(Shown::Absent);
     };
     Ok(shown_color(color_for(alloc, scaled, row, params)?))
+}
+
+/// The colour that a channel shows of a row, shared with those of the pool.
+pub fn paint_shown<P: ParamReader>(
+    alloc: Global,
+    pool: &mut TextPool,
+    values: &[Scaled],
+    row: &Keyed,
+    params: &P,
+) -> Result<Shown<SharedText>, EvalError>
+    requires { row.now.key.id ≤ greatest_id }
+    ensures { Evaluates result (color_shown (cell_at row.now) (P.values params.now) (scaled_all values.now)) }
+{
+    let color = color_shown(alloc, values, row, params)?;
+    Ok(shown_shared(alloc, pool, color)?)
 }

@@ -5,12 +5,12 @@ ghost use Rattle.expr_eval.specs.Answers.{Evaluates, RisesBy};
 ghost use Rattle.mark_encode.specs.Groups.{last_named, facet_row, number_or_zero, number_encoded};
 
 use crate::channels::{ChannelName, channel_values};
-use crate::numbers::{number_over, zero};
+use crate::numbers::number_over;
 use crate::scales::IndexedSet;
-use crate::shown::Shown;
 use cell_value::{Cell, Steps};
 use expr_eval::{EvalError, ParamReader, RowReader};
 use fixed_num::Num;
+use mark_shapes::{Shown, zero};
 use std::alloc::Global;
 use std::sync::ledger::Ledger;
 use text_kit::{OutOfMemory, Text};

@@ -1,22 +1,22 @@
 // The items of marks.
-ghost use Rattle.std.specs.Prelude.{◌≡◌, ◌≤◌, ◌++◌, Some, map, IfOk, OnOk};
+ghost use Rattle.std.specs.Prelude.{◌≡◌, ℕ, ◌≤◌, ◌++◌, Some, map, IfOk, OnOk};
 ghost use Rattle.std.specs.Option.{option_to_list};
-ghost use Rattle.cell_value.specs.Datum.{datum_of};
+ghost use Rattle.cell_value.specs.Datum.{Datum, datum_of};
 ghost use Rattle.cell_value.specs.State.{greatest_id};
 ghost use Rattle.expr_eval.specs.Answers.{Evaluates};
+ghost use Rattle.expr_eval.specs.Values.{Values};
 ghost use Rattle.plain_rows.specs.Rows.{AreRows};
 ghost use Rattle.plain_orders.specs.Listed.{AreListed};
 ghost use Rattle.scale_kit.specs.Scale.{IsPixel, AreScales};
 ghost use Rattle.mark_encode.specs.Channels.{channel_values};
 ghost use Rattle.mark_encode.specs.Looks.{looks_of};
-ghost use Rattle.mark_encode.specs.Items.{shape_for, picked_key, item_with, items_with, items_for, is_path, items_over, items_in_order, items_of};
+ghost use Rattle.mark_encode.specs.Items.{shape_for, picked_key, items_with, item_for, items_for, is_path, items_over, items_in_order, items_of};
 ghost use Rattle.mark_encode.specs.Orders.{data_of, HaveIds};
+ghost use Rattle.mark_encode.specs.Prepared.{item_of_row};
 ghost use Rattle.mark_encode.specs.inner.Scaled.{look_values};
-ghost use Rattle.mark_encode.specs.inner.Shapes.{shape_by, row_item};
+ghost use Rattle.mark_encode.specs.inner.Shapes.{shape_by};
 
-use crate::looks::{
-    Look, LookChannels, default_stroke_width, look_for, looks_of, painted_on, shared_or_none,
-};
+use crate::looks::{LookChannels, default_stroke_width, look_for, looks_of, painted_on};
 use crate::orders::{all_rows, rows_by_sort};
 use crate::paths::path_items;
 use crate::scales::IndexedSet;
@@ -24,22 +24,23 @@ use crate::shapes::{ShapeChannels, shape_channels, shape_for};
 use cell_value::{Key, Keyed, Rows, TextPool};
 use expr_eval::{EvalError, ParamReader};
 use fixed_num::Num;
+use mark_shapes::item_with;
 use scale_kit::ScaleSet;
-use scene_tree::{Item, Shape};
+use scene_tree::Item;
 use std::alloc::Global;
 use text_kit::{OutOfMemory, Seq};
 use vega_spec::{Encode, MarkType, Sort, VgMark};
 
-/// The values in the channels of a mark of this type.
+/// The channels of a mark, prepared for its rows: the values in each with the scales that they name.
 #[derive(Drop)]
 pub struct MarkChannels<'a> {
-    pub type_: MarkType,
-    pub looks: LookChannels<'a>,
-    pub shape: ShapeChannels<'a>,
+    type_: MarkType,
+    looks: LookChannels<'a>,
+    shape: ShapeChannels<'a>,
 }
 
 // The values in the channels of a mark of a type, in a plot of this size.
-fn mark_channels<'a>(
+fn channels_of<'a>(
     alloc: Global,
     type_: MarkType,
     set: &'a IndexedSet<'a>,
@@ -58,6 +59,23 @@ fn mark_channels<'a>(
     })
 }
 
+/// The channels of a mark of this type with these encode sets, in a plot of this size in pixels, prepared for its rows. A scale is the first of
+/// its name.
+pub fn mark_channels<'a>(
+    alloc: Global,
+    type_: MarkType,
+    set: &'a IndexedSet<'a>,
+    sets: &'a Option<Encode>,
+    width: Num,
+    height: Num,
+) -> Result<MarkChannels<'a>, OutOfMemory>
+    ensures { IfOk result (λ mark. (unit : ℕ) (values : Values) (row : Datum) → item_of_row mark unit values row
+        ≡ item_for type_ unit width height (channel_values set.now sets.now) values row) }
+{
+    let mark = channels_of(alloc, type_, set, sets, width, height)?;
+    Ok(mark)
+}
+
 // The key by which an item of a mark of this type is picked.
 fn picked_key(type_: MarkType, key: Key) -> Option<Key>
     ensures { result ≡ picked_key type_ key }
@@ -73,36 +91,10 @@ fn picked_key(type_: MarkType, key: Key) -> Option<Key>
     }
 }
 
-// A shape that is painted, as the item of a mark.
-fn item_with(
-    alloc: Global,
-    pool: &mut TextPool,
-    unit: u32,
-    key: Option<Key>,
-    found: Option<Shape>,
-    painted: Option<Look>,
-) -> Result<Option<Item>, OutOfMemory>
-    ensures { IfOk result (λ item. item ≡ item_with unit key found painted) }
-{
-    let Some(shape) = found else {
-        return Ok(None);
-    };
-    let Some(look) = painted else {
-        return Ok(None);
-    };
-    Ok(Some(Item {
-        shape,
-        fill: shared_or_none(alloc, pool, look.fill)?,
-        stroke: shared_or_none(alloc, pool, look.stroke)?,
-        stroke_width: look.stroke_width,
-        opacity: look.opacity,
-        unit: Some(unit),
-        key,
-    }))
-}
-
-// The item of a row; None where the row lacks a place, a number or a colour.
-fn row_item<P: ParamReader>(
+/// The item of a row with an id of at most 10^15, by the prepared channels of its mark, which is the `unit`-th of its chart and no path; None
+/// where the row lacks a place, a number or a colour. Its colours are shared with those of the pool. `Overflow` comes exactly where a number
+/// is out of range.
+pub fn item_of_row<P: ParamReader>(
     alloc: Global,
     pool: &mut TextPool,
     mark: &MarkChannels,
@@ -111,14 +103,14 @@ fn row_item<P: ParamReader>(
     params: &P,
 ) -> Result<Option<Item>, EvalError>
     requires { row.now.key.id ≤ greatest_id }
-    ensures { Evaluates result (row_item mark.now unit (P.values params.now) (datum_of row.now)) }
+    ensures { Evaluates result (item_of_row mark.now unit (P.values params.now) (datum_of row.now)) }
 {
     let shape = shape_for(alloc, &mark.shape, row, params)?;
     let default = default_stroke_width(mark.type_);
-    let look = look_for(alloc, default, &mark.looks, row, params)?;
+    let look = look_for(alloc, pool, default, &mark.looks, row, params)?;
     let key = picked_key(mark.type_, row.key);
     let painted = painted_on(mark.type_, look);
-    Ok(item_with(alloc, pool, unit, key, shape, painted)?)
+    Ok(item_with(unit, key, shape, painted))
 }
 
 // Adds an item at the end, if it is there.
@@ -140,12 +132,12 @@ fn row_items<P: ParamReader>(
     params: &P,
 ) -> Result<Seq<Item>, EvalError>
     requires { HaveIds rows.now }
-    ensures { Evaluates result (items_with (row_item mark.now unit (P.values params.now)) (data_of rows.now)) }
+    ensures { Evaluates result (items_with (item_of_row mark.now unit (P.values params.now)) (data_of rows.now)) }
 {
     let mut items = Seq::with_capacity(alloc, rows.len())?;
     let mut pool = TextPool::new(alloc)?;
     for row in rows {
-        match row_item(alloc, &mut pool, mark, unit, row, params) {
+        match item_of_row(alloc, &mut pool, mark, unit, row, params) {
             Ok(item) => add(&mut items, item)?,
             Err(error) => return Err(error),
         }

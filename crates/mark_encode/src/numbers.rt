@@ -1,6 +1,5 @@
 // The numbers that channels show.
-ghost use Rattle.std.specs.Prelude.{◌≡◌, option_copied, ◌≤◌, pos, ◌+ℤ◌, ◌*ℤ◌};
-ghost use Rattle.fixed_num.specs.Number.{million, rounded};
+ghost use Rattle.std.specs.Prelude.{◌≡◌, option_copied, ◌≤◌};
 ghost use Rattle.fixed_num.specs.Ranges.{in_range};
 ghost use Rattle.cell_value.specs.Datum.{cell_at};
 ghost use Rattle.cell_value.specs.State.{greatest_id};
@@ -11,11 +10,11 @@ ghost use Rattle.mark_encode.specs.Values.{number_from_base, number_of_cell, num
 ghost use Rattle.mark_encode.specs.inner.Scaled.{scaled_of, scaled_all};
 
 use crate::channels::Scaled;
-use crate::shown::{Shown, shown_number};
 use crate::values::{cell_over, first_met_over};
 use cell_value::{Cell, Keyed};
 use expr_eval::{EvalError, ParamReader, PlainRow, RowReader};
 use fixed_num::Num;
+use mark_shapes::{Shown, shown_number, sum_of, times, zero};
 use scale_kit::{Indexed, Scale, band_width, base_of};
 use std::alloc::Global;
 use vega_spec::ChannelValue;
@@ -26,22 +25,6 @@ fn reached(millionths: i128) -> Option<Num>
     ensures { result ≡ in_range millionths }
 {
     Num::of_millionths(millionths)
-}
-
-/// The sum; None exactly where it is out of range.
-#[tactic(auto, using(fixed_num::proofs::RangeLemmas::in_range_from_exact))]
-pub fn sum_of(a: Num, b: Num) -> Option<Num>
-    ensures { result ≡ in_range (a +ℤ b) }
-{
-    a.add(b)
-}
-
-/// So many times a width; None exactly where it is out of range.
-#[tactic(auto, using(fixed_num::proofs::RangeLemmas::in_range_from_exact))]
-pub fn times(share: Num, width: Num) -> Option<Num>
-    ensures { result ≡ in_range (rounded (share *ℤ width) million) }
-{
-    share.mul(width)
 }
 
 // Whether a cell is null.
@@ -93,16 +76,6 @@ fn share_given(s: &Scale, band: Option<Num>) -> Option<Num>
     match band {
         Some(share) => share_of_band(s, share),
         None => Some(zero()),
-    }
-}
-
-/// The number 0.
-pub fn zero() -> Num
-    ensures { result ≡ pos 0 }
-{
-    match Num::of_millionths(0) {
-        Some(zero) => zero,
-        None => unreachable!(),
     }
 }
 

@@ -6,26 +6,23 @@ ghost use Rattle.cell_value.specs.State.{greatest_id};
 ghost use Rattle.expr_eval.specs.Answers.{Evaluates};
 ghost use Rattle.mark_encode.specs.Channels.{channel_values};
 ghost use Rattle.mark_encode.specs.Orders.{data_of, HaveIds};
-ghost use Rattle.mark_encode.specs.Paths.{pass_of, stop_at, pass_for, stop_for, stops_for, given_or_absent, path_look, path_look_for};
-ghost use Rattle.mark_encode.specs.Paths.{some_points, path_item, path_of, path_over, is_closed, far_values, passes_of, path_values_of, path_items_of};
+ghost use Rattle.mark_encode.specs.Paths.{pass_for, stop_for, stops_for, path_look_for, path_of, path_over, is_closed, far_values, passes_of};
+ghost use Rattle.mark_encode.specs.Paths.{path_values_of, path_items_of};
 ghost use Rattle.mark_encode.specs.inner.Scaled.{scaled_all};
 ghost use Rattle.mark_encode.specs.inner.Scaled.{look_values};
 ghost use Rattle.mark_encode.specs.inner.PathParts.{pass_values, path_values};
 
 use crate::channels::{ChannelName, Scaled, channel_values};
-use crate::colors::color_shown;
-use crate::looks::{Look, LookChannels, default_stroke_width, look_of, looks_of, shared_or_none};
+use crate::colors::paint_shown;
+use crate::looks::{LookChannels, default_stroke_width, looks_of};
 use crate::numbers::number_shown;
-use crate::places::place_of;
-use crate::runs::{Pass, Stop, points_of};
 use crate::scales::IndexedSet;
-use crate::shown::{Shown, or_default};
 use cell_value::{Keyed, TextPool};
 use expr_eval::{EvalError, ParamReader};
-use fixed_num::Num;
-use scene_tree::{Item, Point, Shape};
+use mark_shapes::{Look, Pass, Stop, pass_of, path_item, path_look, points_of, stop_at};
+use scene_tree::Item;
 use std::alloc::Global;
-use text_kit::{OutOfMemory, Seq, Text};
+use text_kit::{OutOfMemory, Seq};
 use vega_spec::{Encode, MarkType};
 
 /// The values in the channels that say where a path passes along one direction.
@@ -115,25 +112,6 @@ fn path_channels<'a>(
     })
 }
 
-// Where a path passes along one direction; None where a place lacks.
-fn pass_of(near: Shown<Num>, middle: Shown<Num>, far: Shown<Num>) -> Option<Pass>
-    ensures { result ≡ pass_of near middle far }
-{
-    let there = place_of(near, middle)?;
-    let back = or_default(there, far)?;
-    Some(Pass { there, back })
-}
-
-// Where a path passes, if it has a pass along x and one along y.
-fn stop_at(across: Option<Pass>, down: Option<Pass>) -> Option<Stop>
-    ensures { result ≡ stop_at across down }
-{
-    Some(Stop {
-        across: across?,
-        down: down?,
-    })
-}
-
 // Where a path passes along one direction for a row.
 fn pass_for<P: ParamReader>(
     alloc: Global,
@@ -185,34 +163,27 @@ fn stops_for<P: ParamReader>(
     Ok(stops)
 }
 
-// What lacks counts as absent.
-fn given_or_absent(number: Shown<Num>) -> Shown<Num>
-    ensures { result ≡ given_or_absent number }
-{
-    match number {
-        Shown::Absent => Shown::Absent,
-        Shown::Lacking => Shown::Absent,
-        Shown::Given(number) => Shown::Given(number),
-    }
-}
-
-// How a path is painted, by what its first row shows; None where a colour lacks.
-fn path_look(
-    default: u8,
-    fill: Shown<Text>,
-    stroke: Shown<Text>,
-    stroke_width: Shown<Num>,
-    opacity: Shown<Num>,
-) -> Option<Look>
-    ensures { result ≡ path_look default fill stroke stroke_width opacity }
-{
-    let stroke_width = given_or_absent(stroke_width);
-    let opacity = given_or_absent(opacity);
-    look_of(default, fill, stroke, stroke_width, opacity)
-}
-
 // How a path is painted by its first row; None where that lacks a colour.
 fn path_look_for<P: ParamReader>(
+    alloc: Global,
+    pool: &mut TextPool,
+    default: u8,
+    channels: &LookChannels,
+    row: &Keyed,
+    params: &P,
+) -> Result<Option<Look>, EvalError>
+    requires { row.now.key.id ≤ greatest_id }
+    ensures { Evaluates result (path_look_for default (look_values channels.now) (P.values params.now) (cell_at row.now)) }
+{
+    let fill = paint_shown(alloc, pool, channels.fill.as_slice(), row, params)?;
+    let stroke = paint_shown(alloc, pool, channels.stroke.as_slice(), row, params)?;
+    let stroke_width = number_shown(alloc, false, channels.stroke_width.as_slice(), row, params)?;
+    let opacity = number_shown(alloc, false, channels.opacity.as_slice(), row, params)?;
+    Ok(path_look(default, fill, stroke, stroke_width, opacity))
+}
+
+// The same, with texts that are shared with no others.
+fn look_of_first<P: ParamReader>(
     alloc: Global,
     default: u8,
     channels: &LookChannels,
@@ -222,51 +193,8 @@ fn path_look_for<P: ParamReader>(
     requires { row.now.key.id ≤ greatest_id }
     ensures { Evaluates result (path_look_for default (look_values channels.now) (P.values params.now) (cell_at row.now)) }
 {
-    let fill = color_shown(alloc, channels.fill.as_slice(), row, params)?;
-    let stroke = color_shown(alloc, channels.stroke.as_slice(), row, params)?;
-    let stroke_width = number_shown(alloc, false, channels.stroke_width.as_slice(), row, params)?;
-    let opacity = number_shown(alloc, false, channels.opacity.as_slice(), row, params)?;
-    Ok(path_look(default, fill, stroke, stroke_width, opacity))
-}
-
-// Points, if there are any.
-fn some_points(points: Seq<Point>) -> Option<Seq<Point>>
-    ensures { result ≡ some_points points }
-{
-    if points.is_empty() {
-        return None;
-    }
-    Some(points)
-}
-
-// A path over points that is painted, as the item of a mark; None without a point.
-fn path_item(
-    alloc: Global,
-    unit: u32,
-    points: Seq<Point>,
-    painted: Option<Look>,
-) -> Result<Option<Item>, OutOfMemory>
-    ensures { IfOk result (λ item. item ≡ path_item unit points painted) }
-{
-    let Some(points) = some_points(points) else {
-        return Ok(None);
-    };
-    let Some(look) = painted else {
-        return Ok(None);
-    };
     let mut pool = TextPool::empty(alloc);
-    Ok(Some(Item {
-        shape: Shape::Path {
-            points,
-            picked: None,
-        },
-        fill: shared_or_none(alloc, &mut pool, look.fill)?,
-        stroke: shared_or_none(alloc, &mut pool, look.stroke)?,
-        stroke_width: look.stroke_width,
-        opacity: look.opacity,
-        unit: Some(unit),
-        key: None,
-    }))
+    path_look_for(alloc, &mut pool, default, channels, row, params)
 }
 
 // An item as a list; an empty one of none.
@@ -296,9 +224,9 @@ fn path_of<P: ParamReader>(
         (data_of rows.now)) }
 {
     let stops = stops_for(alloc, path, rows, params)?;
-    let look = path_look_for(alloc, default, &path.looks, first, params)?;
+    let look = look_of_first(alloc, default, &path.looks, first, params)?;
     let points = points_of(alloc, path.closed, stops.as_slice())?;
-    let item = path_item(alloc, unit, points, look)?;
+    let item = path_item(unit, points, look);
     Ok(listed(alloc, item)?)
 }
 

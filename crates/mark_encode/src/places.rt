@@ -4,16 +4,16 @@ ghost use Rattle.cell_value.specs.Datum.{cell_at};
 ghost use Rattle.cell_value.specs.State.{greatest_id};
 ghost use Rattle.expr_eval.specs.Answers.{Evaluates};
 ghost use Rattle.mark_encode.specs.Channels.{channel_values};
-ghost use Rattle.mark_encode.specs.Places.{place_of, places_named, place_for};
+ghost use Rattle.mark_encode.specs.Places.{places_named, place_for};
 ghost use Rattle.mark_encode.specs.inner.Scaled.{place_values};
 
 use crate::channels::{ChannelName, Scaled, channel_values};
-use crate::numbers::{number_shown, zero};
+use crate::numbers::number_shown;
 use crate::scales::IndexedSet;
-use crate::shown::{Shown, or_default};
 use cell_value::Keyed;
 use expr_eval::{EvalError, ParamReader};
 use fixed_num::Num;
+use mark_shapes::place_of;
 use std::alloc::Global;
 use text_kit::{OutOfMemory, Seq};
 use vega_spec::Encode;
@@ -39,17 +39,6 @@ pub fn places_named<'a>(
         near: channel_values(alloc, set, sets, near)?,
         middle: channel_values(alloc, set, sets, middle)?,
     })
-}
-
-/// At the near end, if that is given, else at the middle, else at 0; None where what counts lacks.
-pub fn place_of(near: Shown<Num>, middle: Shown<Num>) -> Option<Num>
-    ensures { result ≡ place_of near middle }
-{
-    match near {
-        Shown::Given(near) => Some(near),
-        Shown::Lacking => None,
-        Shown::Absent => or_default(zero(), middle),
-    }
 }
 
 /// Where a mark stands along one direction for a row; None where it lacks a place.

@@ -4,14 +4,15 @@ ghost use Rattle.cell_value.specs.Datum.{cell_at};
 ghost use Rattle.cell_value.specs.State.{greatest_id};
 ghost use Rattle.expr_eval.specs.Answers.{Evaluates};
 ghost use Rattle.mark_encode.specs.Channels.{channel_values};
-ghost use Rattle.mark_encode.specs.Rects.{along_named, across_of, down_of, rect_over, rect_for};
+ghost use Rattle.mark_encode.specs.Rects.{along_named, across_of, down_of, rect_for};
 ghost use Rattle.mark_encode.specs.inner.Scaled.{along_values};
 
 use crate::channels::{ChannelName, channel_values};
 use crate::scales::IndexedSet;
-use crate::spans::{Along, Span, span_for};
+use crate::spans::{Along, span_for};
 use cell_value::Keyed;
 use expr_eval::{EvalError, ParamReader};
+use mark_shapes::rect_over;
 use scene_tree::Shape;
 use std::alloc::Global;
 use text_kit::OutOfMemory;
@@ -57,20 +58,6 @@ pub fn rect_channels<'a>(
     Ok(RectChannels {
         across: along_named(alloc, set, sets, X, X2, Xc, Width)?,
         down: along_named(alloc, set, sets, Y, Y2, Yc, Height)?,
-    })
-}
-
-// A rect over a span along x and one along y.
-fn rect_over(across: Option<Span>, down: Option<Span>) -> Option<Shape>
-    ensures { result ≡ rect_over across down }
-{
-    let x = across?;
-    let y = down?;
-    Some(Shape::Rect {
-        x: x.from,
-        y: y.from,
-        width: x.size,
-        height: y.size,
     })
 }
 

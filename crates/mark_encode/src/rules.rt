@@ -4,29 +4,20 @@ ghost use Rattle.cell_value.specs.Datum.{cell_at};
 ghost use Rattle.cell_value.specs.State.{greatest_id};
 ghost use Rattle.expr_eval.specs.Answers.{Evaluates};
 ghost use Rattle.mark_encode.specs.Channels.{channel_values};
-ghost use Rattle.mark_encode.specs.Rules.{ends_from, ends_to, ends_of, ends_named, ends_for, rule_values_of, line_between, rule_for};
+ghost use Rattle.mark_encode.specs.Rules.{ends_named, ends_for, rule_values_of, rule_for};
 ghost use Rattle.mark_encode.specs.inner.Scaled.{end_values, rule_values};
 
 use crate::channels::{ChannelName, Scaled, channel_values};
-use crate::numbers::{number_shown, zero};
+use crate::numbers::number_shown;
 use crate::scales::IndexedSet;
-use crate::shown::{Shown, or_default};
 use cell_value::Keyed;
 use expr_eval::{EvalError, ParamReader};
 use fixed_num::Num;
+use mark_shapes::{Ends, ends_of, line_between};
 use scene_tree::Shape;
 use std::alloc::Global;
 use text_kit::{OutOfMemory, Seq};
 use vega_spec::Encode;
-
-/// Where a rule begins and ends along one direction, in pixels.
-#[derive(Clone, Copy, Debug)]
-pub struct Ends {
-    /// Where it begins.
-    pub from: Num,
-    /// Where it ends.
-    pub to: Num,
-}
 
 /// The values in the channels of one direction of a rule, and how long its plot is.
 #[derive(Drop)]
@@ -77,37 +68,6 @@ pub fn rule_channels<'a>(
     })
 }
 
-// From 0 to the far end, if that is given, else over the whole plot.
-fn ends_to(whole: Num, far: Shown<Num>) -> Option<Ends>
-    ensures { result ≡ ends_to whole far }
-{
-    Some(Ends {
-        from: zero(),
-        to: or_default(whole, far)?,
-    })
-}
-
-// From the near end to the far end, to the near end again where no far end is encoded.
-fn ends_from(near: Num, far: Shown<Num>) -> Option<Ends>
-    ensures { result ≡ ends_from near far }
-{
-    Some(Ends {
-        from: near,
-        to: or_default(near, far)?,
-    })
-}
-
-// Where a rule begins and ends along one direction; None where it lacks an end.
-fn ends_of(whole: Num, near: Shown<Num>, far: Shown<Num>) -> Option<Ends>
-    ensures { result ≡ ends_of whole near far }
-{
-    match near {
-        Shown::Given(near) => ends_from(near, far),
-        Shown::Lacking => None,
-        Shown::Absent => ends_to(whole, far),
-    }
-}
-
 // Where a rule begins and ends along one direction for a row.
 fn ends_for<P: ParamReader>(
     alloc: Global,
@@ -121,20 +81,6 @@ fn ends_for<P: ParamReader>(
     let near = number_shown(alloc, false, ends.near.as_slice(), row, params)?;
     let far = number_shown(alloc, true, ends.far.as_slice(), row, params)?;
     Ok(ends_of(ends.whole, near, far))
-}
-
-// A line between its ends along x and along y.
-fn line_between(across: Option<Ends>, down: Option<Ends>) -> Option<Shape>
-    ensures { result ≡ line_between across down }
-{
-    let x = across?;
-    let y = down?;
-    Some(Shape::Line {
-        x1: x.from,
-        y1: y.from,
-        x2: x.to,
-        y2: y.to,
-    })
 }
 
 /// The rule of a row; None where it lacks an end.

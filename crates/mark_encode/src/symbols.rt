@@ -1,58 +1,26 @@
 // Symbols.
 ghost use Rattle.std.specs.Prelude.{◌≡◌, ◌≤◌, IfOk};
-ghost use Rattle.std.specs.Str.{bytes_eq};
-ghost use Rattle.fixed_num.specs.Ranges.{in_range};
 ghost use Rattle.cell_value.specs.Datum.{cell_at};
 ghost use Rattle.cell_value.specs.State.{greatest_id};
 ghost use Rattle.expr_eval.specs.Answers.{Evaluates};
+ghost use Rattle.mark_shapes.specs.Symbols.{symbol_with};
 ghost use Rattle.mark_encode.specs.Channels.{channel_values};
-ghost use Rattle.mark_encode.specs.Symbols.{symbol_named, symbol_of, side_of, side_shown, rise_of, reach_at, reach_of, place_before, circle_at, square_at};
-ghost use Rattle.mark_encode.specs.Symbols.{symbol_path, diamond_over, triangle_over, square_about, diamond_about, triangle_about, symbol_about};
-ghost use Rattle.mark_encode.specs.Symbols.{symbol_with, symbol_values_of, symbol_for};
+ghost use Rattle.mark_encode.specs.Symbols.{symbol_values_of, symbol_for};
 ghost use Rattle.mark_encode.specs.inner.Scaled.{symbol_values};
 
 use crate::channels::{ChannelName, Scaled, channel_values};
 use crate::colors::color_shown;
-use crate::looks::pixels;
-use crate::numbers::{number_shown, sum_of, times};
+use crate::numbers::number_shown;
 use crate::places::{PlaceChannels, place_for, places_named};
 use crate::scales::IndexedSet;
-use crate::shown::{Shown, or_default};
-use crate::spans::{difference, half};
 use cell_value::Keyed;
 use expr_eval::{EvalError, ParamReader};
 use fixed_num::Num;
-use scene_tree::{Point, Shape};
+use mark_shapes::{Symbol, side_shown, symbol_of};
+use scene_tree::Shape;
 use std::alloc::Global;
-use text_kit::{OutOfMemory, Seq, Text};
+use text_kit::{OutOfMemory, Seq};
 use vega_spec::Encode;
-
-/// The size of a symbol that shows none, in square pixels.
-const DEFAULT_SIZE: u8 = 30;
-
-/// A symbol by its form.
-#[derive(Clone, Copy, Debug, PartialEq, Eq)]
-pub enum Symbol {
-    /// A circle.
-    Circle,
-    /// A square.
-    Square,
-    /// A triangle with a corner above.
-    TriangleUp,
-    /// A square with a corner above.
-    Diamond,
-}
-
-/// A place along one direction, with those at which a symbol begins and ends, in pixels.
-#[derive(Clone, Copy, Debug)]
-pub struct Reach {
-    /// Where it begins.
-    pub before: Num,
-    /// Its place.
-    pub at: Num,
-    /// Where it ends.
-    pub behind: Num,
-}
 
 /// The values in the channels of a symbol.
 #[derive(Drop)]
@@ -79,233 +47,8 @@ pub fn symbol_channels<'a>(
     })
 }
 
-// Whether two texts are the same.
-fn is_word(text: &str, word: &str) -> bool
-    ensures { result ≡ bytes_eq text.now word.now }
-{
-    text == word
-}
-
-// A symbol by its name.
-fn symbol_named(name: &str) -> Symbol
-    ensures { result ≡ symbol_named name.now }
-{
-    if is_word(name, "square") {
-        Symbol::Square
-    } else if is_word(name, "triangle-up") {
-        Symbol::TriangleUp
-    } else if is_word(name, "diamond") {
-        Symbol::Diamond
-    } else {
-        Symbol::Circle
-    }
-}
-
-// The symbol that is shown.
-fn symbol_of(shown: Shown<Text>) -> Symbol
-    ensures { result ≡ symbol_of shown }
-{
-    match shown {
-        Shown::Given(name) => symbol_named(name.as_str()),
-        Shown::Lacking => Symbol::Circle,
-        Shown::Absent => Symbol::Circle,
-    }
-}
-
-// The root of a size; None exactly where it is negative.
-fn side_of(size: Num) -> Option<Num>
-    ensures { result ≡ side_of size }
-{
-    size.root()
-}
-
-// The root of the size that is shown, if there is one.
-fn side_shown(size: Shown<Num>) -> Option<Num>
-    ensures { result ≡ side_shown size }
-{
-    side_of(or_default(pixels(DEFAULT_SIZE), size)?)
-}
-
-// A place with those so far before and behind it; None exactly where one is out of range.
-fn reach_at(far: Num, at: Num) -> Option<Reach>
-    ensures { result ≡ reach_at far at }
-{
-    let before = difference(at, far)?;
-    let behind = sum_of(at, far)?;
-    Some(Reach { before, at, behind })
-}
-
-// The same of a place that may lack.
-fn reach_of(far: Num, at: Option<Num>) -> Option<Option<Reach>>
-    ensures { result ≡ reach_of far at }
-{
-    match at {
-        Some(at) => reach_at(far, at).map(Some),
-        None => Some(None),
-    }
-}
-
-// The place so far before a place; None exactly where it is out of range.
-fn place_before(far: Num, at: Option<Num>) -> Option<Option<Num>>
-    ensures { result ≡ place_before far at }
-{
-    match at {
-        Some(at) => difference(at, far).map(Some),
-        None => Some(None),
-    }
-}
-
-// A circle about a place.
-fn circle_at(r: Num, across: Option<Num>, down: Option<Num>) -> Option<Shape>
-    ensures { result ≡ circle_at r across down }
-{
-    let x = across?;
-    let y = down?;
-    Some(Shape::Circle { x, y, r })
-}
-
-// A square by its upper left corner.
-fn square_at(side: Num, across: Option<Num>, down: Option<Num>) -> Option<Shape>
-    ensures { result ≡ square_at side across down }
-{
-    let x = across?;
-    let y = down?;
-    Some(Shape::Rect {
-        x,
-        y,
-        width: side,
-        height: side,
-    })
-}
-
-// A path over these points, that is picked by half the side of its square.
-fn symbol_path(alloc: Global, points: &[Point], r: Num) -> Result<Option<Shape>, OutOfMemory>
-    ensures { IfOk result (λ shape. shape ≡ symbol_path points.now r) }
-{
-    Ok(Some(Shape::Path {
-        points: Seq::from_slice(alloc, points)?,
-        picked: Some(r),
-    }))
-}
-
-// A diamond, from its left corner over the upper one.
-fn diamond_over(
-    alloc: Global,
-    r: Num,
-    across: Option<Reach>,
-    down: Option<Reach>,
-) -> Result<Option<Shape>, OutOfMemory>
-    ensures { IfOk result (λ shape. shape ≡ diamond_over r across down) }
-{
-    let Some(x) = across else {
-        return Ok(None);
-    };
-    let Some(y) = down else {
-        return Ok(None);
-    };
-    let points = [
-        Point::Move(x.before, y.at),
-        Point::Line(x.at, y.before),
-        Point::Line(x.behind, y.at),
-        Point::Line(x.at, y.behind),
-        Point::Close,
-    ];
-    symbol_path(alloc, &points, r)
-}
-
-// A triangle, from its upper corner over the left one.
-fn triangle_over(
-    alloc: Global,
-    r: Num,
-    across: Option<Reach>,
-    down: Option<Reach>,
-) -> Result<Option<Shape>, OutOfMemory>
-    ensures { IfOk result (λ shape. shape ≡ triangle_over r across down) }
-{
-    let Some(x) = across else {
-        return Ok(None);
-    };
-    let Some(y) = down else {
-        return Ok(None);
-    };
-    let points = [
-        Point::Move(x.at, y.before),
-        Point::Line(x.before, y.behind),
-        Point::Line(x.behind, y.behind),
-        Point::Close,
-    ];
-    symbol_path(alloc, &points, r)
-}
-
-// A square about a place; None exactly where its corner is out of range.
-fn square_about(side: Num, r: Num, x: Option<Num>, y: Option<Num>) -> Option<Option<Shape>>
-    ensures { result ≡ square_about side r x y }
-{
-    let left = place_before(r, x)?;
-    let above = place_before(r, y)?;
-    Some(square_at(side, left, above))
-}
-
-// A diamond about a place.
-fn diamond_about(
-    alloc: Global,
-    r: Num,
-    x: Option<Num>,
-    y: Option<Num>,
-) -> Result<Option<Shape>, EvalError>
-    ensures { Evaluates result (diamond_about r x y) }
-{
-    let across = reach_of(r, x).ok_or(EvalError::Overflow)?;
-    let down = reach_of(r, y).ok_or(EvalError::Overflow)?;
-    Ok(diamond_over(alloc, r, across, down)?)
-}
-
-// Half the height of a triangle; None exactly where it is out of range.
-fn rise_of(r: Num) -> Option<Num>
-    ensures { result ≡ in_range (rise_of r) }
-{
-    match Num::of_millionths(866_025) {
-        Some(share) => times(r, share),
-        None => unreachable!(),
-    }
-}
-
-// A triangle about a place.
-fn triangle_about(
-    alloc: Global,
-    r: Num,
-    x: Option<Num>,
-    y: Option<Num>,
-) -> Result<Option<Shape>, EvalError>
-    ensures { Evaluates result (triangle_about r x y) }
-{
-    let rise = rise_of(r).ok_or(EvalError::Overflow)?;
-    let across = reach_of(r, x).ok_or(EvalError::Overflow)?;
-    let down = reach_of(rise, y).ok_or(EvalError::Overflow)?;
-    Ok(triangle_over(alloc, r, across, down)?)
-}
-
-// A symbol about a place, by its radius and the root of its size.
-fn symbol_about(
-    alloc: Global,
-    form: Symbol,
-    side: Num,
-    r: Num,
-    x: Option<Num>,
-    y: Option<Num>,
-) -> Result<Option<Shape>, EvalError>
-    ensures { Evaluates result (symbol_about form side r x y) }
-{
-    match form {
-        Symbol::Circle => Ok(circle_at(r, x, y)),
-        Symbol::Square => square_about(side, r, x, y).ok_or(EvalError::Overflow),
-        Symbol::TriangleUp => triangle_about(alloc, r, x, y),
-        Symbol::Diamond => diamond_about(alloc, r, x, y),
-    }
-}
-
-// A symbol about a place by the root of its size, if there is one.
-fn symbol_with(
+// A symbol about a place by the root of its size, if there is one; `Overflow` exactly where a number is out of range.
+fn symbol_at(
     alloc: Global,
     form: Symbol,
     side: Option<Num>,
@@ -314,11 +57,8 @@ fn symbol_with(
 ) -> Result<Option<Shape>, EvalError>
     ensures { Evaluates result (symbol_with form side x y) }
 {
-    let Some(side) = side else {
-        return Ok(None);
-    };
-    match half(side) {
-        Some(r) => symbol_about(alloc, form, side, r, x, y),
+    match mark_shapes::symbol_with(alloc, form, side, x, y)? {
+        Some(shape) => Ok(shape),
         None => Err(EvalError::Overflow),
     }
 }
@@ -337,5 +77,5 @@ pub fn symbol_for<P: ParamReader>(
     let y = place_for(alloc, &symbol.down, row, params)?;
     let size = number_shown(alloc, false, symbol.size.as_slice(), row, params)?;
     let form = color_shown(alloc, symbol.shape.as_slice(), row, params)?;
-    symbol_with(alloc, symbol_of(form), side_shown(size), x, y)
+    symbol_at(alloc, symbol_of(form), side_shown(size), x, y)
 }

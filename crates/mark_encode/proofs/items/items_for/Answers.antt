@@ -10,6 +10,5 @@ returns g c =
     let P : Option (List Item) → Type 0 = λ given. Evaluates c.row_items.result given in
     subst P
     (same_items c.in_ok-mark.mark c.args.type_ c.args.unit c.args.width c.args.height (channel_values c.args.scales.now c.args.sets.now)
-    (g.P.ParamReader.values c.args.params.now) c.args.rows.now c.in_ok-mark.ensures.type_is c.in_ok-mark.ensures.shape
-    c.in_ok-mark.ensures.looks)
+    (g.P.ParamReader.values c.args.params.now) c.args.rows.now c.in_ok-mark.ensures)
     c.row_items.ensures

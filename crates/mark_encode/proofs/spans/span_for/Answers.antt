@@ -1,7 +1,7 @@
 use Rattle.std.proofs.Common.{◌∙◌, ap, sym, true, false}
 use Rattle.cell_value.specs.Datum.{cell_at}
+use Rattle.mark_shapes.specs.Spans.{span_of}
 use Rattle.mark_encode.specs.Values.{number_shown}
-use Rattle.mark_encode.specs.Spans.{span_of}
 use Rattle.mark_encode.specs.inner.Scaled.{scaled_all}
 use Rattle.mark_encode.proofs.ShapeLemmas.{four_then}
 use Rattle.mark_encode.proofs.spans.span_for.Goals as goal

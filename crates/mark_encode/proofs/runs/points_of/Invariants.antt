@@ -1,7 +1,0 @@
-use Rattle.std.proofs.Common.{◌≡◌, ◌++◌, drop}
-use Rattle.mark_encode.specs.Runs.{points_of}
-use Rattle.mark_encode.specs.inner.Begun.{points_behind}
-use Rattle.mark_encode.proofs.runs.points_of.Given as goal
-
-abbrev pub invariant-loop-stop : goal.invariant-loop-stop
-invariant-loop-stop l = l.points ++ points_behind l.closed l.run (drop l.stop-index l.stops) ≡ points_of l.closed l.stops

@@ -1,0 +1,4 @@
+mod HalfLemmas
+mod RunLemmas
+mod PathLemmas
+mod TextLemmas

@@ -1,0 +1,12 @@
+pub mod Shown
+pub mod Spans
+pub mod Places
+pub mod Rects
+pub mod Rules
+pub mod Symbols
+pub mod Texts
+pub mod Looks
+pub mod Runs
+pub mod Paths
+pub mod Items
+pub mod inner
