@@ -1,3 +1,4 @@
+mod LawLemmas
 mod SumLemmas
 mod StackLemmas
 mod RowLemmas

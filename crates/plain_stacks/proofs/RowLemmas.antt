@@ -7,7 +7,7 @@ use Rattle.cell_value.specs.Datum.{Datum, datum_of}
 use Rattle.plain_rows.specs.declared.transforms.StackOf.{StackOf}
 use Rattle.plain_orders.specs.Partitions.{datum_at}
 use Rattle.plain_stacks.specs.declared.sums.Sums.{Sums}
-use Rattle.plain_stacks.specs.Stacks.{row_span}
+use Rattle.plain_stacks.specs.Stacks.{row_span_with}
 use Rattle.plain_stacks.specs.inner.Sums.{sums_at, span_by, AreSummed}
 
 module _ (s : StackOf) (rows : List Keyed) (homes ranks : List ℕ) (sums : List Sums) (greatest : Option ℤ)
@@ -23,11 +23,11 @@ module _ (s : StackOf) (rows : List Keyed) (homes ranks : List ℕ) (sums : List
   own_sums = get_or_default sums (get_or homes i 0) _ own (are.home i within) ∙ sym of
 
   -- the sums of a row's partition give where its value begins and ends
-  pub span_there : span_by s (datum_of row) own (get_or ranks i 0) greatest ≡ row_span s (map datum_of rows) (datum_of row)
+  pub span_there : span_by s (datum_of row) own (get_or ranks i 0) greatest ≡ row_span_with s greatest (map datum_of rows) (datum_of row)
   span_there =
-      subst (λ (d : Datum). span_by s d own (get_or ranks i 0) greatest ≡ row_span s (map datum_of rows) d) seen
+      subst (λ (d : Datum). span_by s d own (get_or ranks i 0) greatest ≡ row_span_with s greatest (map datum_of rows) d) seen
       (subst (λ (o : Sums). span_by s (datum_at (map datum_of rows) i) o (get_or ranks i 0) greatest
-      ≡ row_span s (map datum_of rows) (datum_at (map datum_of rows) i)) own_sums (are.span i within))
+      ≡ row_span_with s greatest (map datum_of rows) (datum_at (map datum_of rows) i)) own_sums (are.span i within))
 
   pub rank_there : get_or ranks i 0 < length own.before
   rank_there = subst (λ (o : Sums). get_or ranks i 0 < length o.before) own_sums (are.rank i within)

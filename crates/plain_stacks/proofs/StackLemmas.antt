@@ -23,7 +23,7 @@ use Rattle.plain_orders.specs.Orders.{partition_of, rows_before}
 use Rattle.plain_orders.specs.Partitions.{datum_at, data_at, StandsAt, ArePartitions}
 use Rattle.plain_stacks.specs.declared.sums.Sums.{Sums}
 use Rattle.plain_stacks.specs.Spans.{size, sum_before, no_span, span_of}
-use Rattle.plain_stacks.specs.Stacks.{amount, whole_of, greatest_whole, row_span, span_cells, stacked, data_stacked}
+use Rattle.plain_stacks.specs.Stacks.{amount, whole_of, greatest_whole, row_span_with, span_cells, stacked_with, data_stacked_with}
 use Rattle.plain_stacks.specs.inner.Sums.{sums_of, values_at, sums_at, AreSummed}
 use Rattle.plain_stacks.proofs.SumLemmas.{before_at, befores_long, whole_is}
 
@@ -137,35 +137,38 @@ module _ (s : StackOf) (rows : List Keyed) where
         (λ i below. whole_so i below))
 
     -- the sums of partitions give where the values of rows begin and end
-    pub are_summed : (greatest : Option ℤ) → greatest
-        ≡ option_map (fold int_max (pos 0)) (all_found (map (λ home. (sums_at sums home).whole) homes))
-        → AreSummed s seen homes ranks sums greatest
-    are_summed greatest is = record {
+    pub are_summed : (greatest : Option ℤ) → AreSummed s seen homes ranks sums greatest
+    are_summed greatest = record {
       homes_long = are.homes_long;
       ranks_long = are.ranks_long;
       home = λ i below. omega (arith, are.home i below, length-map lists (λ list. sums_of s.offset (values_at amounts list)));
       rank = rank_within;
       span = λ i below.
           ap₂ (λ b w. option_map_or (span_of s.offset b w greatest) (the_number ((datum_at seen i).cell s.field)) (Some no_span))
-          (before_so i below) (whole_so i below)
-          ∙ ap (λ g. option_map_or (span_of s.offset
-          (in_range (sum_before s.offset (map (amount s.field) (rows_before s.sort (own i below) (datum_at seen i)))
-          (amount s.field (datum_at seen i))))
-          (in_range (whole_of s.field (own i below))) g) (the_number ((datum_at seen i).cell s.field)) (Some no_span)) (is ∙ greatest_so);
+          (before_so i below) (whole_so i below);
     }
 
   -- sums that were computed so do
   pub summed_so : (lists : List (List ℕ)) (homes ranks : List ℕ) (are : ArePartitions s.groupby s.sort seen lists homes ranks)
       (added : List ℤ) (found : List Sums) (greatest : Option ℤ)
       → added ≡ amounts → found ≡ map (λ list. sums_of s.offset (values_at added list)) lists
-      → greatest ≡ option_map (fold int_max (pos 0)) (all_found (map (λ home. (sums_at found home).whole) homes))
       → AreSummed s seen homes ranks found greatest
-  summed_so lists homes ranks are added found greatest e f is =
+  summed_so lists homes ranks are added found greatest e f =
+      subst (λ l. AreSummed s seen homes ranks l greatest)
+      (sym (f ∙ ap (λ l. map (λ list. sums_of s.offset (values_at l list)) lists) e))
+      (are_summed lists homes ranks are greatest)
+
+  -- the greatest of these sums is the greatest whole
+  pub greatest_is : (lists : List (List ℕ)) (homes ranks : List ℕ) (are : ArePartitions s.groupby s.sort seen lists homes ranks)
+      (added : List ℤ) (found : List Sums) (greatest : Option ℤ)
+      → added ≡ amounts → found ≡ map (λ list. sums_of s.offset (values_at added list)) lists
+      → greatest ≡ option_map (fold int_max (pos 0)) (all_found (map (λ home. (sums_at found home).whole) homes))
+      → greatest ≡ greatest_whole s seen
+  greatest_is lists homes ranks are added found greatest e f is =
       let same : found ≡ map (λ list. sums_of s.offset (values_at amounts list)) lists = f
       ∙ ap (λ l. map (λ list. sums_of s.offset (values_at l list)) lists) e in
-      subst (λ l. AreSummed s seen homes ranks l greatest) (sym same)
-      (are_summed lists homes ranks are greatest (is
-      ∙ ap (λ l. option_map (fold int_max (pos 0)) (all_found (map (λ home. (sums_at l home).whole) homes))) same))
+      is ∙ ap (λ l. option_map (fold int_max (pos 0)) (all_found (map (λ home. (sums_at l home).whole) homes))) same
+      ∙ greatest_so lists homes ranks are
 
   pub homes_within : (lists : List (List ℕ)) (homes ranks : List ℕ) (are : ArePartitions s.groupby s.sort seen lists homes ranks)
       (added : List ℤ) (found : List Sums)
@@ -193,19 +196,20 @@ mapped : {A B C : Type 0} (f : A → C) (h : A → B) (see : B → C) (same : (a
 mapped f h see same None = refl
 mapped f h see same (Some a) = ap Some (same a)
 
-pub stack_reads : (s : StackOf) (rows : List Keyed) → data_stacked s (map datum_of rows) ≡ option_map (map datum_of) (stacked s rows)
-stack_reads s rows =
+pub stack_reads : (s : StackOf) (greatest : Option ℤ) (rows : List Keyed)
+    → data_stacked_with s greatest (map datum_of rows) ≡ option_map (map datum_of) (stacked_with s greatest rows)
+stack_reads s greatest rows =
     all_seen datum_of datum_of (λ row. option_map (λ span. with_cells row (span_cells s span))
-    (row_span s (map datum_of rows) (datum_of row)))
-    (λ row. option_map (λ span. data_with_cells row (span_cells s span)) (row_span s (map datum_of rows) row))
+    (row_span_with s greatest (map datum_of rows) (datum_of row)))
+    (λ row. option_map (λ span. data_with_cells row (span_cells s span)) (row_span_with s greatest (map datum_of rows) row))
     (λ row. mapped (λ span. data_with_cells (datum_of row) (span_cells s span)) (λ span. with_cells row (span_cells s span)) datum_of
     (λ span. sym (reads_cells (span_cells s span) row))
-    (row_span s (map datum_of rows) (datum_of row)))
+    (row_span_with s greatest (map datum_of rows) (datum_of row)))
     rows
 
-pub stacked_are_rows : (s : StackOf) (rows : List Keyed) → AreRows rows → (result : Result (List Keyed) EvalError)
-    → Evaluates result (stacked s rows) → IfOk result AreRows
-stacked_are_rows s rows are (Ok ys) e =
+pub stacked_are_rows : (s : StackOf) (greatest : Option ℤ) (rows : List Keyed) → AreRows rows → (result : Result (List Keyed) EvalError)
+    → Evaluates result (stacked_with s greatest rows) → IfOk result AreRows
+stacked_are_rows s greatest rows are (Ok ys) e =
     subst AreKeys (sym (same_keys_made (λ row span. with_cells row (span_cells s span))
-    (λ row. row_span s (map datum_of rows) (datum_of row)) (λ x span. key_stays (span_cells s span) x) rows ys e)) are
-stacked_are_rows s rows are (Err e) h = tt
+    (λ row. row_span_with s greatest (map datum_of rows) (datum_of row)) (λ x span. key_stays (span_cells s span) x) rows ys e)) are
+stacked_are_rows s greatest rows are (Err e) h = tt

@@ -1,3 +1,4 @@
+pub mod Laws
 pub mod Spans
 pub mod Stacks
 pub mod inner

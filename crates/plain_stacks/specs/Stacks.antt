@@ -1,5 +1,5 @@
 -- Rows with where their values begin and end in stacks.
-use Rattle.std.specs.Prelude.{◌≡◌, refl, ℕ, ◌*◌, ℤ, pos, Option, Some, None, List, [], ◌∷◌, map, fold, unwrap_or, codes, if◌then◌else◌}
+use Rattle.std.specs.Prelude.{◌≡◌, refl, ℕ, ◌*◌, ℤ, pos, Option, Some, List, [], ◌∷◌, map, fold, unwrap_or, codes, if◌then◌else◌}
 use Rattle.std.specs.Str.{bytes_eq}
 use Rattle.std.specs.Option.{option_map, option_map_or}
 use Rattle.std.specs.Int.{int_max}
@@ -32,28 +32,39 @@ abbrev pub greatest_whole : StackOf → List Datum → Option ℤ
 greatest_whole s rows =
     option_map (fold int_max (pos 0)) (all_found (map (λ row. in_range (whole_of s.field (partition_of s.groupby s.sort rows row))) rows))
 
--- where the value of a row begins and ends; None where a total is out of range
-abbrev pub row_span : StackOf → List Datum → Datum → Option Span
-row_span s rows row =
+-- where the value of a row begins and ends among rows, with a greatest whole; None where a total that it needs is out of range
+abbrev pub row_span_with : StackOf → Option ℤ → List Datum → Datum → Option Span
+row_span_with s greatest rows row =
     let partition = partition_of s.groupby s.sort rows row in
     let before = map (amount s.field) (rows_before s.sort partition row) in
     option_map_or
-    (span_of s.offset (in_range (sum_before s.offset before (amount s.field row))) (in_range (whole_of s.field partition))
-    (greatest_whole s rows))
+    (span_of s.offset (in_range (sum_before s.offset before (amount s.field row))) (in_range (whole_of s.field partition)) greatest)
     (the_number (row.cell s.field)) (Some no_span)
+
+-- the same with the greatest whole of the partitions of these rows
+abbrev pub row_span : StackOf → List Datum → Datum → Option Span
+row_span s rows row = row_span_with s (greatest_whole s rows) rows row
 
 -- the start and the end of a span, under their names
 abbrev pub span_cells : StackOf → Span → List (List ℕ × Cell)
 span_cells s span = (s.out, number_or_null span.start) ∷ (s.out_end, number_or_null span.end) ∷ []
 
--- the rows, each with where its value begins and ends; None where one of them overflows
-abbrev pub stacked : StackOf → List Keyed → Option (List Keyed)
-stacked s rows = all_found (map (λ row. option_map (λ span. with_cells row (span_cells s span))
-    (row_span s (map datum_of rows) (datum_of row))) rows)
+-- the rows, each with where its value begins and ends, with a greatest whole; None where one of them overflows
+abbrev pub stacked_with : StackOf → Option ℤ → List Keyed → Option (List Keyed)
+stacked_with s greatest rows = all_found (map (λ row. option_map (λ span. with_cells row (span_cells s span))
+    (row_span_with s greatest (map datum_of rows) (datum_of row))) rows)
 
--- the same of rows as they are read
+-- the same with the greatest whole of their partitions
+abbrev pub stacked : StackOf → List Keyed → Option (List Keyed)
+stacked s rows = stacked_with s (greatest_whole s (map datum_of rows)) rows
+
+-- both of rows as they are read
+abbrev pub data_stacked_with : StackOf → Option ℤ → List Datum → Option (List Datum)
+data_stacked_with s greatest rows =
+    all_found (map (λ row. option_map (λ span. data_with_cells row (span_cells s span)) (row_span_with s greatest rows row)) rows)
+
 abbrev pub data_stacked : StackOf → List Datum → Option (List Datum)
-data_stacked s rows = all_found (map (λ row. option_map (λ span. data_with_cells row (span_cells s span)) (row_span s rows row)) rows)
+data_stacked s rows = data_stacked_with s (greatest_whole s rows) rows
 
 -- The rules at work.
 
@@ -87,6 +98,12 @@ in_the_middle = refl
 as_parts : spans Normalize ≡ in_full (pos 0) (pos 750000) ∷ in_full (pos 750000) (units 1) ∷ in_full (pos 0) (units 1) ∷ []
 unfolding rounded floor_quotient
 as_parts = refl
+
+-- among stacks of which the greatest is 6
+in_the_middle_of_more : map (row_span_with (by_a Center) (Some (units 6)) three_rows) three_rows
+    ≡ in_full (units 1) (units 4) ∷ in_full (units 4) (units 5) ∷ in_full (units 2) (units 4) ∷ []
+unfolding rounded floor_quotient
+in_the_middle_of_more = refl
 
 from_zero : spans Zero ≡ in_full (pos 0) (units 3) ∷ in_full (units 3) (units 4) ∷ in_full (pos 0) (units 2) ∷ []
 from_zero = refl

@@ -8,7 +8,7 @@ ghost use Rattle.plain_rows.specs.Rows.{AreRows};
 ghost use Rattle.plain_rows.specs.Answers.{GivesRows};
 ghost use Rattle.plain_rows.specs.Lookups.{with_cells};
 ghost use Rattle.plain_orders.specs.Partitions.{ArePartitions};
-ghost use Rattle.plain_stacks.specs.Stacks.{span_cells, stacked, data_stacked};
+ghost use Rattle.plain_stacks.specs.Stacks.{span_cells, stacked_with, stacked, data_stacked_with, data_stacked};
 ghost use Rattle.plain_stacks.specs.inner.Sums.{span_by, AreSummed};
 
 use crate::places::{all_sums, amounts, greatest_whole, number_in};
@@ -97,7 +97,7 @@ fn stacked_rows(
 ) -> Result<Rows, EvalError>
     requires rows { AreRows rows.now }
     requires summed { AreSummed s.now (map datum_of rows.now) homes.now ranks.now sums.now greatest.now }
-    ensures { Evaluates result (stacked s.now rows.now) }
+    ensures { Evaluates result (stacked_with s.now greatest.now rows.now) }
 {
     let mut out = Seq::with_capacity(alloc, rows.len())?;
     for (at, row) in rows.iter().enumerate() {
@@ -129,6 +129,26 @@ fn summed(
     stacked_rows(alloc, s, rows, homes, ranks, sums, &greatest)
 }
 
+// The same with a greatest whole.
+fn summed_with(
+    alloc: Global,
+    rows: &[Keyed],
+    s: &StackOf,
+    lists: &[Seq<usize>],
+    homes: &[usize],
+    ranks: &[usize],
+    greatest: &Option<Num>,
+) -> Result<Rows, EvalError>
+    requires rows { AreRows rows.now }
+    requires partitions { ArePartitions s.now.groupby s.now.sort (map datum_of rows.now) lists.now homes.now ranks.now }
+    ensures { Evaluates result (stacked_with s.now greatest.now rows.now) }
+{
+    let amounts = amounts(alloc, rows, s.field.as_str())?;
+    let sums = all_sums(alloc, s.offset, amounts.as_slice(), lists)?;
+    let sums = sums.as_slice();
+    stacked_rows(alloc, s, rows, homes, ranks, sums, greatest)
+}
+
 // The rows, each with where its value begins and ends.
 fn stacked(alloc: Global, rows: &[Keyed], s: &StackOf) -> Result<Rows, EvalError>
     requires { AreRows rows.now }
@@ -138,6 +158,22 @@ fn stacked(alloc: Global, rows: &[Keyed], s: &StackOf) -> Result<Rows, EvalError
     let homes = found.homes.as_slice();
     let ranks = found.ranks.as_slice();
     summed(alloc, rows, s, &found.lists, homes, ranks)
+}
+
+// The same with a greatest whole.
+fn stacked_with(
+    alloc: Global,
+    rows: &[Keyed],
+    s: &StackOf,
+    greatest: &Option<Num>,
+) -> Result<Rows, EvalError>
+    requires { AreRows rows.now }
+    ensures { Evaluates result (stacked_with s.now greatest.now rows.now) }
+{
+    let found = partitions_of(alloc, rows, s.groupby.as_slice(), s.sort.as_slice())?;
+    let homes = found.homes.as_slice();
+    let ranks = found.ranks.as_slice();
+    summed_with(alloc, rows, s, &found.lists, homes, ranks, greatest)
 }
 
 /// The rows, in order, each with where its value of `field` begins, under `out`, and then where it ends, under `out_end`; of equal names
@@ -155,4 +191,21 @@ pub fn stack(alloc: Global, rows: &Rows, s: &StackOf) -> Result<Rows, EvalError>
     ensures rows { IfOk result AreRows }
 {
     stacked(alloc, rows.as_slice(), s)
+}
+
+/// The rows as `stack` gives them, with the greatest sum of absolute values of a partition handed in; None stands for one that is out of
+/// range. So the rows of some partitions are stacked alone, among all others. Only centred stacks need it: `Overflow` comes there also
+/// wherever it is None and a row has a number.
+pub fn stack_with(
+    alloc: Global,
+    rows: &Rows,
+    s: &StackOf,
+    greatest: Option<Num>,
+) -> Result<Rows, EvalError>
+    requires { AreRows rows.now }
+    ensures made { Evaluates result (stacked_with s.now greatest rows.now) }
+    ensures read { GivesRows result (data_stacked_with s.now greatest (map datum_of rows.now)) }
+    ensures rows { IfOk result AreRows }
+{
+    stacked_with(alloc, rows.as_slice(), s, &greatest)
 }

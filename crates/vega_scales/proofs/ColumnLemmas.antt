@@ -8,9 +8,9 @@ use Rattle.cell_value.specs.State.{greatest_id}
 use Rattle.cell_value.specs.Datum.{datum_of, cell_at}
 use Rattle.plain_rows.specs.Rows.{AreRows}
 use Rattle.plain_rows.proofs.Keys as keys
-use Rattle.vega_scales.specs.declared.keyed.Entry.{Entry}
+use Rattle.domain_kit.specs.declared.keyed.Entry.{Entry}
 use Rattle.vega_scales.specs.Domains.{column_of, entries_among}
-use Rattle.vega_scales.specs.inner.Held.{entry_at}
+use Rattle.vega_scales.specs.inner.RowEntries.{entry_at}
 
 module _ (rows : List (Bor Keyed)) (i : ℕ) where
   -- the rows behind references

@@ -1,7 +1,4 @@
-mod CellLemmas
 mod ColumnLemmas
-mod EntryLemmas
-mod HeldLemmas
-mod NumberLemmas
+mod KnownLemmas
 mod ScaleLemmas
 mod TimeLemmas

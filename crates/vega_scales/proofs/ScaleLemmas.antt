@@ -12,7 +12,8 @@ use Rattle.vega_spec.specs.declared.scales.Range.TheVariants.{Cells, Width, Heig
 use Rattle.vega_spec.specs.declared.scales.Scale.{Scale}
 use Rattle.scale_kit.specs.Scale.{IsPadding, IsPixel, IsRange}
 use Rattle.vega_scales.specs.Ranges.{two_numbers, ends_in, turned, padding_of}
-use Rattle.vega_scales.specs.Entries.{entries_of, entries_turned, category_colors, symbol_shapes}
+use Rattle.domain_kit.specs.Entries.{entries_turned, category_colors, symbol_shapes}
+use Rattle.vega_scales.specs.Entries.{entries_of}
 use Rattle.vega_scales.specs.Scales.{is_discrete, is_ordinal, is_set, ends_of, given_ends, has_entries, fits_range, is_built, ordinal}
 use Rattle.vega_scales.specs.Scales.{KeepsBounds, band, point, between, domain_size, cells_of_scale, numbers_of_scale}
 use Rattle.vega_scales.specs.Laws.{LengthIsSize}

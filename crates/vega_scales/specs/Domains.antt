@@ -16,16 +16,17 @@ use Rattle.vega_spec.specs.declared.domains.DomainOrder.{DomainOrder}
 use Rattle.vega_spec.specs.declared.domains.DomainOrder.TheVariants as order
 use Rattle.vega_spec.specs.declared.domains.Reference.{Reference}
 use Rattle.vega_spec.specs.declared.domains.FieldDomain.{FieldDomain}
-use Rattle.vega_spec.specs.declared.orders.Order.TheVariants.{Descending}
+use Rattle.vega_spec.specs.declared.orders.Order.{Order}
+use Rattle.vega_spec.specs.declared.orders.Order.TheVariants.{Ascending, Descending}
 use Rattle.vega_lists.specs.Scopes.{Scope, no_lists, with_list}
 use Rattle.tick_kit.specs.Steps.{step_of, spaced}
 use Rattle.plain_groups.specs.Aggregates.{aggregates}
-use Rattle.vega_scales.specs.declared.counting.Counting.{Counting}
-use Rattle.vega_scales.specs.declared.counting.Counting.TheVariants.{Numbers, Instants, ListedInstants}
-use Rattle.vega_scales.specs.declared.keyed.Entry.{Entry}
-use Rattle.vega_scales.specs.Cells.{in_first_order}
-use Rattle.vega_scales.specs.Counting.{numbers_or_instants, extent_among, pair_in, widened_as_asked}
-use Rattle.vega_scales.specs.Orders.{entry, in_direction, by_operation}
+use Rattle.domain_kit.specs.declared.counting.Counting.{Counting}
+use Rattle.domain_kit.specs.declared.counting.Counting.TheVariants.{Numbers, Instants, ListedInstants}
+use Rattle.domain_kit.specs.declared.keyed.Entry.{Entry}
+use Rattle.domain_kit.specs.Cells.{in_first_order}
+use Rattle.domain_kit.specs.Counting.{numbers_or_instants, extent_among, pair_in, widened_as_asked}
+use Rattle.domain_kit.specs.Orders.{entry, in_direction, by_operation}
 
 -- the cells of rows under a name
 abbrev pub column_of : List ℕ → List Datum → List Cell
@@ -63,13 +64,20 @@ entries_in scope field reference = entries_among reference.field field (scope re
 abbrev pub entries_referred : Scope → List ℕ → List Reference → List Entry
 entries_referred scope field references = flat_map (entries_in scope field) references
 
+-- whether cells stand from the greatest to the least: ascending where no direction is given
+abbrev pub descends : Option Order → Bool
+descends None = false
+descends (Some Ascending) = false
+descends (Some Descending) = true
+
 -- The distinct cells of references: without an order by their first rows, reference after reference, else ascending, or in the direction
 -- that is given; or by what an operation gives over a field of all rows that have the cell. None where an operation overflows.
 abbrev pub in_order : Scope → List Reference → Option DomainOrder → Option (List Cell)
 in_order scope references None = Some (in_first_order (cells_referred scope references))
-in_order scope references (Some order.True) = Some (in_direction None (cells_referred scope references))
-in_order scope references (Some (order.Cells direction)) = Some (in_direction direction (cells_referred scope references))
-in_order scope references (Some (order.Operation direction op field)) = by_operation direction op (entries_referred scope field references)
+in_order scope references (Some order.True) = Some (in_direction false (cells_referred scope references))
+in_order scope references (Some (order.Cells direction)) = Some (in_direction (descends direction) (cells_referred scope references))
+in_order scope references (Some (order.Operation direction op field)) =
+    by_operation (descends direction) op (entries_referred scope field references)
 
 -- The domain of a discrete scale: a list and the cells that a value stands for as they are, the cells of references in their order. None
 -- where its expression or its operation overflows.

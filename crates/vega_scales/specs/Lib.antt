@@ -1,9 +1,7 @@
-pub mod Cells
-pub mod Counting
 pub mod Domains
 pub mod Entries
+pub mod Known
 pub mod Laws
-pub mod Orders
 pub mod Ranges
 pub mod Scales
 pub mod inner

@@ -19,10 +19,11 @@ use Rattle.tick_kit.specs.Steps.{step_of, spaced}
 use Rattle.scale_kit.specs.declared.scale.Scale.{Scale}
 use Rattle.scale_kit.specs.declared.scale.Scale.TheVariants.{Linear, Time, Band, Point, Ordinal, Ramp}
 use Rattle.scale_kit.specs.Scale.{IsPadding, IsRange, AreInstants}
+use Rattle.domain_kit.specs.Entries.{entries_turned, color_from, color_to, first_color, last_color}
 use Rattle.vega_scales.specs.declared.scaled.Scaled.{Scaled}
 use Rattle.vega_scales.specs.declared.scaled.Scaled.TheVariants.{Cells, Between}
 use Rattle.vega_scales.specs.Domains.{discrete_domain, continuous_domain}
-use Rattle.vega_scales.specs.Entries.{entries_of, entries_turned, color_from, color_to, first_color, last_color}
+use Rattle.vega_scales.specs.Entries.{entries_of}
 use Rattle.vega_scales.specs.Ranges.{two_numbers, ends_in, turned, padding_of}
 
 -- the codes of the kinds of scales

@@ -1,2 +1,2 @@
-pub mod Extents
-pub mod Held
+-- Words that only private contracts and proofs cite.
+pub mod RowEntries

@@ -5,10 +5,10 @@ ghost use Rattle.cell_value.specs.Datum.{datum_of};
 ghost use Rattle.plain_rows.specs.Rows.{AreRows};
 ghost use Rattle.vega_lists.specs.Held.{scope_read, AreAllRows};
 ghost use Rattle.vega_scales.specs.Domains.{column_of, cells_referred, entries_among, entries_referred};
-ghost use Rattle.vega_scales.specs.inner.Held.{entry_at};
+ghost use Rattle.vega_scales.specs.inner.RowEntries.{entry_at};
 
-use crate::keyed::Entry;
 use cell_value::{Cell, Keyed};
+use domain_kit::Entry;
 use plain_rows::cell_of;
 use std::alloc::Global;
 use text_kit::{OutOfMemory, Seq};

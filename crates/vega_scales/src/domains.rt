@@ -5,19 +5,18 @@ ghost use Rattle.expr_eval.specs.Answers.{Evaluates};
 ghost use Rattle.expr_eval.specs.Plain.{null_row};
 ghost use Rattle.expr_eval.specs.Value.{value_of};
 ghost use Rattle.vega_lists.specs.Held.{scope_read, AreAllRows};
-ghost use Rattle.vega_scales.specs.Cells.{in_first_order};
-ghost use Rattle.vega_scales.specs.Domains.{cells_in, reference_of, cells_referred, entries_referred, in_order, discrete_domain};
+ghost use Rattle.domain_kit.specs.Cells.{in_first_order};
+ghost use Rattle.domain_kit.specs.Counting.{extent_among, widened_as_asked};
+ghost use Rattle.domain_kit.specs.Orders.{in_direction, by_operation};
+ghost use Rattle.vega_scales.specs.Domains.{cells_in, reference_of, cells_referred, entries_referred, descends, in_order, discrete_domain};
 ghost use Rattle.vega_scales.specs.Domains.{cells_of_domain, counting_in, raw_domain, extent_of_domain, widened_domain};
-ghost use Rattle.vega_scales.specs.Counting.{extent_among, widened_as_asked};
-ghost use Rattle.vega_scales.specs.Orders.{in_direction, by_operation};
 ghost use Rattle.vega_scales.specs.Scales.{is_set, is_time, takes_zero, numbers_of_scale};
 
-use crate::counting::{Counting, extent_among, numbers_or_instants, pair_in};
+use crate::columns;
 use crate::evaluation::eval_alone;
 use crate::scales::{is_set, is_time, takes_zero};
-use crate::widening::widened_as_asked;
-use crate::{cells, columns, orders};
 use cell_value::Cell;
+use domain_kit::{Counting, numbers_or_instants, pair_in};
 use expr_eval::{EvalError, ParamReader};
 use expr_syntax::Expr;
 use fixed_num::Num;
@@ -52,8 +51,8 @@ fn cells_in(alloc: Global, value: Cell) -> Result<Seq<Cell>, OutOfMemory>
     }
 }
 
-// The cells that the value of an expression stands for.
-fn cells_of_value<P: ParamReader>(
+/// The cells that the value of an expression stands for.
+pub(crate) fn cells_of_value<P: ParamReader>(
     alloc: Global,
     e: &Expr,
     params: &P,
@@ -87,7 +86,18 @@ fn by_first_rows<L: ListReader>(
     ensures { IfOk result (λ out. out ≡ in_first_order (cells_referred (scope_read (L.named lists.now)) references.now)) }
 {
     let cells = columns::cells_referred(alloc, lists, references)?;
-    cells::in_first_order(alloc, cells.as_slice())
+    domain_kit::in_first_order(alloc, cells.as_slice())
+}
+
+/// Whether cells stand from the greatest to the least.
+pub(crate) fn descends(direction: Option<Order>) -> bool
+    ensures { result ≡ descends direction }
+{
+    match direction {
+        None => false,
+        Some(Order::Ascending) => false,
+        Some(Order::Descending) => true,
+    }
 }
 
 // The distinct cells of references by themselves.
@@ -98,10 +108,10 @@ fn by_cells<L: ListReader>(
     direction: Option<Order>,
 ) -> Result<Seq<Cell>, OutOfMemory>
     requires { AreAllRows (L.named lists.now) }
-    ensures { IfOk result (λ out. out ≡ in_direction direction (cells_referred (scope_read (L.named lists.now)) references.now)) }
+    ensures { IfOk result (λ out. out ≡ in_direction (descends direction) (cells_referred (scope_read (L.named lists.now)) references.now)) }
 {
     let cells = columns::cells_referred(alloc, lists, references)?;
-    orders::in_direction(alloc, direction, cells)
+    domain_kit::in_direction(alloc, descends(direction), cells)
 }
 
 // The distinct cells of references by an operation over a field.
@@ -114,10 +124,10 @@ fn by_field<L: ListReader>(
     field: &str,
 ) -> Result<Seq<Cell>, EvalError>
     requires { AreAllRows (L.named lists.now) }
-    ensures { Evaluates result (by_operation direction op (entries_referred (scope_read (L.named lists.now)) field.now references.now)) }
+    ensures { Evaluates result (by_operation (descends direction) op (entries_referred (scope_read (L.named lists.now)) field.now references.now)) }
 {
     let entries = columns::entries_referred(alloc, lists, field, references)?;
-    orders::by_operation(alloc, direction, op, entries.as_slice())
+    domain_kit::by_operation(alloc, descends(direction), op, entries.as_slice())
 }
 
 // The distinct cells of references in their order.
@@ -203,8 +213,8 @@ fn counting_in(of_time: bool, domain: &Domain) -> Counting
     }
 }
 
-// The domain that the raw domain of a scale gives, if its value is a pair.
-fn raw_domain<P: ParamReader>(
+/// The domain that the raw domain of a scale gives, if its value is a pair.
+pub(crate) fn raw_domain<P: ParamReader>(
     alloc: Global,
     scale: &Scale,
     params: &P,
@@ -221,12 +231,12 @@ fn raw_domain<P: ParamReader>(
     }
 }
 
-// The least and the greatest number among cells of the domain of a scale.
-fn extent_in(scale: &Scale, cells: &[Cell]) -> (Num, Num)
+/// The least and the greatest number among cells of the domain of a scale.
+pub(crate) fn extent_in(scale: &Scale, cells: &[Cell]) -> (Num, Num)
     ensures value { result ≡ extent_among (counting_in (is_time scale.now) scale.now.domain) cells.now }
     ensures ordered { result.0 ≤ℤ result.1 }
 {
-    extent_among(counting_in(is_time(scale), &scale.domain), cells)
+    domain_kit::extent_among(counting_in(is_time(scale), &scale.domain), cells)
 }
 
 // The least and the greatest number among the cells of the domain of a scale.
@@ -245,13 +255,13 @@ fn extent_of_domain<L: ListReader, P: ParamReader>(
     Ok(extent_in(scale, cells.as_slice()))
 }
 
-// A domain widened as a scale asks.
-fn widened(scale: &Scale, ends: (Num, Num)) -> Option<(Num, Num)>
+/// A domain widened as a scale asks.
+pub(crate) fn widened(scale: &Scale, ends: (Num, Num)) -> Option<(Num, Num)>
     requires { ends.0 ≤ℤ ends.1 }
     ensures value { result ≡ widened_as_asked (is_time scale.now) (takes_zero scale.now) (is_set scale.now.nice) ends }
     ensures ordered { IfSome result (λ ends. ends.0 ≤ℤ ends.1) }
 {
-    widened_as_asked(is_time(scale), takes_zero(scale), is_set(scale.nice), ends)
+    domain_kit::widened_as_asked(is_time(scale), takes_zero(scale), is_set(scale.nice), ends)
 }
 
 // The domain that the cells of a domain give.

@@ -1,7 +1,15 @@
-// A law that callers build on.
-ghost use Rattle.vega_scales.specs.Laws.{LengthIsSize};
+// Laws that callers build on.
+ghost use Rattle.vega_scales.specs.Laws.{LengthIsSize, NumbersGiveTheDomain, CellsGiveTheDomain, RanksGiveTheDomain};
 
 /// A scale that has a domain is as long as that.
 pub fn laws_of_scales()
     ensures { LengthIsSize }
+{}
+
+/// What is known of the cells of its references gives the domain of a scale: the numbers that count, the cells, or each cell by what an
+/// operation gives for it.
+pub fn laws_of_known_domains()
+    ensures numbers { NumbersGiveTheDomain }
+    ensures cells { CellsGiveTheDomain }
+    ensures ranks { RanksGiveTheDomain }
 {}

@@ -2,23 +2,20 @@
 //! their colours and signs, and their paddings.
 #![tactic(auto)]
 
-mod cells;
 mod columns;
-mod counting;
 mod domains;
 mod entries;
 mod evaluation;
-mod keyed;
+mod known;
 mod laws;
 mod numbers;
-mod orders;
 mod ranges;
 mod scaled;
 mod scales;
-mod widening;
 
 pub use domains::discrete_domain;
-pub use laws::laws_of_scales;
+pub use known::{domain_by_rank, domain_of_cells, domain_of_numbers};
+pub use laws::{laws_of_known_domains, laws_of_scales};
 pub use scaled::{Scaled, domain_size};
 pub use scales::{
     domain_length, domain_of, is_built, is_discrete, is_domain_built, is_ordinal, scale_of,

@@ -11,11 +11,12 @@ ghost use Rattle.vega_scales.specs.Scales.{is_order_built, is_domain_built, has_
 ghost use Rattle.vega_scales.specs.Scales.{has_entries, is_ramp, fits_range, is_built, KeepsBounds};
 
 use crate::domains::{continuous_domain, discrete_domain};
-use crate::entries::{color_from, color_to, entries_of, entries_turned};
+use crate::entries::entries_of;
 use crate::numbers::zero;
 use crate::ranges::{ends_in, padding_of, turned};
 use crate::scaled::Scaled;
 use cell_value::Cell;
+use domain_kit::{color_from, color_to, entries_turned};
 use expr_eval::{EvalError, ParamReader};
 use fixed_num::Num;
 use scale_kit::Scale;

@@ -13,7 +13,7 @@ use Rattle.plain_orders.specs.Partitions.{datum_at}
 use Rattle.plain_stacks.specs.declared.sums.Span.{Span}
 use Rattle.plain_stacks.specs.declared.sums.Sums.{Sums}
 use Rattle.plain_stacks.specs.Spans.{no_span, span_of}
-use Rattle.plain_stacks.specs.Stacks.{row_span}
+use Rattle.plain_stacks.specs.Stacks.{row_span_with}
 
 -- a value where it isn't negative, and where it is
 abbrev pub upward : ℤ → ℤ
@@ -62,4 +62,4 @@ pub record AreSummed (s : StackOf) (rows : List Datum) (homes ranks : List ℕ) 
   pub rank : (i : ℕ) → i < length rows → slice_index_or ranks i 0 < length (sums_at sums (slice_index_or homes i 0)).before
   pub span : (i : ℕ) → i < length rows
       → span_by s (datum_at rows i) (sums_at sums (slice_index_or homes i 0)) (slice_index_or ranks i 0) greatest
-      ≡ row_span s rows (datum_at rows i)
+      ≡ row_span_with s greatest rows (datum_at rows i)

@@ -1,8 +1,9 @@
-use Rattle.std.proofs.Common.{◌∙◌, ap, map, arith}
+use Rattle.std.proofs.Common.{◌∙◌, ap, map, subst, arith}
 use Rattle.std.proofs.lemmas.List.{length-map}
 use Rattle.cell_value.specs.Datum.{datum_of}
-use Rattle.plain_stacks.specs.Stacks.{amount}
-use Rattle.plain_stacks.proofs.StackLemmas.{summed_so, homes_within, places_within}
+use Rattle.expr_eval.specs.Answers.{Evaluates}
+use Rattle.plain_stacks.specs.Stacks.{amount, stacked_with}
+use Rattle.plain_stacks.proofs.StackLemmas.{summed_so, greatest_is, homes_within, places_within}
 use Rattle.plain_stacks.proofs.stacks.summed.Goals as goal
 
 pub all_sums-requires-clause-within : goal.all_sums-requires-clause-within
@@ -33,4 +34,14 @@ stacked_rows-requires-clause-summed c =
     c.as_slice-sums.result.now c.greatest_whole-greatest.result
     (c.as_slice.ensures ∙ c.in_ok-amounts.ensures ∙ ap
     (λ field. map (λ row. amount field (datum_of row)) c.args.rows.now) c.as_str.ensures)
-    (c.as_slice-sums.ensures ∙ c.in_ok-sums.ensures) c.greatest_whole-greatest.ensures
+    (c.as_slice-sums.ensures ∙ c.in_ok-sums.ensures)
+
+pub returns : goal.returns
+returns c =
+    subst (λ g. Evaluates c.stacked_rows.result (stacked_with c.args.s.now g c.args.rows.now))
+    (greatest_is c.args.s.now c.args.rows.now c.args.lists.now c.args.homes.now c.args.ranks.now c.requires.partitions c.as_slice.result.now
+    c.as_slice-sums.result.now c.greatest_whole-greatest.result
+    (c.as_slice.ensures ∙ c.in_ok-amounts.ensures ∙ ap
+    (λ field. map (λ row. amount field (datum_of row)) c.args.rows.now) c.as_str.ensures)
+    (c.as_slice-sums.ensures ∙ c.in_ok-sums.ensures) c.greatest_whole-greatest.ensures)
+    c.stacked_rows.ensures

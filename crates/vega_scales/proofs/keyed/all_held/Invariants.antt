@@ -1,6 +1,0 @@
-use Rattle.std.proofs.Common.{◌≡◌, take, flat_map}
-use Rattle.vega_scales.specs.inner.Held.{values_held}
-use Rattle.vega_scales.proofs.keyed.all_held.Given as goal
-
-abbrev pub invariant-loop-key : goal.invariant-loop-key
-invariant-loop-key l = l.values ≡ flat_map (values_held l.held) (take l.key-index l.keys)

@@ -1,7 +1,0 @@
-use Rattle.std.proofs.Common.{◌≡◌, take}
-use Rattle.vega_scales.specs.Orders.{values_under}
-use Rattle.vega_scales.specs.inner.Held.{values_held}
-use Rattle.vega_scales.proofs.keyed.held_of.Given as goal
-
-abbrev pub invariant-loop-entry : goal.invariant-loop-entry
-invariant-loop-entry l = values_held l.held ≡ values_under (take l.entry-index l.entries)
