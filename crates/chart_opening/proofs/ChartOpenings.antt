@@ -4,7 +4,7 @@ use Rattle.fixed_num.proofs.Steps.{bind_ok, guarded}
 use Rattle.json_exact.specs.declared.json.Json.{Json}
 use Rattle.vega_spec.specs.declared.spec.VgSpec.{VgSpec}
 use Rattle.vega_model.specs.Reading.{Refused, read_of}
-use Rattle.vega_charts.specs.Tested.{is_chart}
+use Rattle.vega_copies.specs.Tested.{is_chart}
 use Rattle.first_form.specs.declared.form.FirstForm.{FirstForm}
 use Rattle.first_form.specs.FirstForm.{form_of}
 use Rattle.first_form.specs.Opening.{bars_of}

@@ -2,7 +2,7 @@
 use Rattle.std.proofs.Common.{◌≡◌, true, Result, Ok, Err, IfOk, ap, ◌∙◌}
 use Rattle.cell_value.specs.State.{state_of}
 use Rattle.vega_spec.specs.declared.spec.VgSpec.{VgSpec}
-use Rattle.vega_charts.specs.Tested.{is_chart}
+use Rattle.vega_copies.specs.Tested.{is_chart}
 use Rattle.vega_meaning.specs.States.{IsStateOf}
 use Rattle.chart_opening.specs.declared.opened.Opened.{Opened}
 use Rattle.chart_opening.specs.declared.refusal.OpenStop.{OpenStop}

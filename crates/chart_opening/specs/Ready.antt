@@ -1,7 +1,7 @@
 -- What an engine asks of what is opened.
 use Rattle.std.specs.Prelude.{◌≡◌, true}
 use Rattle.cell_value.specs.State.{state_of}
-use Rattle.vega_charts.specs.Tested.{is_chart}
+use Rattle.vega_copies.specs.Tested.{is_chart}
 use Rattle.vega_meaning.specs.States.{IsStateOf}
 use Rattle.chart_opening.specs.declared.opened.Opened.{Opened}
 

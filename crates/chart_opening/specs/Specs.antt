@@ -6,7 +6,7 @@ use Rattle.json_exact.specs.declared.spec_error.SpecKind.TheVariants.{Unsupporte
 use Rattle.chart_io.specs.Outside.{Files}
 use Rattle.vega_spec.specs.declared.spec.VgSpec.{VgSpec}
 use Rattle.vega_model.specs.Reading.{Refused, read_of}
-use Rattle.vega_charts.specs.Tested.{is_chart}
+use Rattle.vega_copies.specs.Tested.{is_chart}
 use Rattle.first_form.specs.declared.form.FirstForm.{FirstForm}
 use Rattle.first_form.specs.FirstForm.{form_of}
 use Rattle.first_form.specs.Opening.{bars_of}

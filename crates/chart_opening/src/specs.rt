@@ -15,7 +15,7 @@ use first_form::{bars_of, first_form};
 use json_exact::{Json, SpecError, SpecKind};
 use std::alloc::Global;
 use text_kit::Text;
-use vega_charts::is_chart;
+use vega_copies::is_chart;
 use vega_spec::VgSpec;
 
 // Why what is no specification that is drawn yet is refused.

@@ -21,7 +21,7 @@ use Rattle.expr_syntax.specs.Writing.{text_of}
 use Rattle.chart_io.specs.Outside.{Files, file_of}
 use Rattle.cell_value.specs.declared.state.ChartState.{ChartState}
 use Rattle.vega_spec.specs.declared.spec.VgSpec.{VgSpec}
-use Rattle.vega_charts.specs.Tested.{is_chart}
+use Rattle.vega_copies.specs.Tested.{is_chart}
 use Rattle.vega_model.specs.Reading.{read_of}
 use Rattle.vega_writing.specs.Spec.{tree_of}
 use Rattle.compiled_bars.specs.Bars.{bars_over, width}

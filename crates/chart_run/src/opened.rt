@@ -2,7 +2,7 @@
 ghost use Rattle.std.specs.Prelude.{◌≡◌, ◌≤◌, Bool, true, IfErr, IfSome, IsErrOf};
 ghost use Rattle.chart_io.specs.Outside.{Rose, Kept};
 ghost use Rattle.cell_value.specs.State.{state_of};
-ghost use Rattle.vega_charts.specs.Tested.{is_chart};
+ghost use Rattle.vega_copies.specs.Tested.{is_chart};
 ghost use Rattle.vega_meaning.specs.States.{IsStateOf};
 ghost use Rattle.plain_engine.specs.Engine.{meaning_of};
 ghost use Rattle.chart_opening.specs.Charts.{drawn_of, drawn_by};

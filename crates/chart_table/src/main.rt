@@ -6,7 +6,7 @@
 
 ghost use Rattle.std.specs.Prelude.{◌≡◌, true};
 ghost use Rattle.vega_lists.specs.Held.{AreSources};
-ghost use Rattle.vega_charts.specs.Tested.{is_chart};
+ghost use Rattle.vega_copies.specs.Tested.{is_chart};
 
 mod opening;
 mod shown;
@@ -15,12 +15,13 @@ mod written;
 use cell_value::{Cell, Named};
 use json_exact::Json;
 use opening::{params_of, sources_of};
+use plot_scenes::Drawing;
 use shown::said_of_drawing;
 use std::alloc::Global;
 use std::io;
 use text_kit::{OutOfMemory, Text};
-use vega_charts::{DrawError, charts_are_tested, drawing_of, is_chart};
-use vega_scenes::Drawing;
+use vega_charts::{DrawError, drawing_of};
+use vega_copies::{charts_are_tested, is_chart};
 use vega_spec::VgSpec;
 use written::is_written_again;
 

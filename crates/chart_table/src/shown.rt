@@ -2,12 +2,12 @@
 use cell_value::{Cell, Row};
 use chart_io::ListSink;
 use fixed_num::Num;
+use plot_scenes::Drawing;
 use scale_kit::{Scale, ScaleIn};
 use scene_tree::{Panel, Scene};
 use std::alloc::Global;
 use svg_text::print;
 use text_kit::{OutOfMemory, Text};
-use vega_scenes::Drawing;
 
 // Adds a number and what stands behind it.
 fn say_number(out: &mut Text, number: Num, end: &str) -> Result<(), OutOfMemory> {

@@ -3,10 +3,10 @@ use Rattle.std.proofs.Common.{◌≡◌, ℕ, ◌&&◌, List, [], ◌∷◌, ◌
 use Rattle.vega_spec.specs.Names.{sources_here, mark_sources_here, mark_sources, sources_of}
 use Rattle.vega_spec.specs.declared.spec.Group.{Group, Group-F, out-Group, out-roll-Group, fold-roll-Group}
 use Rattle.vega_spec.specs.declared.spec.VgMark.{VgMark, VgMark-F, out-VgMark, out-roll-VgMark, fold-roll-VgMark}
-use Rattle.vega_charts.specs.Outlines.{Object, Opened, Marks, NoMarks, AMark, object_here, opened, numbered, outline_of}
-use Rattle.vega_charts.specs.Tested.{is_outline, has_sizes, are_new}
-use Rattle.vega_charts.specs.inner.Outlined.{marks_in, marks_of, is_group, plain_of}
-use Rattle.vega_charts.proofs.OutlineLemmas.{opened_object, opened_marks, plain_from}
+use Rattle.vega_copies.specs.Outlines.{Object, Opened, Marks, NoMarks, AMark, object_here, opened, numbered, outline_of}
+use Rattle.vega_copies.specs.Tested.{is_outline, has_sizes, are_new}
+use Rattle.vega_copies.specs.inner.Outlined.{marks_in, marks_of, is_group, plain_of}
+use Rattle.vega_copies.proofs.OutlineLemmas.{opened_object, opened_marks, plain_from}
 use Rattle.first_form.specs.declared.form.FirstForm.{FirstForm}
 use Rattle.first_form.specs.Opening.{no_parts, mark_parts, bars_mark, bars_parts, bars_group, bars_of}
 use Rattle.first_form.specs.Laws.{BarsAreCharts}

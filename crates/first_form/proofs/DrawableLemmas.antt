@@ -1,12 +1,11 @@
 -- Why a form that can be drawn has a chart.
-use Rattle.std.proofs.Common.{◌≡◌, ℕ, suc, ◌+◌, ◌*◌, ◌≤◌, ◌^◌, ℤ, pos, ◌≤ℤ◌, ◌+ℤ◌, ◌-ℤ◌, Bool, true, false, if◌then◌else◌, List, [], ◌∷◌}
+use Rattle.std.proofs.Common.{◌≡◌, ℕ, suc, ◌+◌, ◌*◌, ◌≤◌, ◌^◌, ℤ, pos, ◌≤ℤ◌, ◌-ℤ◌, Bool, true, false, if◌then◌else◌, List, [], ◌∷◌}
 use Rattle.std.proofs.Common.{length, map, Option, Some, None, unsigned_abs, arith, refl, sym, ap, subst, ◌∙◌}
-use Rattle.std.specs.Prelude.{IfSome}
 use Rattle.std.specs.Option.{option_map}
 use Rattle.std.specs.Result.{result_ok}
 use Rattle.std.specs.Int.{int_min, int_max}
 use Rattle.std.specs.Str.{bytes_eq}
-use Rattle.std.specs.List.{All, cons_option, filter_map}
+use Rattle.std.specs.List.{All, filter_map}
 use Rattle.std.specs.declared.cmp.Ordering.{Ordering}
 use Rattle.std.specs.declared.cmp.Ordering.TheVariants.{Less, Equal, Greater}
 use Rattle.std.proofs.lemmas.Int.{ints, clamps}
@@ -20,15 +19,13 @@ use Rattle.cell_value.specs.Datum.{id_name}
 use Rattle.scene_tree.specs.declared.scene.Item.{Item}
 use Rattle.scene_tree.specs.declared.scene.Scene.{Scene}
 use Rattle.scene_tree.specs.declared.shape.Shape.TheVariants.{Rect}
-use Rattle.scene_tree.specs.Moves.{moved_to, moved_place}
 use Rattle.scene_tree.specs.Outcome.{outcome_map, in_reach}
 use Rattle.svg_text.specs.SceneText.{svg_of}
 use Rattle.tick_kit.specs.Domains.{placed_in, ascending, least, greatest, extent_of, with_zero}
 use Rattle.tick_kit.specs.Steps.{nice_of}
 use Rattle.scale_kit.specs.Bands.{width_of_band}
 use Rattle.scale_kit.specs.Places.{place_of, base_of}
-use Rattle.vega_guides.specs.Plots.{plain_scene}
-use Rattle.vega_charts.specs.OnePlotLaws.{StaysInPlace}
+use Rattle.plot_scenes.specs.OnePlot.{plain_scene}
 use Rattle.first_form.specs.declared.form.FirstForm.{FirstForm}
 use Rattle.first_form.specs.declared.form.Value.{Value}
 use Rattle.first_form.specs.Bars.{with_ids, Reading, reading_of, readings_of, amounts_of, categories_of, pixels, default_color}
@@ -132,7 +129,6 @@ bar_at id width base end x = option_map (bar_over_place id width base end (pos (
 pub record IsBar (domain : List Cell) (n : ℕ) (r : Reading) : Type 0 where
   pub x : Option ℤ
   pub x_known : result_ok (place_of (x_scale domain) r.category) ≡ Some x
-  pub x_in_range : IfSome x IsNumber
   pub end_known : IsPlace (place_to n r.amount)
 
 pub is_bar : (domain : List Cell) (n : ℕ) (r : Reading) → length domain ≤ 1000 → IsAmount r.amount → r.amount ≤ℤ pos n → IsBar domain n r
@@ -142,7 +138,6 @@ is_bar domain n r few is below =
     record {
       x = place.0;
       x_known = place.1;
-      x_in_range = place.2;
       end_known = subst (λ a. IsPlace (place_to n a)) (sym whole) (place_within n (unsigned_abs r.amount) (omega (arith, ints)));
     }
 
@@ -173,31 +168,6 @@ module _ (domain : List Cell) (n : ℕ) where
       ap (λ o. o >>= (λ x. in_range end >>= (λ end. bar_over r.id width base end x))) is.x_known
       ∙ ap (λ o. o >>= (λ end. bar_over r.id width base end is.x)) (place_in_range end is.end_known)
       ∙ over_drawn r.id width base end is.x (base_within n) is.end_known
-
--- a bar over a place in range stays where it is where it is moved by nothing
-number_stays : (z : ℤ) → IsNumber z → in_range (z +ℤ pos 0) ≡ Some z
-number_stays z within = let same : z +ℤ pos 0 ≡ z = omega (arith, ints) in ap in_range same ∙ in_range_at_number z within
-
-place_stays : (x y : ℤ) → IsNumber x → IsNumber y → moved_place (pos 0) (pos 0) x y ≡ Some (x, y)
-place_stays x y across down =
-    ap (λ o. o >>= (λ a. moved_to (pos 0) y >>= (λ b. Some (a, b)))) (number_stays x across)
-    ∙ ap (λ o. o >>= (λ b. Some (x, b))) (number_stays y down)
-
-bar_stays : (id : ℕ) (width base end height x : ℤ) → IsPlace base → IsPlace end → IsNumber x
-    → StaysInPlace (bar_over_place id width base end height x)
-bar_stays id width base end height x b e within =
-    let top = int_min end base in
-    let high : IsNumber top = (omega (arith, ints, clamps, b.low, e.low), omega (arith, ints, clamps, b.high, e.high)) in
-    ap (λ o. option_map (λ shape. record (bar_over_place id width base end height x) { shape = shape })
-    (o >>= (λ corner. Some (Rect corner.0 corner.1 width height)))) (place_stays x top within high)
-
--- a bar, if its band has a place, before others
-bar_before : (id : ℕ) (size bottom end : ℤ) (x : Option ℤ) (others : List Item) → IsPlace bottom → IsPlace end → IfSome x IsNumber
-    → All StaysInPlace others → All StaysInPlace (cons_option (bar_at id size bottom end x) others)
-bar_before id size bottom end None others b e within all = all
-bar_before id size bottom end (Some x) others b e within all =
-    let height = pos (unsigned_abs (bottom -ℤ end)) in
-    All-cons StaysInPlace (bar_over_place id size bottom end height x) others (bar_stays id size bottom end height x b e within) all
 
 -- what is known of the scene of readings: the end of their nice domain, and each of their bars
 pub record IsScene (rs : List Reading) : Type 0 where
@@ -242,17 +212,12 @@ form_scene form drawable =
 -- all bars are drawn
 pub bars_drawn : (domain : List Cell) (n : ℕ) (rs : List Reading) → All (IsBar domain n) rs
     → (bars : List (Option Item)) × (all_found (map (bar_of (x_scale domain) (pos 0, pos n)) rs) ≡ Some bars)
-    × All StaysInPlace (filter_map (λ bar. bar) bars)
-bars_drawn domain n [] all = ([], refl, All-nil StaysInPlace)
+bars_drawn domain n [] all = ([], refl)
 bars_drawn domain n (r ∷ rs) all =
     let is = All-head (IsBar domain n) r rs all in
     let bar = bar_at r.id (width domain n) (base domain n) (place_to n r.amount) is.x in
-    let rest = bars_drawn domain n rs (All-tail (IsBar domain n) r rs all) in (
-      bar ∷ rest.0,
-      (λ i. bar_drawn domain n r is i >>= (λ x. rest.1 i >>= (λ xs. Some (x ∷ xs)))),
-      bar_before r.id (width domain n) (base domain n) (place_to n r.amount) is.x (filter_map (λ bar. bar) rest.0) (base_within n) is.end_known
-          is.x_in_range rest.2,
-    )
+    let rest = bars_drawn domain n rs (All-tail (IsBar domain n) r rs all) in
+    (bar ∷ rest.0, λ i. bar_drawn domain n r is i >>= (λ x. rest.1 i >>= (λ xs. Some (x ∷ xs))))
 
 -- a scene over a nice domain and with its bars
 abbrev scene_with_bars : List Reading → ℤ × ℤ → Option Scene

@@ -55,18 +55,20 @@ use Rattle.vega_scales.specs.Domains.{column_of}
 use Rattle.vega_scales.specs.declared.scaled.Scaled.{Scaled}
 use Rattle.vega_scales.specs.declared.scaled.Scaled.TheVariants.{Cells}
 use Rattle.vega_scales.specs.Scales.{between}
-use Rattle.mark_encode.specs.declared.looks.Look.{Look}
-use Rattle.mark_encode.specs.declared.shown.Shown.TheVariants.{Absent}
-use Rattle.mark_encode.specs.declared.spans.Span.{Span}
+use Rattle.mark_shapes.specs.declared.looks.Look.{Look}
+use Rattle.mark_shapes.specs.declared.shown.Shown.TheVariants.{Absent}
+use Rattle.mark_shapes.specs.declared.spans.Span.{Span}
+use Rattle.mark_shapes.specs.Shown.{shown}
+use Rattle.mark_shapes.specs.Spans.{span_of}
+use Rattle.mark_shapes.specs.Rects.{rect_over}
+use Rattle.mark_shapes.specs.Items.{item_with}
 use Rattle.mark_encode.specs.Channels.{channel_values}
-use Rattle.mark_encode.specs.Values.{share_of_band, moved, shown}
-use Rattle.mark_encode.specs.Spans.{span_of}
-use Rattle.mark_encode.specs.Rects.{rect_over}
-use Rattle.mark_encode.specs.Items.{item_with, item_for, items_for}
+use Rattle.mark_encode.specs.Values.{share_of_band, moved}
+use Rattle.mark_encode.specs.Items.{item_for, items_for}
 use Rattle.vega_signals.specs.Settling.{values_inside}
-use Rattle.vega_scenes.specs.declared.scenes.Drawing.{Drawing}
+use Rattle.plot_scenes.specs.declared.scenes.Drawing.{Drawing}
 use Rattle.vega_charts.specs.Sizes.{size_in, size_of}
-use Rattle.vega_charts.specs.Scopes.{Names, names_at_top}
+use Rattle.vega_copies.specs.Scopes.{Names, names_at_top}
 use Rattle.vega_charts.specs.Scales.{ScaleHere, own_scale, and_outer, with_domains}
 use Rattle.vega_charts.specs.Copies.{Frame, with_scales}
 use Rattle.vega_charts.specs.Tops.{of_chart, round_top, sized_top, top_frame}
@@ -451,7 +453,6 @@ same_scene form drawable =
       named = named form rows;
       framed = framed form rows cells (pos 0, pos known.end) known.few along up;
       found = bars_found form cells known.end known.few drawable.apart vs known.bars bars.0 bars.1;
-      stay = bars.2;
     }) (record { axes = refl; legends = refl; title = refl }) (omega (arith, ints), omega (arith, ints))
     (cut_width _ (space_above (length cells))) (omega (arith, ints), omega (arith, ints))
     ∙ ap in_reach (sym (scene_from rs known bars.0 bars.1))

@@ -23,7 +23,7 @@ use Rattle.scene_tree.specs.declared.scene.Item.{Item}
 use Rattle.scene_tree.specs.declared.shape.Shape.TheVariants.{Rect}
 use Rattle.scene_tree.specs.Outcome.{Outcome, outcome_map, in_reach}
 use Rattle.svg_text.specs.SceneText.{svg_of}
-use Rattle.vega_guides.specs.Plots.{plain_scene}
+use Rattle.plot_scenes.specs.OnePlot.{plain_scene}
 use Rattle.first_form.specs.declared.form.FirstForm.{FirstForm}
 use Rattle.first_form.specs.declared.form.Value.{Value}
 

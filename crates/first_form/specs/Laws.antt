@@ -5,7 +5,7 @@ use Rattle.cell_value.specs.declared.state.Keyed.{Keyed}
 use Rattle.cell_value.specs.State.{state_of}
 use Rattle.data_rows.specs.JsonRows.{rows_of_json}
 use Rattle.scene_tree.specs.Outcome.{Drawn}
-use Rattle.vega_charts.specs.Tested.{is_chart}
+use Rattle.vega_copies.specs.Tested.{is_chart}
 use Rattle.vega_meaning.specs.Charts.{vega_chart_of}
 use Rattle.vega_meaning.specs.States.{IsStateOf}
 use Rattle.first_form.specs.declared.form.FirstForm.{FirstForm}

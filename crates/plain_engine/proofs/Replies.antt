@@ -29,7 +29,7 @@ use Rattle.param_flow.specs.Machine.{reply_to_set, state_changed, state_if, stat
 use Rattle.param_flow.specs.Machine.{reply_of, state_after}
 use Rattle.vega_spec.specs.declared.spec.VgSpec.{VgSpec}
 use Rattle.vega_spec.specs.Names.{sources_of}
-use Rattle.vega_charts.specs.Tested.{is_chart}
+use Rattle.vega_copies.specs.Tested.{is_chart}
 use Rattle.vega_meaning.specs.Charts.{scene_over}
 use Rattle.vega_meaning.specs.Semantics.{vega_semantics, signals_in, values_in}
 use Rattle.vega_meaning.specs.States.{IsStateOf}

@@ -2,7 +2,7 @@
 ghost use Rattle.std.specs.Prelude.{◌≡◌, true, Some, IfOk, OnErr};
 ghost use Rattle.cell_value.specs.State.{state_of};
 ghost use Rattle.param_flow.specs.Machine.{reply_to_change, reply_to_set, state_changed, state_if, state_set};
-ghost use Rattle.vega_charts.specs.Tested.{is_chart};
+ghost use Rattle.vega_copies.specs.Tested.{is_chart};
 ghost use Rattle.vega_meaning.specs.Semantics.{vega_semantics, values_in};
 ghost use Rattle.vega_meaning.specs.States.{IsStateOf};
 ghost use Rattle.plain_engine.specs.inner.Kept.{IsKept, IsKept-prop};

@@ -2,7 +2,7 @@
 ghost use Rattle.std.specs.Prelude.{◌≡◌, map, true};
 ghost use Rattle.cell_value.specs.State.{IsState, dataset_of, state_of};
 ghost use Rattle.vega_lists.specs.Held.{AreSources};
-ghost use Rattle.vega_charts.specs.Tested.{is_chart};
+ghost use Rattle.vega_copies.specs.Tested.{is_chart};
 ghost use Rattle.vega_meaning.specs.Answers.{Draws};
 ghost use Rattle.vega_meaning.specs.Charts.{scene_over, vega_scene_of};
 

@@ -3,7 +3,7 @@ ghost use Rattle.std.specs.Prelude.{◌≡◌, ◌≤◌, ◌<◌, ◌+◌, ◌+
 ghost use Rattle.std.specs.Str.{bytes_eq};
 ghost use Rattle.cell_value.specs.State.{IsState, state_of, dataset_of, most_rows, greatest_id};
 ghost use Rattle.vega_lists.specs.Held.{AreSources};
-ghost use Rattle.vega_charts.specs.Tested.{is_chart};
+ghost use Rattle.vega_copies.specs.Tested.{is_chart};
 ghost use Rattle.vega_meaning.specs.Charts.{scene_over};
 ghost use Rattle.vega_meaning.specs.Semantics.{signals_in};
 ghost use Rattle.param_flow.specs.Machine.{state_if, reply_to_chart};

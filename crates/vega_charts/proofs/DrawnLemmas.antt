@@ -12,7 +12,7 @@ use Rattle.cell_value.specs.declared.state.Keyed.{Keyed}
 use Rattle.plain_rows.specs.Rows.{AreRows}
 use Rattle.plain_orders.specs.Listed.{data_of, AreListed}
 use Rattle.plain_orders.proofs.ListedLemmas.{rows_are_listed}
-use Rattle.vega_charts.specs.inner.Levels.{rows_behind}
+use Rattle.vega_copies.specs.inner.Levels.{rows_behind}
 use Rattle.expr_eval.specs.Answers.{Evaluates}
 use Rattle.expr_eval.specs.declared.error.EvalError.{EvalError}
 use Rattle.expr_eval.specs.declared.error.EvalError.TheVariants as error
@@ -23,26 +23,25 @@ use Rattle.vega_spec.specs.declared.marks.MarkFrom.{MarkFrom}
 use Rattle.vega_spec.specs.declared.marks.MarkFrom.TheVariants as from
 use Rattle.vega_lists.specs.Held.{scope_read}
 use Rattle.vega_lists.specs.Inside.{RowsByName}
-use Rattle.vega_scenes.specs.Axes.{seen, AxisShown}
-use Rattle.vega_scenes.specs.declared.legends.LegendShown.{LegendShown}
-use Rattle.vega_scenes.specs.declared.axes.AxisShown.{AxisShown as AxisHeld}
-use Rattle.vega_charts.specs.Outlines.{Marks, count_marks, count_groups}
+use Rattle.plot_scenes.specs.declared.axes.AxisShown.{AxisShown}
+use Rattle.plot_scenes.specs.declared.legends.LegendShown.{LegendShown}
+use Rattle.vega_copies.specs.Outlines.{Marks, count_marks, count_groups}
 use Rattle.vega_charts.specs.Items.{rows_of_mark, items_in_copy}
 use Rattle.vega_charts.specs.Copies.{Frame, moved_copy}
-use Rattle.vega_charts.specs.Facets.{copies_of}
+use Rattle.vega_copies.specs.Facets.{copies_of}
 use Rattle.vega_charts.specs.Plots.{Inside, and_inside, all_inside, nothing_inside, items_inside, drawn_in}
-use Rattle.vega_charts.specs.inner.Outlined.{marks_in, is_group, marks_of, marks_from, plain_of, group_object, AreFew}
+use Rattle.vega_copies.specs.inner.Outlined.{marks_in, is_group, marks_of, marks_from, plain_of, group_object, AreFew}
 use Rattle.vega_charts.specs.inner.Framed.{frame_seen}
 use Rattle.vega_charts.specs.inner.Drawn.{inside_seen, IsInside, DrawsMore, rows_in_frame, sources_of, drawn_inside, drawn_group}
-use Rattle.vega_charts.specs.declared.made.CopiesMade.{CopiesMade}
-use Rattle.vega_charts.specs.inner.Made.{levels_behind, HaveCopies, OneMade}
-use Rattle.vega_charts.specs.inner.Standing.{MayStand}
+use Rattle.vega_copies.specs.declared.made.CopiesMade.{CopiesMade}
+use Rattle.vega_copies.specs.inner.Made.{levels_behind, HaveCopies, OneMade}
+use Rattle.vega_copies.specs.inner.Standing.{MayStand}
 use Rattle.vega_charts.specs.declared.frames.Frame.{Frame as HeldFrame}
 use Rattle.vega_charts.specs.declared.inside.Inside.{Inside as HeldInside}
-use Rattle.vega_charts.proofs.CopyLemmas.{data_behind}
-use Rattle.vega_charts.proofs.MadeLemmas.{at_place}
-use Rattle.vega_charts.proofs.OutlineLemmas.{plain_from, group_from, plain_counted, group_counted, plain_grouped, group_grouped}
-use Rattle.vega_charts.proofs.StandLemmas.{stand_first, stand_rest, few_first, few_rest}
+use Rattle.vega_copies.proofs.CopyLemmas.{data_behind}
+use Rattle.vega_copies.proofs.MadeLemmas.{at_place}
+use Rattle.vega_copies.proofs.OutlineLemmas.{plain_from, group_from, plain_counted, group_counted, plain_grouped, group_grouped}
+use Rattle.vega_copies.proofs.StandLemmas.{stand_first, stand_rest, few_first, few_rest}
 
 -- ---- one after the other
 
@@ -108,14 +107,14 @@ pub adds_items : (old : HeldInside) (items grown : List Item) (o : Option (List 
     → option_map (and_inside (inside_seen old)) (option_map items_inside o) ≡ Some (inside_seen (record old { items = grown }))
 adds_items old items grown o e adds =
     ap (λ found. option_map (and_inside (inside_seen old)) (option_map items_inside found)) e
-    ∙ ap Some (λ i. record { axes = append-nil (map seen old.axes) i; legends = append-nil old.legends i; items = sym adds i })
+    ∙ ap Some (λ i. record { axes = append-nil old.axes i; legends = append-nil old.legends i; items = sym adds i })
 
-pub adds_guides : (old : HeldInside) (axes : List AxisHeld) (legends : List LegendShown) (a : List AxisShown) (l : List LegendShown)
-    → map seen axes ≡ map seen old.axes ++ a → legends ≡ old.legends ++ l
+pub adds_guides : (old : HeldInside) (axes : List AxisShown) (legends : List LegendShown) (a : List AxisShown) (l : List LegendShown)
+    → axes ≡ old.axes ++ a → legends ≡ old.legends ++ l
     → inside_seen (record old { axes = axes; legends = legends })
     ≡ and_inside (inside_seen old) (record { axes = a ++ []; legends = l ++ []; items = [] })
 adds_guides old axes legends a l more_axes more_legends = λ i. record {
-  axes = (more_axes ∙ ap (λ x. map seen old.axes ++ x) (sym (append-nil a))) i;
+  axes = (more_axes ∙ ap (λ x. old.axes ++ x) (sym (append-nil a))) i;
   legends = (more_legends ∙ ap (λ x. old.legends ++ x) (sym (append-nil l))) i;
   items = sym (append-nil old.items) i;
 }

@@ -14,24 +14,25 @@ use Rattle.expr_eval.specs.declared.error.EvalError.TheVariants as error
 use Rattle.mark_encode.specs.declared.channels.ChannelName.TheVariants as channel
 use Rattle.vega_spec.specs.declared.spec.Group.{Group}
 use Rattle.vega_spec.specs.declared.spec.VgMark.{VgMark, VgMark-F, out-VgMark}
-use Rattle.vega_charts.specs.Outlines.{Object}
-use Rattle.vega_charts.specs.Scopes.{Names, keeps_signals}
+use Rattle.vega_copies.specs.Outlines.{Object}
+use Rattle.vega_copies.specs.Scopes.{Names, keeps_signals}
 use Rattle.vega_charts.specs.Scales.{ScaleHere, own_scale, and_outer}
-use Rattle.vega_charts.specs.Copies.{Frame, encoded_number, inside_of, with_scales, more_cells, of_no_chart, names_in_copy}
+use Rattle.vega_charts.specs.Copies.{Frame, encoded_number, inside_of, with_scales, more_cells, of_no_chart}
+use Rattle.vega_copies.specs.CopyNames.{names_in_copy}
 use Rattle.vega_charts.specs.Plots.{Inside, and_inside, all_inside, nothing_inside, axes_over, own_axes, legends_in, with_guides}
 use Rattle.vega_charts.specs.declared.frames.Frame.{Frame as HeldFrame}
 use Rattle.vega_charts.specs.declared.inside.Inside.{Inside as HeldInside}
-use Rattle.vega_charts.specs.declared.names.Level.{Level}
-use Rattle.vega_charts.specs.inner.Levels.{AreLevels, kept_names}
-use Rattle.vega_charts.specs.inner.Outlined.{is_group, group_object, AreFew}
+use Rattle.vega_copies.specs.declared.names.Level.{Level}
+use Rattle.vega_copies.specs.inner.Levels.{AreLevels, kept_names}
+use Rattle.vega_copies.specs.inner.Outlined.{is_group, group_object, AreFew}
 use Rattle.vega_charts.specs.inner.Framed.{frame_seen, cells_seen, entered, IsFrame}
 use Rattle.vega_charts.specs.inner.Drawn.{inside_seen, IsInside, DrawsMore, sources_of, placed_from, drawn_inside, drawn_framed, drawn_named, drawn_copy, drawn_group}
-use Rattle.vega_charts.proofs.OutlineLemmas.{group_grouped}
+use Rattle.vega_copies.proofs.OutlineLemmas.{group_grouped}
 use Rattle.vega_charts.proofs.DrawnLemmas.{nothing_last, joined, and_rest, behind_both, none_behind, none_drawn}
-use Rattle.vega_charts.specs.declared.made.CopiesMade.{CopiesMade, out-CopiesMade}
-use Rattle.vega_charts.specs.declared.made.CopyMade.{CopyMade, out-CopyMade}
-use Rattle.vega_charts.specs.inner.Made.{levels_behind, names_under, made_seen, IsCopyMade, OneMade}
-use Rattle.vega_charts.proofs.MadeLemmas.{kept_in_made, names_entered_are, copies_are, each_copy_made}
+use Rattle.vega_copies.specs.declared.made.CopiesMade.{CopiesMade, out-CopiesMade}
+use Rattle.vega_copies.specs.declared.made.CopyMade.{CopyMade, out-CopyMade}
+use Rattle.vega_copies.specs.inner.Made.{levels_behind, names_under, made_seen, IsCopyMade, OneMade}
+use Rattle.vega_copies.proofs.MadeLemmas.{kept_in_made, names_entered_are, copies_are, each_copy_made}
 
 -- ---- a copy of a group by its names
 

@@ -11,30 +11,30 @@ use Rattle.fixed_num.specs.Ranges.{◌>>=◌, all_found}
 use Rattle.fixed_num.proofs.FoundLemmas.{after, one_more}
 use Rattle.vega_spec.specs.declared.spec.Group.{Group, out-Group}
 use Rattle.vega_spec.specs.declared.spec.VgMark.{VgMark, VgMark-F, out-VgMark}
-use Rattle.vega_scenes.specs.declared.headers.Header.{Header}
-use Rattle.vega_scenes.specs.declared.views.Placed.{Placed}
-use Rattle.vega_scenes.specs.Views.{HasLegends}
-use Rattle.vega_charts.specs.declared.made.CopiesMade.{CopiesMade, out-CopiesMade}
-use Rattle.vega_charts.specs.declared.made.CopyMade.{CopyMade}
+use Rattle.plot_scenes.specs.declared.headers.Header.{Header}
+use Rattle.plot_scenes.specs.declared.views.Placed.{Placed}
+use Rattle.plot_scenes.specs.Views.{HasLegends}
+use Rattle.vega_copies.specs.declared.made.CopiesMade.{CopiesMade, out-CopiesMade}
+use Rattle.vega_copies.specs.declared.made.CopyMade.{CopyMade}
 use Rattle.vega_charts.specs.declared.grids.Place.{Place}
-use Rattle.vega_charts.specs.declared.names.NamesAt.{NamesAt}
+use Rattle.vega_copies.specs.declared.names.NamesAt.{NamesAt}
 use Rattle.vega_charts.specs.declared.spots.Grid.{Grid}
 use Rattle.vega_charts.specs.declared.spots.Spot.{Spot}
-use Rattle.vega_charts.specs.Outlines.{Object, Marks, count_marks, count_groups}
-use Rattle.vega_charts.specs.Facets.{Copy, copies_of}
+use Rattle.vega_copies.specs.Outlines.{Object, Marks, count_marks, count_groups}
+use Rattle.vega_copies.specs.Facets.{Copy, copies_of}
 use Rattle.vega_charts.specs.Scales.{past, axis_past, spot_of}
 use Rattle.vega_charts.specs.Copies.{Frame, copy_in}
 use Rattle.vega_charts.specs.Grids.{headers_of, frame_past, with_size}
 use Rattle.vega_charts.specs.Plots.{views_in}
-use Rattle.vega_charts.specs.inner.Copied.{scope_at}
-use Rattle.vega_charts.specs.inner.Made.{levels_behind, made_seen, IsCopyMade}
-use Rattle.vega_charts.specs.inner.Outlined.{marks_in, marks_of, marks_from, is_group, group_object, AreFew}
+use Rattle.vega_copies.specs.inner.Copied.{scope_at}
+use Rattle.vega_copies.specs.inner.Made.{levels_behind, made_seen, IsCopyMade}
+use Rattle.vega_copies.specs.inner.Outlined.{marks_in, marks_of, marks_from, is_group, group_object, AreFew}
 use Rattle.vega_charts.specs.inner.Drawn.{rows_in_frame, sources_of}
-use Rattle.vega_charts.specs.inner.Standing.{MayStand}
+use Rattle.vega_copies.specs.inner.Standing.{MayStand}
 use Rattle.vega_charts.specs.inner.Placed.{place_seen, IsFound, count_found, view_inside, view_at, cell_seen, mark_seen, place_past, AddsViews}
-use Rattle.vega_charts.proofs.OutlineLemmas.{plain_from, group_from, group_counted, group_grouped, plain_counted, plain_grouped}
-use Rattle.vega_charts.proofs.StandLemmas.{stand_first, stand_rest, few_first, few_rest}
-use Rattle.vega_charts.proofs.MadeLemmas.{at_place}
+use Rattle.vega_copies.proofs.OutlineLemmas.{plain_from, group_from, group_counted, group_grouped, plain_counted, plain_grouped}
+use Rattle.vega_copies.proofs.StandLemmas.{stand_first, stand_rest, few_first, few_rest}
+use Rattle.vega_copies.proofs.MadeLemmas.{at_place}
 use Rattle.vega_charts.proofs.LayoutLemmas.{no_copies, so_many}
 
 -- ---- lists that are found bit by bit

@@ -3,7 +3,7 @@ use Rattle.std.proofs.Common.{◌≡◌, ◌⊎◌, inl, inr, filter_map, ℕ, O
 use Rattle.std.specs.Prelude.{zip}
 use Rattle.cell_value.specs.declared.cell.Cell.{Cell}
 use Rattle.vega_spec.specs.declared.marks.Header.{Header as HeaderPlace}
-use Rattle.vega_scenes.specs.declared.headers.Header.{Header}
+use Rattle.plot_scenes.specs.declared.headers.Header.{Header}
 use Rattle.vega_charts.specs.Grids.{header_for}
 
 -- headers at a place, where nothing is left

@@ -17,16 +17,18 @@ use Rattle.scene_tree.specs.declared.scene.Item.{Item}
 use Rattle.scene_tree.specs.declared.shape.Point.{Point}
 use Rattle.scene_tree.specs.declared.shape.Shape.{Shape}
 use Rattle.vega_spec.specs.declared.marks.MarkType.{MarkType}
+use Rattle.mark_shapes.specs.declared.looks.Look.{Look}
+use Rattle.mark_shapes.specs.declared.runs.Stop.{Stop}
+use Rattle.mark_shapes.specs.Runs.{points_of}
+use Rattle.mark_shapes.specs.Paths.{path_item}
+use Rattle.mark_shapes.specs.Items.{item_with}
 use Rattle.mark_encode.specs.declared.channels.ChannelName.{ChannelName}
-use Rattle.mark_encode.specs.declared.looks.Look.{Look}
-use Rattle.mark_encode.specs.declared.runs.Stop.{Stop}
 use Rattle.mark_encode.specs.Channels.{ScaledValue, channel_values}
 use Rattle.mark_encode.specs.Looks.{default_stroke_width, look_for, looks_of, painted_on}
 use Rattle.mark_encode.specs.Orders.{rows_in_order}
-use Rattle.mark_encode.specs.Paths.{PathValues, stops_for, path_look_for, path_item, path_over, is_closed, path_values_of}
-use Rattle.mark_encode.specs.Runs.{points_of}
-use Rattle.mark_encode.specs.Items.{shape_for, picked_key, item_with, items_with, item_for, is_path, items_by}
-use Rattle.vega_charts.specs.Outlines.{Marks, NoMarks, AMark, AGroup, PlainMark, numbered}
+use Rattle.mark_encode.specs.Paths.{PathValues, stops_for, path_look_for, path_over, is_closed, path_values_of}
+use Rattle.mark_encode.specs.Items.{shape_for, picked_key, items_with, item_for, is_path, items_by}
+use Rattle.vega_copies.specs.Outlines.{Marks, NoMarks, AMark, AGroup, PlainMark, numbered}
 use Rattle.vega_charts.specs.Scales.{set_of}
 use Rattle.vega_charts.specs.Copies.{Frame}
 use Rattle.vega_charts.specs.Items.{items_in_plot, rows_of_mark, by_unit, in_unit_order}

@@ -11,22 +11,22 @@ use Rattle.expr_eval.specs.declared.error.EvalError.TheVariants.{Overflow, Memor
 use Rattle.vega_spec.specs.declared.guides.Layout.{Layout}
 use Rattle.vega_spec.specs.declared.spec.Group.{out-Group}
 use Rattle.vega_spec.specs.declared.spec.VgMark.{VgMark, out-VgMark}
-use Rattle.vega_scenes.specs.declared.views.Placed.{Placed}
-use Rattle.vega_charts.specs.declared.made.CopiesMade.{CopiesMade, out-CopiesMade}
+use Rattle.plot_scenes.specs.declared.views.Placed.{Placed}
+use Rattle.vega_copies.specs.declared.made.CopiesMade.{CopiesMade, out-CopiesMade}
 use Rattle.vega_charts.specs.declared.grids.Place.{Place}
-use Rattle.vega_charts.specs.declared.names.NamesAt.{NamesAt}
+use Rattle.vega_copies.specs.declared.names.NamesAt.{NamesAt}
 use Rattle.vega_charts.specs.declared.spots.Grid.{Grid}
-use Rattle.vega_charts.specs.Outlines.{Object, count_marks, count_groups}
-use Rattle.vega_charts.specs.Facets.{copies_of, columns_across}
+use Rattle.vega_copies.specs.Outlines.{Object, count_marks, count_groups}
+use Rattle.vega_copies.specs.Facets.{copies_of, columns_across}
 use Rattle.vega_charts.specs.Grids.{count_copies, columns_asked, columns_written, grid_of}
 use Rattle.vega_charts.specs.Plots.{views_in, grid_round, spacing_of}
-use Rattle.vega_charts.specs.inner.Copied.{scope_at}
-use Rattle.vega_charts.specs.inner.Made.{levels_behind, made_seen, IsCopyMade, IsNoGroup, OneMade}
-use Rattle.vega_charts.specs.inner.Outlined.{marks_in, marks_of, marks_from, is_group, group_object}
+use Rattle.vega_copies.specs.inner.Copied.{scope_at}
+use Rattle.vega_copies.specs.inner.Made.{levels_behind, made_seen, IsCopyMade, IsNoGroup, OneMade}
+use Rattle.vega_copies.specs.inner.Outlined.{marks_in, marks_of, marks_from, is_group, group_object}
 use Rattle.vega_charts.specs.inner.Drawn.{sources_of}
 use Rattle.vega_charts.specs.inner.Placed.{place_seen, IsFound, count_found, columns_found, grid_found, grid_seen}
-use Rattle.vega_charts.proofs.OutlineLemmas.{plain_from, group_from}
-use Rattle.vega_charts.proofs.MadeLemmas.{across_is, copies_are, each_copy_made, nothing_made}
+use Rattle.vega_copies.proofs.OutlineLemmas.{plain_from, group_from}
+use Rattle.vega_copies.proofs.MadeLemmas.{across_is, copies_are, each_copy_made, nothing_made}
 
 -- ---- what was made of marks
 

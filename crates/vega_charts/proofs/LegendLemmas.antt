@@ -7,7 +7,7 @@ use Rattle.fixed_num.specs.Ranges.{◌>>=◌}
 use Rattle.vega_spec.specs.declared.guides.Legend.{Legend}
 use Rattle.vega_guides.specs.declared.channels.LegendChannel.{LegendChannel}
 use Rattle.vega_guides.specs.Legends.{scale_shown, legend_shown}
-use Rattle.vega_scenes.specs.declared.legends.LegendShown.{LegendShown}
+use Rattle.plot_scenes.specs.declared.legends.LegendShown.{LegendShown}
 use Rattle.vega_charts.specs.Scales.{ScaleHere, scale_named, laid_over}
 use Rattle.vega_charts.specs.Copies.{Frame}
 use Rattle.vega_charts.specs.Plots.{legend_in_channel, legend_channels}

@@ -3,8 +3,7 @@ use Rattle.std.proofs.Common.{◌≡◌, ℕ, ℤ, pos, Bool, true, false, if◌
 use Rattle.std.proofs.Common.{subst, flat_map, ◌∙◌, append-nil}
 use Rattle.std.specs.Prelude.{IfSome, is_some}
 use Rattle.std.specs.Option.{option_map}
-use Rattle.std.specs.List.{All, filter_map, enumerate_from}
-use Rattle.std.proofs.lemmas.List.Elements.{All-nil, All-cons, All-head, All-tail}
+use Rattle.std.specs.List.{filter_map, enumerate_from}
 use Rattle.fixed_num.specs.Ranges.{◌>>=◌, all_found}
 use Rattle.cell_value.specs.declared.cell.Cell.{Cell}
 use Rattle.cell_value.specs.State.{Dataset}
@@ -12,37 +11,29 @@ use Rattle.scale_kit.specs.Scale.{IsPixel}
 use Rattle.scene_tree.specs.declared.scene.Item.{Item}
 use Rattle.scene_tree.specs.declared.scene.Scene.{Scene}
 use Rattle.scene_tree.specs.Moves.{moved_item}
+use Rattle.scene_tree.proofs.MoveLemmas.{all_stay}
 use Rattle.guide_kit.specs.declared.legends.Block.{Block}
-use Rattle.view_layout.specs.declared.boxes.BoxOf.{BoxOf}
-use Rattle.view_layout.specs.declared.boxes.BoxTree.{fold-roll-BoxTree}
-use Rattle.view_layout.specs.declared.boxes.BoxTree.TheOpen as form
-use Rattle.view_layout.specs.declared.boxes.BoxTree.TheVariants as tree
-use Rattle.view_layout.specs.Layout.{Cell as Box, cell_here, cell_of, leaf_of, laid_with_titles_of, layout_with_titles_of}
 use Rattle.vega_spec.specs.declared.guides.Axis.{Axis}
 use Rattle.vega_spec.specs.declared.guides.Layout.{Layout}
 use Rattle.vega_spec.specs.declared.guides.Legend.{Legend}
-use Rattle.vega_spec.specs.declared.spec.Group.{Group, Group-F}
 use Rattle.vega_spec.specs.declared.spec.Size.{Size}
-use Rattle.vega_spec.specs.declared.spec.VgMark.{VgMark}
 use Rattle.vega_spec.specs.declared.spec.VgSpec.{VgSpec}
-use Rattle.vega_guides.specs.declared.axes.Axes.{Axes}
-use Rattle.vega_guides.specs.Panels.{box_of, content_of, scene_with}
-use Rattle.vega_guides.specs.Plots.{title_items, with_title, plot_items, plain_scene, IsSpace}
-use Rattle.vega_guides.proofs.BareLaw.{law as bare_law}
-use Rattle.vega_scenes.specs.declared.headers.Header.{Header}
-use Rattle.vega_scenes.specs.declared.legends.LegendShown.{LegendShown}
-use Rattle.vega_scenes.specs.declared.scenes.Drawing.{Drawing}
-use Rattle.vega_scenes.specs.declared.views.Part.TheVariants.{OfPlot}
-use Rattle.vega_scenes.specs.declared.views.Placed.{Placed}
-use Rattle.vega_scenes.specs.declared.views.Plot.{Plot}
-use Rattle.vega_scenes.specs.Axes.{AxisShown, axes_at}
-use Rattle.vega_scenes.specs.Contents as contents
-use Rattle.vega_scenes.specs.Legends.{blocks_of}
-use Rattle.vega_scenes.specs.Scenes as scenes
-use Rattle.vega_scenes.specs.Views.{plot_panel, placed_plot}
+use Rattle.plot_scenes.specs.declared.axes.Axes.{Axes}
+use Rattle.plot_scenes.specs.OnePlot.{scene_alone, picture_of_plot, plain_scene, IsSpace}
+use Rattle.plot_scenes.proofs.OnePlotLaw.{bare, alone}
+use Rattle.plot_scenes.specs.declared.headers.Header.{Header}
+use Rattle.plot_scenes.specs.declared.legends.LegendShown.{LegendShown}
+use Rattle.plot_scenes.specs.declared.scenes.Drawing.{Drawing}
+use Rattle.plot_scenes.specs.declared.views.Placed.{Placed}
+use Rattle.plot_scenes.specs.declared.views.Plot.{Plot}
+use Rattle.plot_scenes.specs.declared.axes.AxisShown.{AxisShown}
+use Rattle.plot_scenes.specs.Axes.{axes_at}
+use Rattle.plot_scenes.specs.Legends.{blocks_of}
+use Rattle.plot_scenes.specs.Scenes.{drawing_with}
+use Rattle.plot_scenes.specs.Views.{placed_plot}
 use Rattle.vega_charts.specs.Sizes.{size_of, padding_round}
-use Rattle.vega_charts.specs.Outlines.{Object, Marks, NoMarks, AMark, AGroup, first_unit, PlainMark}
-use Rattle.vega_charts.specs.Scopes.{Names, keeps_signals}
+use Rattle.vega_copies.specs.Outlines.{Object, Marks, NoMarks, AMark, AGroup, first_unit, PlainMark}
+use Rattle.vega_copies.specs.Scopes.{Names, keeps_signals}
 use Rattle.vega_charts.specs.Scales.{ScaleHere, own_scale, and_outer, AxisHere, axes_here}
 use Rattle.vega_charts.specs.Copies.{Frame, with_scales, inside_of, as_grid, sizing_values}
 use Rattle.vega_charts.specs.Items.{items_in_plot, rows_of_mark, items_in_copy, in_unit_order}
@@ -51,7 +42,7 @@ use Rattle.vega_charts.specs.Plots.{with_guides, drawn_in, scales_of_plot, plot_
 use Rattle.vega_charts.specs.Tops.{of_chart, round_top, sized_top, top_frame}
 use Rattle.vega_charts.specs.Scenes.{scales_of_chart, drawing_over}
 use Rattle.vega_charts.specs.Laws.{has_no_groups}
-use Rattle.vega_charts.specs.OnePlotLaws.{items_of_marks, StaysInPlace, scene_of_plot, HasNoGuides}
+use Rattle.vega_charts.specs.OnePlotLaws.{items_of_marks, scene_of_plot, HasNoGuides}
 use Rattle.vega_charts.proofs.ItemOrder.{found_both}
 
 -- ---- the frame
@@ -92,41 +83,24 @@ is_top width height names o frame plain is =
 
 -- ---- the items
 
-all_of_both : {X : Type 0} (P : X → Type 0) (xs ys : List X) → All P (xs ++ ys) → All P xs × All P ys
-all_of_both P [] ys all = (All-nil P, all)
-all_of_both P (x ∷ xs) ys all =
-    let rest = all_of_both P xs ys (All-tail P x (xs ++ ys) all) in (All-cons P x xs (All-head P x (xs ++ ys) all) rest.0, rest.1)
-
-unmoved : (items : List Item) → All StaysInPlace items → all_found (map (moved_item (pos 0) (pos 0)) items) ≡ Some items
-unmoved [] all = refl
-unmoved (item ∷ items) all =
-    let first : moved_item (pos 0) (pos 0) item ≡ Some item = All-head StaysInPlace item items all in
-    let rest = unmoved items (All-tail StaysInPlace item items all) in
-    λ i. first i >>= λ x. rest i >>= λ xs. Some (x ∷ xs)
-
 in_copy : (unit : ℕ) (m : PlainMark) (frame : Frame) (own : List Item) → IsTop frame
-    → items_in_plot frame unit m (rows_of_mark frame.names.lists m.from) ≡ Some own → All StaysInPlace own → items_in_copy unit m frame ≡ Some own
-in_copy unit m frame own is found all =
+    → items_in_plot frame unit m (rows_of_mark frame.names.lists m.from) ≡ Some own → items_in_copy unit m frame ≡ Some own
+in_copy unit m frame own is found =
     ap (λ o. o >>= λ items. all_found (map (moved_item frame.x frame.y) items)) found
     ∙ (λ i. all_found (map (moved_item (is.x i) (is.y i)) own))
-    ∙ unmoved own all
+    ∙ all_stay own
 
 pub drawn_items : (sources : List Dataset) (marks : Marks) (frame : Frame) (items : List Item) → IsTop frame → has_no_groups marks ≡ true
-    → items_of_marks frame marks ≡ Some items → All StaysInPlace items → drawn_in sources marks frame ≡ Some (items_inside items)
-drawn_items sources NoMarks frame items is none e all = ap (option_map items_inside) e
-drawn_items sources (AMark unit m others) frame items is none e all =
+    → items_of_marks frame marks ≡ Some items → drawn_in sources marks frame ≡ Some (items_inside items)
+drawn_items sources NoMarks frame items is none e = ap (option_map items_inside) e
+drawn_items sources (AMark unit m others) frame items is none e =
     let (own, rest, first, behind, joined) = found_both (items_in_plot frame unit m (rows_of_mark frame.names.lists m.from)) (items_of_marks frame others) items e in
-    let both = all_of_both StaysInPlace own rest (subst (All StaysInPlace) (sym joined) all) in
-    let here = in_copy unit m frame own is first both.0 in
-    let there = drawn_items sources others frame rest is none behind both.1 in
+    let here = in_copy unit m frame own is first in
+    let there = drawn_items sources others frame rest is none behind in
     (λ i. here i >>= λ own. there i >>= λ rest. Some (and_inside (items_inside own) rest)) ∙ ap (λ items. Some (items_inside items)) joined
-drawn_items sources (AGroup o inside others) frame items is none e all = absurd (cc)
+drawn_items sources (AGroup o inside others) frame items is none e = absurd (cc)
 
 -- ---- the plot
-
--- a plot alone stands as its box
-leaf : (b : BoxOf) → layout_with_titles_of (tree.Leaf b) ≡ laid_with_titles_of (leaf_of b)
-leaf b = ap laid_with_titles_of (ap cell_of (sym (tree.rolls-Leaf b)) ∙ fold-roll-BoxTree Box cell_here (form.Leaf b))
 
 module _ (g : VgSpec) (sources : List Dataset) (o : Object) (marks : Marks) (frame : Frame) (items : List Item) where
   abbrev shown : List AxisShown
@@ -176,73 +150,44 @@ module _ (g : VgSpec) (sources : List Dataset) (o : Object) (marks : Marks) (fra
       ∙ (λ i. plot_with (is.axes i) (is.headers i) (is.cells i) (record { axes = append-nil shown i; legends = append-nil legends i; items = items }))
       ∙ (λ i. axes_at frame.width frame.height shown >>= λ axes. Some (record (plot_by axes) { items = ordered i }))
 
-  -- the picture of a plot
-  abbrev picture : Axes → List Block → Scene
-  picture axes blocks =
-      scene_with padding frame.width frame.height (content_of frame.width frame.height (with_title o.title axes.extents)) (first_unit marks)
-      (plot_items o.title frame.width axes items) blocks
-
-  same_picture : (axes : Axes) (blocks : List Block)
-      → scenes.scene_with padding (contents.content_of padding (placed_plot (plot_by axes))) blocks ≡ picture axes blocks
-  same_picture axes blocks = λ i.
-      scenes.scene_with padding (contents.content_with padding (leaf (box_of frame.width frame.height (with_title o.title axes.extents)) i) (OfPlot (record {
-        panel = record (plot_panel (plot_by axes)) {
-          items = append-nil (title_items o.title frame.width axes.extents) i ++ axes.grids ++ axes.items ++ items;
-        };
-        scales = scales_of_plot frame;
-      }) ∷ [])) blocks
-
   -- what is drawn of it
   abbrev scene_drawn : Option Placed → Option Scene
-  scene_drawn view = option_map (λ (d : Drawing). d.scene) (view >>= λ view. scenes.drawing_with padding (scales_of_chart frame) view)
+  scene_drawn view = option_map (λ (d : Drawing). d.scene) (view >>= λ view. drawing_with padding (scales_of_chart frame) view)
 
-  by_blocks : (axes : Axes) (found : Option (List Block))
-      → option_map (λ (d : Drawing). d.scene) (option_map (scenes.drawn padding (scales_of_chart frame) (contents.content_of padding (placed_plot (plot_by axes)))) found)
-      ≡ (found >>= λ blocks. Some (picture axes blocks))
+  -- the picture of a plot
+  abbrev picture : Axes → List Block → Scene
+  picture axes blocks = scene_alone padding frame.width frame.height o.title axes (first_unit marks) items blocks
+
+  by_blocks : (axes : Axes) (found : Option (List Block)) → option_map (picture axes) found ≡ (found >>= λ blocks. Some (picture axes blocks))
   by_blocks axes None = refl
-  by_blocks axes (Some blocks) = ap Some (same_picture axes blocks)
+  by_blocks axes (Some blocks) = refl
 
   by_axes : (found : Option Axes) → scene_drawn (option_map placed_plot (found >>= λ axes. Some (plot_by axes)))
       ≡ (found >>= λ axes. blocks_of legends >>= λ blocks. Some (picture axes blocks))
   by_axes None = refl
-  by_axes (Some axes) = by_blocks axes (blocks_of legends)
+  by_axes (Some axes) = alone padding (scales_of_chart frame) (plot_by axes) refl refl ∙ by_blocks axes (blocks_of legends)
 
   pub drawn_over : (names : Names) → o.layout ≡ None → has_no_groups marks ≡ true → top_frame g.width g.height names o ≡ Some frame
-      → items_of_marks frame marks ≡ Some items → All StaysInPlace items → in_unit_order items ≡ items
+      → items_of_marks frame marks ≡ Some items → in_unit_order items ≡ items
       → option_map (λ (d : Drawing). d.scene) (drawing_over g sources (record { object = o; marks = marks }) names)
       ≡ scene_of_plot g o marks frame items
-  drawn_over names plain none framed found stay ordered =
+  drawn_over names plain none framed found ordered =
       let is = is_top g.width g.height names o frame plain framed in
       ap (λ f. option_map (λ (d : Drawing). d.scene) (f >>= λ frame. view_of sources o marks frame >>= λ view.
-      scenes.drawing_with padding (scales_of_chart frame) view)) framed
+      drawing_with padding (scales_of_chart frame) view)) framed
       ∙ ap (λ l. scene_drawn (view_with sources o marks frame l (λ grid. views_in sources marks frame grid 0))) plain
-      ∙ ap (λ p. scene_drawn (option_map placed_plot p)) (plot_known is (drawn_items sources marks frame items is none found stay) ordered)
+      ∙ ap (λ p. scene_drawn (option_map placed_plot p)) (plot_known is (drawn_items sources marks frame items is none found) ordered)
       ∙ by_axes (axes_at frame.width frame.height shown)
 
   -- ---- without guides
 
   abbrev scene_by : List Axis → List Legend → Option (List ℕ) → Option Scene
-  scene_by axes legends title = do
-    axes ← axes_at frame.width frame.height (axes_over frame.width frame.height (axes_here frame.scales axes))
-    blocks ← blocks_of (flat_map (λ l. filter_map (legend_in_channel o.number frame l) legend_channels) (enumerate_from 0 legends))
-    Some (scene_with padding frame.width frame.height (content_of frame.width frame.height (with_title title axes.extents)) (first_unit marks)
-        (plot_items title frame.width axes items) blocks)
-
-  -- an object without members
-  abbrev no_members : Group-F Group VgMark
-  no_members = record {
-    data_ = None;
-    signals = None;
-    scales = None;
-    layout = None;
-    marks = None;
-    axes = None;
-    legends = None;
-    title = None;
-  }
+  scene_by axes legends title =
+      picture_of_plot padding frame.width frame.height title (axes_over frame.width frame.height (axes_here frame.scales axes))
+      (flat_map (λ l. filter_map (legend_in_channel o.number frame l) legend_channels) (enumerate_from 0 legends)) (first_unit marks) items
 
   pub plain : HasNoGuides o → IsSpace padding → IsPixel frame.width → IsPixel frame.height
       → scene_of_plot g o marks frame items ≡ Some (plain_scene padding frame.width frame.height (first_unit marks) items)
   plain none space wide high =
       (λ i. scene_by (none.axes i) (none.legends i) (none.title i))
-      ∙ bare_law no_members (record { scales = [] }) padding frame.width frame.height (first_unit marks) items refl space wide high
+      ∙ bare padding frame.width frame.height (first_unit marks) items space wide high

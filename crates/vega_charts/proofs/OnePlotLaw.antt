@@ -2,10 +2,11 @@
 use Rattle.std.proofs.Common.{◌≡◌, false, is_some, Option, Some, None, ℕ, refl, ap, ◌∙◌}
 use Rattle.std.specs.Option.{option_map}
 use Rattle.scene_tree.specs.Outcome.{Outcome, ◌>>=◌, outcome_map, in_reach}
-use Rattle.vega_scenes.specs.declared.scenes.Drawing.{Drawing}
-use Rattle.vega_charts.specs.Outlines.{Opened, opened}
-use Rattle.vega_charts.specs.Scopes.{Names}
-use Rattle.vega_charts.specs.Panels.{plots_in_facets, with_panels}
+use Rattle.plot_scenes.specs.declared.scenes.Drawing.{Drawing}
+use Rattle.vega_copies.specs.Outlines.{Opened, opened}
+use Rattle.vega_copies.specs.Scopes.{Names}
+use Rattle.vega_copies.specs.Panels.{plots_in_facets}
+use Rattle.vega_charts.specs.Panels.{with_panels}
 use Rattle.vega_charts.specs.Scenes.{drawing_over}
 use Rattle.vega_charts.specs.Charts.{drawn_from}
 use Rattle.vega_charts.specs.OnePlotLaws.{OnePlotIsDrawn, APlotAlone, OnePlotLaws}
@@ -28,7 +29,7 @@ drawn g stores params sources o marks names frame items is =
     ∙ ap (λ (found : Option ℕ). outcome_map (λ (d : Drawing). d.scene) (in_reach found >>= over names))
     (top_laws.no_panels sources marks false (is_some o.layout) names is.no_groups)
     ∙ mapped (λ (d : Drawing). d.scene) (drawing_over g sources top names)
-    ∙ ap in_reach (drawn_over g sources o marks frame items names is.layout is.no_groups is.framed is.found is.stay
+    ∙ ap in_reach (drawn_over g sources o marks frame items names is.layout is.no_groups is.framed is.found
     (in_order_already (opened g.group).marks marks frame items (ap (λ (top : Opened). top.marks) is.outline) is.no_groups is.found))
 
 alone : APlotAlone

@@ -18,9 +18,9 @@ use Rattle.vega_spec.specs.declared.spec.VgSpec.{VgSpec}
 use Rattle.vega_charts.specs.Answers.{Comes}
 use Rattle.vega_charts.specs.Charts.{drawn_from, drawing_of}
 use Rattle.vega_charts.specs.Panels.{most_panels, with_panels}
-use Rattle.vega_charts.specs.Outlines.{Object}
-use Rattle.vega_charts.specs.Scopes.{Names, names_with, settled_in, names_at_top}
-use Rattle.vega_charts.specs.inner.Levels.{parts_over}
+use Rattle.vega_copies.specs.Outlines.{Object}
+use Rattle.vega_copies.specs.Scopes.{Names, names_with, settled_in, names_at_top}
+use Rattle.vega_copies.specs.inner.Levels.{parts_over}
 use Rattle.vega_charts.specs.inner.Outcomes.{stopped, answered, with_counted, drawn_within}
 use Rattle.vega_charts.specs.inner.Topped.{top_of}
 use Rattle.vega_charts.proofs.TopLemmas.{outline_is}

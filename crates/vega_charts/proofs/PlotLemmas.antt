@@ -8,21 +8,22 @@ use Rattle.expr_eval.specs.Answers.{Evaluates}
 use Rattle.expr_eval.specs.declared.error.EvalError.{EvalError}
 use Rattle.expr_eval.specs.declared.error.EvalError.TheVariants.{Overflow, Memory}
 use Rattle.mark_encode.specs.declared.channels.ChannelName.TheVariants as channel
-use Rattle.vega_scenes.specs.declared.headers.Header.{Header}
-use Rattle.vega_scenes.specs.declared.views.Plot.{Plot}
-use Rattle.vega_scenes.specs.Axes.{axes_at, seen}
-use Rattle.vega_charts.specs.Outlines.{Object, Marks, NoMarks, AMark, AGroup, first_unit, numbered}
-use Rattle.vega_charts.specs.Scopes.{Names, keeps_signals}
-use Rattle.vega_charts.specs.Facets.{Copy, copies_of}
+use Rattle.plot_scenes.specs.declared.headers.Header.{Header}
+use Rattle.plot_scenes.specs.declared.views.Plot.{Plot}
+use Rattle.plot_scenes.specs.Axes.{axes_at}
+use Rattle.vega_copies.specs.Outlines.{Object, Marks, NoMarks, AMark, AGroup, first_unit, numbered}
+use Rattle.vega_copies.specs.Scopes.{Names, keeps_signals}
+use Rattle.vega_copies.specs.Facets.{Copy, copies_of}
 use Rattle.vega_charts.specs.Items.{items_in_copy}
 use Rattle.vega_charts.specs.Scales.{ScaleHere, AxisHere, own_scale, and_outer}
-use Rattle.vega_charts.specs.Copies.{Frame, encoded_number, with_scales, inside_of, names_in_copy, of_no_chart, more_cells, copy_in, moved_copy}
+use Rattle.vega_charts.specs.Copies.{Frame, encoded_number, with_scales, inside_of, of_no_chart, more_cells, copy_in, moved_copy}
+use Rattle.vega_copies.specs.CopyNames.{names_in_copy}
 use Rattle.vega_charts.specs.Plots.{Inside, nothing_inside, items_inside, and_inside, all_inside, with_guides, drawn_in, axes_over, own_axes, legends_in, plot_of}
 use Rattle.vega_charts.specs.declared.inside.Inside.{Inside as HeldInside}
 use Rattle.vega_charts.specs.inner.Drawn.{DrawsMore, inside_seen}
 use Rattle.vega_charts.specs.inner.Plotted.{behind_axes, standing_in, plot_with, plot_round}
-use Rattle.vega_charts.specs.inner.Results.{result_map}
-use Rattle.vega_charts.proofs.OutlineLemmas.{first_is}
+use Rattle.vega_copies.specs.inner.Results.{result_map}
+use Rattle.vega_copies.proofs.OutlineLemmas.{first_is}
 
 -- ---- what marks draw in a copy doesn't depend on the axes and headers round it
 
@@ -178,7 +179,7 @@ module _ (frame : Frame) (axes : List AxisHere) (o : Object) where
 
   -- what was added to nothing
   pub stands_behind : (first guided new : HeldInside) (drawn : Option Inside) (r : Result (Unit {0}) EvalError)
-      → map seen first.axes ≡ axes_over frame.width frame.height axes → first.legends ≡ [] → first.items ≡ []
+      → first.axes ≡ axes_over frame.width frame.height axes → first.legends ≡ [] → first.items ≡ []
       → inside_seen guided ≡ and_inside (inside_seen first) (with_guides o frame nothing_inside) → DrawsMore r guided new drawn
       → Evaluates (result_map (λ done. inside_seen new) r) (option_map (behind_axes frame axes) (option_map (with_guides o frame) drawn))
   stands_behind first guided new drawn (Ok done) is_axes no_legends no_items guides e =

@@ -5,10 +5,11 @@ use Rattle.expr_eval.specs.Values.{Values}
 use Rattle.scene_tree.specs.Outcome.{Outcome, ◌>>=◌, in_reach, Overflow, Panels}
 use Rattle.vega_spec.specs.declared.spec.VgSpec.{VgSpec}
 use Rattle.vega_signals.specs.Settling.{Valued}
-use Rattle.vega_charts.specs.Outlines.{Opened, NoMarks, AMark, AGroup}
-use Rattle.vega_charts.specs.Scopes.{Names, names_at_top}
-use Rattle.vega_charts.specs.Panels.{plots_in_facets, most_panels, with_panels}
-use Rattle.vega_scenes.specs.declared.scenes.Drawing.{Drawing}
+use Rattle.vega_copies.specs.Outlines.{Opened, NoMarks, AMark, AGroup}
+use Rattle.vega_copies.specs.Scopes.{Names, names_at_top}
+use Rattle.vega_copies.specs.Panels.{plots_in_facets}
+use Rattle.vega_charts.specs.Panels.{most_panels, with_panels}
+use Rattle.plot_scenes.specs.declared.scenes.Drawing.{Drawing}
 use Rattle.vega_charts.specs.Scenes.{drawing_over}
 use Rattle.vega_charts.specs.Charts.{drawn_from}
 use Rattle.vega_charts.specs.Laws.{NoGroupsNoPanels, ChartLaws}

@@ -21,29 +21,29 @@ use Rattle.vega_lists.specs.Held.{AreAllRows}
 use Rattle.vega_lists.specs.Inside.{RowsByName, no_rows, AllKeysFit, SetsMayFold}
 use Rattle.vega_lists.specs.Products.{Products, FoldsFit, no_folds, products_after}
 use Rattle.vega_charts.specs.Sizes.{size_of}
-use Rattle.vega_scenes.specs.declared.scenes.Drawing.{Drawing}
+use Rattle.plot_scenes.specs.declared.scenes.Drawing.{Drawing}
 use Rattle.vega_spec.specs.declared.guides.Layout.{Layout}
 use Rattle.vega_spec.specs.declared.spec.Group.{out-Group}
 use Rattle.vega_spec.specs.declared.spec.VgSpec.{VgSpec}
-use Rattle.vega_charts.specs.declared.names.Level.{Level}
-use Rattle.vega_charts.specs.declared.made.CopiesMade.{CopiesMade}
-use Rattle.vega_charts.specs.declared.names.NamesAt.{NamesAt}
+use Rattle.vega_copies.specs.declared.names.Level.{Level}
+use Rattle.vega_copies.specs.declared.made.CopiesMade.{CopiesMade}
+use Rattle.vega_copies.specs.declared.names.NamesAt.{NamesAt}
 use Rattle.vega_charts.specs.declared.scales.ScaleHere.{ScaleHere as HeldScale}
-use Rattle.vega_charts.specs.Outlines.{Marks, NoMarks, AMark, AGroup, Opened, outline_of, numbered, count_marks, count_groups}
-use Rattle.vega_charts.specs.Scopes.{Names, keeps_signals}
+use Rattle.vega_copies.specs.Outlines.{Marks, NoMarks, AMark, AGroup, Opened, outline_of, numbered, count_marks, count_groups}
+use Rattle.vega_copies.specs.Scopes.{Names, keeps_signals}
 use Rattle.vega_charts.specs.Scales.{ScaleHere, own_scale, and_outer, with_domains, set_of}
 use Rattle.vega_charts.specs.Copies.{Frame, with_scales, as_grid}
 use Rattle.vega_charts.specs.Plots.{view_with, views_in}
 use Rattle.vega_charts.specs.Tops.{of_chart, round_top, sized_top}
 use Rattle.vega_charts.specs.Scenes.{drawing_over}
-use Rattle.vega_charts.specs.Built.{KeepsObject, KeepsMarks, FoldsFitIn, KeepsRules, products_in_copy}
-use Rattle.vega_charts.specs.inner.Levels.{rows_at, names_at}
+use Rattle.vega_copies.specs.Built.{KeepsObject, KeepsMarks, FoldsFitIn, KeepsRules, products_in_copy}
+use Rattle.vega_copies.specs.inner.Levels.{rows_at, names_at}
 use Rattle.vega_charts.specs.inner.Framed.{IsFrame}
 use Rattle.vega_charts.specs.inner.Kept.{scale_seen, IsFitHere, IsKeptScale, AreKeptScales}
-use Rattle.vega_charts.specs.inner.Outlined.{marks_in, marks_of, AreFew}
-use Rattle.vega_charts.specs.inner.Standing.{MayStand}
+use Rattle.vega_copies.specs.inner.Outlined.{marks_in, marks_of, AreFew}
+use Rattle.vega_copies.specs.inner.Standing.{MayStand}
 use Rattle.vega_charts.specs.inner.Topped.{top_of, held_top, top_seen, scaled_plot, scaled_grid, IsTop, drawn_view, drawn_plot, sized_plot, grid_with_axes, rows_on_top, names_on_top}
-use Rattle.vega_charts.proofs.OutlineLemmas.{opened_object, opened_marks}
+use Rattle.vega_copies.proofs.OutlineLemmas.{opened_object, opened_marks}
 
 -- ---- the top by its members
 

@@ -9,31 +9,32 @@ use Rattle.vega_spec.specs.declared.marks.Facet.{Facet}
 use Rattle.vega_spec.specs.declared.spec.Group.{Group, out-Group}
 use Rattle.vega_spec.specs.declared.spec.VgMark.{VgMark, VgMark-F, out-VgMark}
 use Rattle.mark_encode.specs.declared.channels.ChannelName.TheVariants as channel
-use Rattle.vega_scenes.specs.declared.headers.Header.{Header}
-use Rattle.vega_scenes.specs.declared.views.Placed.{Placed}
-use Rattle.vega_scenes.specs.Views.{placed_plot}
-use Rattle.vega_charts.specs.declared.made.CopyMade.{CopyMade, out-CopyMade}
+use Rattle.plot_scenes.specs.declared.headers.Header.{Header}
+use Rattle.plot_scenes.specs.declared.views.Placed.{Placed}
+use Rattle.plot_scenes.specs.Views.{placed_plot}
+use Rattle.vega_copies.specs.declared.made.CopyMade.{CopyMade, out-CopyMade}
 use Rattle.vega_charts.specs.declared.grids.Place.{Place}
-use Rattle.vega_charts.specs.declared.names.Level.{Level}
+use Rattle.vega_copies.specs.declared.names.Level.{Level}
 use Rattle.vega_charts.specs.declared.scales.AxisHere.{AxisHere as HeldAxis}
 use Rattle.vega_charts.specs.declared.scales.ScaleHere.{ScaleHere as HeldScale}
 use Rattle.vega_charts.specs.declared.spots.Spot.{Spot}
-use Rattle.vega_charts.specs.Outlines.{Object, facet_in}
-use Rattle.vega_charts.specs.Scopes.{Names, keeps_signals}
-use Rattle.vega_charts.specs.Facets.{Copy}
+use Rattle.vega_copies.specs.Outlines.{Object, facet_in}
+use Rattle.vega_copies.specs.Scopes.{Names, keeps_signals}
+use Rattle.vega_copies.specs.Facets.{Copy}
 use Rattle.vega_charts.specs.Scales.{ScaleHere, own_scale, and_outer, set_of, scale_in, past, axis_past}
-use Rattle.vega_charts.specs.Copies.{Frame, names_in_copy, copy_in, more_cells, of_no_chart, encoded_number, as_grid}
+use Rattle.vega_charts.specs.Copies.{Frame, copy_in, more_cells, of_no_chart, encoded_number, as_grid}
+use Rattle.vega_copies.specs.CopyNames.{names_in_copy}
 use Rattle.vega_charts.specs.Grids.{headers_of, frame_past, with_size, size_cut, sized}
 use Rattle.vega_charts.specs.Plots.{views_in, view_with, plot_of}
-use Rattle.vega_charts.specs.inner.Levels.{names_at, kept_names}
+use Rattle.vega_copies.specs.inner.Levels.{names_at, kept_names}
 use Rattle.vega_charts.specs.inner.Kept.{scale_seen, axis_seen, AreKeptScales, AreKeptAxes}
 use Rattle.vega_charts.specs.inner.Framed.{cells_seen}
-use Rattle.vega_charts.specs.inner.Made.{levels_behind, names_under, made_seen, IsCopyMade}
-use Rattle.vega_charts.specs.inner.Outlined.{marks_in, marks_from, group_object}
+use Rattle.vega_copies.specs.inner.Made.{levels_behind, names_under, made_seen, IsCopyMade}
+use Rattle.vega_copies.specs.inner.Outlined.{marks_in, marks_from, group_object}
 use Rattle.vega_charts.specs.inner.Drawn.{sources_of, scaled_in}
 use Rattle.vega_charts.specs.inner.Placed.{place_seen, IsPlace, view_inside, view_scaled, view_named, view_at, place_past, place_entered, sized_plot}
-use Rattle.vega_charts.proofs.MadeLemmas.{kept_in_made, names_entered_are}
-use Rattle.vega_charts.proofs.StandLemmas.{copy_by_names}
+use Rattle.vega_copies.proofs.MadeLemmas.{kept_in_made, names_entered_are}
+use Rattle.vega_charts.proofs.CopyEntered.{copy_by_names}
 
 -- ---- what stands round a copy that passes a spot
 

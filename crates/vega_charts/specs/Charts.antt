@@ -4,11 +4,12 @@ use Rattle.cell_value.specs.State.{Dataset}
 use Rattle.expr_eval.specs.Values.{Values}
 use Rattle.scene_tree.specs.Outcome.{Outcome, ◌>>=◌, in_reach}
 use Rattle.vega_spec.specs.declared.spec.VgSpec.{VgSpec}
-use Rattle.vega_charts.specs.Outlines.{Opened, outline_of}
+use Rattle.vega_copies.specs.Outlines.{Opened, outline_of}
 use Rattle.vega_signals.specs.Settling.{Valued}
-use Rattle.vega_charts.specs.Scopes.{names_at_top}
-use Rattle.vega_charts.specs.Panels.{plots_in_facets, with_panels}
-use Rattle.vega_scenes.specs.declared.scenes.Drawing.{Drawing}
+use Rattle.vega_copies.specs.Scopes.{names_at_top}
+use Rattle.vega_copies.specs.Panels.{plots_in_facets}
+use Rattle.vega_charts.specs.Panels.{with_panels}
+use Rattle.plot_scenes.specs.declared.scenes.Drawing.{Drawing}
 use Rattle.vega_charts.specs.Scenes.{drawing_over}
 
 -- What comes of drawing a specification, with its top opened. First the lists are made, with the signals that they read: one out of range

@@ -18,10 +18,11 @@ use Rattle.vega_spec.specs.declared.encode.ChannelValue.{ChannelValue}
 use Rattle.vega_spec.specs.declared.orders.Texts.TheVariants as texts
 use Rattle.vega_spec.specs.declared.scales.Scale.{Scale as VegaScale}
 use Rattle.vega_lists.specs.Scopes.{no_lists, with_list}
-use Rattle.vega_charts.specs.Outlines.{Object, bare}
-use Rattle.vega_charts.specs.Scopes.{Names, outermost, names_in_object, keeps_signals}
-use Rattle.vega_charts.specs.Facets.{Copy, only_copy, copies_of, with_parts, by}
-use Rattle.vega_scenes.specs.declared.headers.Header.{Header}
+use Rattle.vega_copies.specs.Outlines.{Object, bare}
+use Rattle.vega_copies.specs.Scopes.{Names, outermost, keeps_signals}
+use Rattle.vega_copies.specs.Facets.{Copy, only_copy, copies_of, by}
+use Rattle.vega_copies.specs.CopyNames.{names_in_copy}
+use Rattle.plot_scenes.specs.declared.headers.Header.{Header}
 use Rattle.vega_charts.specs.Scales.{ScaleHere, set_of, own_scale, and_outer, with_domains, AxisHere, axes_here}
 
 -- A copy of an object: the top, or a copy of a group.
@@ -73,10 +74,6 @@ inside_of is_of_chart outer names o =
 -- the frame of an object with a layout: its axes stand in the plots in it, after those of the objects round it
 abbrev pub as_grid : Object → Frame → Frame
 as_grid o frame = record frame { axes = frame.axes ++ axes_here frame.scales o.axes }
-
--- what names stand for in a copy of a group; None where a data set overflows
-abbrev pub names_in_copy : List Dataset → Names → Object → Copy → Option Names
-names_in_copy sources outer o copy = names_in_object sources (record outer { lists = with_parts copy.parts outer.lists }) o
 
 -- no scale of a group belongs to the whole chart
 abbrev pub of_no_chart : VegaScale → Bool

@@ -16,9 +16,9 @@ use Rattle.vega_spec.specs.declared.marks.Header.TheVariants as header
 use Rattle.vega_lists.specs.Scopes.{Scope}
 use Rattle.vega_guides.specs.Shown.{whole_of}
 use Rattle.vega_charts.specs.Sizes.{size_in}
-use Rattle.vega_charts.specs.Outlines.{Object, Marks, NoMarks, AMark, AGroup}
-use Rattle.vega_charts.specs.Facets.{Copy, copies_of, columns_across}
-use Rattle.vega_scenes.specs.declared.headers.Header.{Header}
+use Rattle.vega_copies.specs.Outlines.{Object, Marks, NoMarks, AMark, AGroup}
+use Rattle.vega_copies.specs.Facets.{Copy, copies_of, columns_across}
+use Rattle.plot_scenes.specs.declared.headers.Header.{Header}
 use Rattle.vega_charts.specs.declared.spots.Spot.{Spot}
 use Rattle.vega_charts.specs.declared.spots.Grid.{Grid}
 use Rattle.vega_charts.specs.Scales.{spot_of, past, axis_past}

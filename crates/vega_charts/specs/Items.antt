@@ -12,7 +12,7 @@ use Rattle.mark_encode.specs.Items.{items_in_order}
 use Rattle.vega_spec.specs.declared.marks.MarkFrom.{MarkFrom}
 use Rattle.vega_spec.specs.declared.marks.MarkFrom.TheVariants as from
 use Rattle.vega_lists.specs.Scopes.{Scope}
-use Rattle.vega_charts.specs.Outlines.{PlainMark}
+use Rattle.vega_copies.specs.Outlines.{PlainMark}
 use Rattle.vega_charts.specs.Scales.{set_of}
 use Rattle.vega_charts.specs.Copies.{Frame}
 

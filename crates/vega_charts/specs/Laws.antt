@@ -9,9 +9,10 @@ use Rattle.vega_spec.specs.declared.spec.VgMark.{VgMark}
 use Rattle.vega_spec.specs.declared.spec.VgSpec.{VgSpec}
 use Rattle.vega_signals.specs.Settling.{Valued}
 use Rattle.vega_signals.specs.Signals.{settled_values}
-use Rattle.vega_charts.specs.Outlines.{Opened, Marks, NoMarks, AMark, AGroup, object_here}
-use Rattle.vega_charts.specs.Scopes.{Names, outermost, settled_in, names_at_top}
-use Rattle.vega_charts.specs.Panels.{plots_in_facets, most_panels}
+use Rattle.vega_copies.specs.Outlines.{Opened, Marks, NoMarks, AMark, AGroup, object_here}
+use Rattle.vega_copies.specs.Scopes.{Names, outermost, settled_in, names_at_top}
+use Rattle.vega_copies.specs.Panels.{plots_in_facets}
+use Rattle.vega_charts.specs.Panels.{most_panels}
 use Rattle.vega_charts.specs.Charts.{drawn_from}
 
 -- without stores of selections the signals of the top settle at the values of the signals of a specification

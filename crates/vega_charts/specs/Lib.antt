@@ -1,7 +1,4 @@
 pub mod Sizes
-pub mod Outlines
-pub mod Scopes
-pub mod Facets
 pub mod Scales
 pub mod Copies
 pub mod Items
@@ -11,9 +8,6 @@ pub mod Plots
 pub mod Scenes
 pub mod Panels
 pub mod Charts
-pub mod Built
-pub mod Fitting
-pub mod Tested
 pub mod Answers
 pub mod inner
 pub mod Laws

@@ -1,24 +1,19 @@
 -- What holds of a chart that is one plot: its picture is that of a plot with its guides.
 use Rattle.std.specs.Prelude.{◌≡◌, true, pos, Option, Some, None, List, [], ◌++◌}
-use Rattle.std.specs.List.{All}
 use Rattle.fixed_num.specs.Ranges.{◌>>=◌}
 use Rattle.cell_value.specs.State.{Dataset}
 use Rattle.expr_eval.specs.Values.{Values}
 use Rattle.scale_kit.specs.Scale.{IsPixel}
 use Rattle.scene_tree.specs.declared.scene.Item.{Item}
 use Rattle.scene_tree.specs.declared.scene.Scene.{Scene}
-use Rattle.scene_tree.specs.Moves.{moved_item}
 use Rattle.scene_tree.specs.Outcome.{Drawn, outcome_map, in_reach}
 use Rattle.vega_spec.specs.declared.spec.VgSpec.{VgSpec}
 use Rattle.vega_signals.specs.Settling.{Valued}
-use Rattle.vega_guides.specs.Panels.{content_of, scene_with}
-use Rattle.vega_guides.specs.Plots.{with_title, plot_items, plain_scene, IsSpace}
-use Rattle.vega_scenes.specs.declared.scenes.Drawing.{Drawing}
-use Rattle.vega_scenes.specs.Axes.{axes_at}
-use Rattle.vega_scenes.specs.Legends.{blocks_of}
+use Rattle.plot_scenes.specs.OnePlot.{picture_of_plot, plain_scene, IsSpace}
+use Rattle.plot_scenes.specs.declared.scenes.Drawing.{Drawing}
 use Rattle.vega_charts.specs.Sizes.{padding_round}
-use Rattle.vega_charts.specs.Outlines.{Object, Marks, NoMarks, AMark, AGroup, outline_of, first_unit}
-use Rattle.vega_charts.specs.Scopes.{Names, names_at_top}
+use Rattle.vega_copies.specs.Outlines.{Object, Marks, NoMarks, AMark, AGroup, outline_of, first_unit}
+use Rattle.vega_copies.specs.Scopes.{Names, names_at_top}
 use Rattle.vega_charts.specs.Copies.{Frame}
 use Rattle.vega_charts.specs.Items.{items_in_plot, rows_of_mark}
 use Rattle.vega_charts.specs.Plots.{axes_over, own_axes, legends_in}
@@ -35,18 +30,11 @@ items_of_marks frame (AMark unit m others) = do
   Some (own ++ rest)
 items_of_marks frame (AGroup o inside others) = items_of_marks frame others
 
--- an item that stays where it is where it is moved by nothing: its places are in range
-abbrev pub StaysInPlace : Item → Type 0
-StaysInPlace item = moved_item (pos 0) (pos 0) item ≡ Some item
-
 -- The picture of a plot with its axes, its legends, its title and these items. None where a tick or its place is out of range.
 abbrev pub scene_of_plot : VgSpec → Object → Marks → Frame → List Item → Option Scene
-scene_of_plot g o marks frame items = do
-  axes ← axes_at frame.width frame.height (axes_over frame.width frame.height (own_axes o frame))
-  blocks ← blocks_of (legends_in o frame)
-  Some (scene_with (padding_round g.padding) frame.width frame.height
-      (content_of frame.width frame.height (with_title o.title axes.extents)) (first_unit marks)
-      (plot_items o.title frame.width axes items) blocks)
+scene_of_plot g o marks frame items =
+    picture_of_plot (padding_round g.padding) frame.width frame.height o.title (axes_over frame.width frame.height (own_axes o frame)) (legends_in o frame)
+    (first_unit marks) items
 
 -- A specification is one plot: an object without a layout, and marks in it without groups. Over sources, and with parameters and stores, it
 -- has this frame, and its marks have these items.
@@ -58,7 +46,6 @@ pub record IsOnePlot (g : VgSpec) (stores : Values) (params : Valued) (sources :
   pub named : names_at_top stores params sources o ≡ Some names
   pub framed : top_frame g.width g.height names o ≡ Some frame
   pub found : items_of_marks frame marks ≡ Some items
-  pub stay : All StaysInPlace items
 
 -- it is drawn as a plot with its guides
 abbrev pub OnePlotIsDrawn : Type 0

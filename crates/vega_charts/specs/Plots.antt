@@ -17,25 +17,27 @@ use Rattle.vega_lists.specs.Scopes.{no_lists, with_list}
 use Rattle.vega_guides.specs.declared.channels.LegendChannel.{LegendChannel}
 use Rattle.vega_guides.specs.declared.channels.LegendChannel.TheVariants.{Fill, Opacity, Shape, Size as SizeChannel}
 use Rattle.vega_guides.specs.Legends.{scale_shown, legend_shown}
-use Rattle.vega_charts.specs.Outlines.{Object, Marks, NoMarks, AMark, AGroup, first_unit, bare, a_symbol}
-use Rattle.vega_charts.specs.Scopes.{Names, outermost}
+use Rattle.vega_guides.specs.Shown.{axis_shown}
+use Rattle.vega_copies.specs.Outlines.{Object, Marks, NoMarks, AMark, AGroup, first_unit, bare, a_symbol}
+use Rattle.vega_copies.specs.Scopes.{Names, outermost}
 use Rattle.plain_facets.specs.Facets.{four_rows}
-use Rattle.vega_charts.specs.Facets.{by, copies_of}
+use Rattle.vega_copies.specs.Facets.{by, copies_of}
 use Rattle.scene_tree.specs.declared.scene.Item.{Item}
 use Rattle.vega_charts.specs.Items.{items_in_copy, in_unit_order}
 use Rattle.vega_charts.specs.Scales.{ScaleHere, laid_over, scale_in, scale_named, AxisHere, axes_here, stands, a_scale, an_axis}
 use Rattle.vega_charts.specs.Copies.{Frame, moved_copy}
 use Rattle.vega_charts.specs.declared.spots.Grid.{Grid}
 use Rattle.vega_charts.specs.Grids.{grid_of, cell_at}
-use Rattle.vega_scenes.specs.declared.headers.Header.{Header}
-use Rattle.vega_scenes.specs.declared.legends.LegendShown.{LegendShown}
-use Rattle.vega_scenes.specs.declared.views.Plot.{Plot}
-use Rattle.vega_scenes.specs.declared.views.GridShown.{GridShown}
-use Rattle.vega_scenes.specs.declared.views.Placed.{Placed}
-use Rattle.vega_scenes.specs.declared.views.Part.{Part}
-use Rattle.vega_scenes.specs.declared.views.Part.TheVariants.{Title, OfPlot}
-use Rattle.vega_scenes.specs.Axes.{AxisShown, axes_at}
-use Rattle.vega_scenes.specs.Views.{placed_plot, placed_grid}
+use Rattle.plot_scenes.specs.declared.headers.Header.{Header}
+use Rattle.plot_scenes.specs.declared.legends.LegendShown.{LegendShown}
+use Rattle.plot_scenes.specs.declared.views.Plot.{Plot}
+use Rattle.plot_scenes.specs.declared.views.GridShown.{GridShown}
+use Rattle.plot_scenes.specs.declared.views.Placed.{Placed}
+use Rattle.plot_scenes.specs.declared.views.Part.{Part}
+use Rattle.plot_scenes.specs.declared.views.Part.TheVariants.{Title, OfPlot}
+use Rattle.plot_scenes.specs.declared.axes.AxisShown.{AxisShown}
+use Rattle.plot_scenes.specs.Axes.{axes_at}
+use Rattle.plot_scenes.specs.Views.{placed_plot, placed_grid}
 use Rattle.vega_charts.specs.Tops.{round_top, top_frame}
 use Rattle.vega_spec.specs.declared.guides.Edge.{Edge}
 use Rattle.vega_spec.specs.declared.guides.Edge.TheVariants.{FirstColumn}
@@ -44,7 +46,7 @@ use Rattle.vega_spec.specs.declared.guides.Edge.TheVariants.{FirstColumn}
 
 -- an axis over its scale in a plot of this width and height
 abbrev pub axis_over : ℤ → ℤ → AxisHere → AxisShown
-axis_over width height a = record { axis = a.axis; scale = laid_over width height a.scale }
+axis_over width height a = record { axis = axis_shown a.axis; scale = laid_over width height a.scale }
 
 -- the axes that stand in a plot of this size among some
 abbrev pub axes_over : ℤ → ℤ → List AxisHere → List AxisShown

@@ -17,7 +17,7 @@ use Rattle.vega_scales.specs.declared.scaled.Scaled.{Scaled}
 use Rattle.vega_scales.specs.declared.scaled.Scaled.TheVariants.{Cells}
 use Rattle.vega_scales.specs.Scales.{domain_of, scale_over, domain_size}
 use Rattle.vega_charts.specs.declared.spots.Spot.{Spot}
-use Rattle.vega_charts.specs.Scopes.{Names}
+use Rattle.vega_copies.specs.Scopes.{Names}
 use Rattle.cell_value.specs.declared.cell.Cell.TheVariants.{Null}
 use Rattle.expr_eval.specs.Plain.{no_values}
 use Rattle.vega_spec.specs.declared.domains.Domain.TheVariants as domain

@@ -5,10 +5,10 @@ use Rattle.cell_value.specs.State.{Dataset}
 use Rattle.scale_kit.specs.declared.scale.ScaleIn.{ScaleIn}
 use Rattle.vega_spec.specs.declared.spec.VgSpec.{VgSpec}
 use Rattle.vega_charts.specs.Sizes.{padding_round}
-use Rattle.vega_scenes.specs.declared.scenes.Drawing.{Drawing}
-use Rattle.vega_scenes.specs.Scenes.{drawing_with}
-use Rattle.vega_charts.specs.Outlines.{Opened}
-use Rattle.vega_charts.specs.Scopes.{Names}
+use Rattle.plot_scenes.specs.declared.scenes.Drawing.{Drawing}
+use Rattle.plot_scenes.specs.Scenes.{drawing_with}
+use Rattle.vega_copies.specs.Outlines.{Opened}
+use Rattle.vega_copies.specs.Scopes.{Names}
 use Rattle.vega_charts.specs.Scales.{ScaleHere, scale_in}
 use Rattle.vega_charts.specs.Copies.{Frame}
 use Rattle.vega_charts.specs.Plots.{view_of}

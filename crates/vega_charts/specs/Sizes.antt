@@ -9,7 +9,6 @@ use Rattle.expr_eval.specs.Values.{Values}
 use Rattle.expr_eval.specs.Plain.{null_row}
 use Rattle.expr_eval.specs.Value.{value_of}
 use Rattle.expr_eval.specs.Numbers.{the_number}
-use Rattle.scale_kit.specs.Scale.{IsPixel}
 use Rattle.vega_spec.specs.declared.spec.Size.{Size}
 use Rattle.vega_spec.specs.declared.spec.Size.TheVariants as size
 
@@ -22,12 +21,6 @@ abbrev pub size_of : Values → Option Size → Option ℤ
 size_of values None = Some (pos 0)
 size_of values (Some (size.Number n)) = Some n
 size_of values (Some (size.Signal e)) = option_map size_in (value_of null_row values e)
-
--- a written size is one that specifications may have
-abbrev pub IsSizeKept : Option Size → Type 0
-IsSizeKept None = Unit {0}
-IsSizeKept (Some (size.Number n)) = IsPixel n
-IsSizeKept (Some (size.Signal e)) = Unit {0}
 
 -- the space round a picture, 5 pixels where none is given
 abbrev pub padding_round : Option ℤ → ℤ

@@ -6,8 +6,8 @@ use Rattle.vega_spec.specs.declared.scales.Range.TheVariants as range
 use Rattle.vega_spec.specs.declared.scales.Scale.{Scale as VegaScale}
 use Rattle.vega_spec.specs.declared.spec.Size.{Size}
 use Rattle.vega_charts.specs.Sizes.{size_of}
-use Rattle.vega_charts.specs.Outlines.{Object}
-use Rattle.vega_charts.specs.Scopes.{Names}
+use Rattle.vega_copies.specs.Outlines.{Object}
+use Rattle.vega_copies.specs.Scopes.{Names}
 use Rattle.vega_charts.specs.Scales.{a_scale, is_sized}
 use Rattle.vega_charts.specs.Copies.{Frame, sizing_values, inside_of, as_grid}
 

@@ -3,19 +3,20 @@ ghost use Rattle.std.specs.Prelude.{◌≡◌, ◌∷◌, ◌++◌, [], IfOk, On
 ghost use Rattle.std.specs.Option.{option_to_list};
 ghost use Rattle.scale_kit.specs.Scale.{IsPixel};
 ghost use Rattle.vega_charts.specs.Scales.{axis_past, axes_here, axis_here, stands};
-ghost use Rattle.vega_charts.specs.Plots.{axes_over};
+ghost use Rattle.vega_charts.specs.Plots.{axis_over, axes_over};
 ghost use Rattle.vega_charts.specs.inner.Kept.{scale_seen, axis_seen, IsKeptScale, AreKeptScales, AreKeptAxes};
 ghost use Rattle.vega_guides.specs.Shown.{IsAxis};
-ghost use Rattle.vega_scenes.specs.Axes.{seen, HoldsAxis};
-ghost use Rattle.vega_charts.specs.Outlines.{object_here};
+ghost use Rattle.plot_scenes.specs.Axes.{IsAxisShown};
+ghost use Rattle.vega_copies.specs.Outlines.{object_here};
 ghost use Rattle.vega_spec.specs.declared.spec.Group.{out-Group};
 
 use crate::scales::{AxisHere, ScaleHere, all_spots_at, laid_over, past, same_scale, scale_named};
 use crate::spots::Spot;
 use fixed_num::Num;
+use plot_scenes::AxisShown;
 use std::alloc::Global;
 use text_kit::{OutOfMemory, Seq};
-use vega_scenes::AxisShown;
+use vega_guides::axis_shown;
 use vega_spec::{Axis, Group};
 
 /// The axes of an object.
@@ -117,43 +118,64 @@ fn stands(axis: &Axis, scale: &ScaleHere) -> bool
     }
 }
 
-// Adds an axis over its scale in a plot of this width and height, where it stands.
-fn push_shown<'s>(
+// An axis over its scale in a plot of this width and height.
+fn axis_over(
     alloc: Global,
     width: Num,
     height: Num,
-    axis: &'s Axis,
+    axis: &Axis,
     scale: &ScaleHere,
-    out: &mut Seq<AxisShown<'s>>,
-) -> Result<(), OutOfMemory>
+) -> Result<AxisShown, OutOfMemory>
+    requires axis { IsAxis axis.now }
     requires kept { IsKeptScale scale.now.kept.now }
     requires width { IsPixel width }
     requires height { IsPixel height }
-    ensures value { OnOk result (map seen out.new ≡ map seen out.old
+    ensures value { IfOk result (λ shown. shown ≡ axis_over width height (record { axis = axis.now; scale = scale_seen scale.now })) }
+    ensures kept { IfOk result IsAxisShown }
+{
+    Ok(AxisShown {
+        axis: axis_shown(alloc, axis)?,
+        scale: laid_over(alloc, width, height, scale)?,
+    })
+}
+
+// Adds an axis over its scale in a plot of this width and height, where it stands.
+fn push_shown(
+    alloc: Global,
+    width: Num,
+    height: Num,
+    axis: &Axis,
+    scale: &ScaleHere,
+    out: &mut Seq<AxisShown>,
+) -> Result<(), OutOfMemory>
+    requires axis { IsAxis axis.now }
+    requires kept { IsKeptScale scale.now.kept.now }
+    requires width { IsPixel width }
+    requires height { IsPixel height }
+    ensures value { OnOk result (out.new ≡ out.old
         ++ axes_over width height (record { axis = axis.now; scale = scale_seen scale.now } ∷ [])) }
-    ensures kept { IsAxis axis.now → All HoldsAxis out.old → OnOk result (All HoldsAxis out.new) }
+    ensures kept { All IsAxisShown out.old → OnOk result (All IsAxisShown out.new) }
 {
     if stands(axis, scale) {
-        let laid = laid_over(alloc, width, height, scale)?;
-        out.push(AxisShown { axis, scale: laid })
+        out.push(axis_over(alloc, width, height, axis, scale)?)
     } else {
         Ok(())
     }
 }
 
 /// Adds the axes among some that stand in a plot of this width and height in pixels, each over its scale.
-pub(crate) fn push_all_shown<'s>(
+pub(crate) fn push_all_shown(
     alloc: Global,
     width: Num,
     height: Num,
-    axes: &[AxisHere<'s, '_>],
-    out: &mut Seq<AxisShown<'s>>,
+    axes: &[AxisHere],
+    out: &mut Seq<AxisShown>,
 ) -> Result<(), OutOfMemory>
     requires kept { AreKeptAxes axes.now }
     requires width { IsPixel width }
     requires height { IsPixel height }
-    ensures value { OnOk result (map seen out.new ≡ map seen out.old ++ axes_over width height (map axis_seen axes.now)) }
-    ensures kept { All HoldsAxis out.old → OnOk result (All HoldsAxis out.new) }
+    ensures value { OnOk result (out.new ≡ out.old ++ axes_over width height (map axis_seen axes.now)) }
+    ensures kept { All IsAxisShown out.old → OnOk result (All IsAxisShown out.new) }
 {
     for axis in axes {
         push_shown(alloc, width, height, axis.axis, &axis.scale, out)?;
@@ -162,20 +184,21 @@ pub(crate) fn push_all_shown<'s>(
 }
 
 // Adds an axis of a copy of an object where it stands, if its name stands for a scale.
-fn push_own<'s>(
+fn push_own(
     alloc: Global,
     width: Num,
     height: Num,
     scales: &[ScaleHere],
-    axis: &'s Axis,
-    out: &mut Seq<AxisShown<'s>>,
+    axis: &Axis,
+    out: &mut Seq<AxisShown>,
 ) -> Result<(), OutOfMemory>
+    requires axis { IsAxis axis.now }
     requires kept { AreKeptScales scales.now }
     requires width { IsPixel width }
     requires height { IsPixel height }
-    ensures value { OnOk result (map seen out.new ≡ map seen out.old
+    ensures value { OnOk result (out.new ≡ out.old
         ++ axes_over width height (axes_here (map scale_seen scales.now) (axis.now ∷ []))) }
-    ensures kept { IsAxis axis.now → All HoldsAxis out.old → OnOk result (All HoldsAxis out.new) }
+    ensures kept { All IsAxisShown out.old → OnOk result (All IsAxisShown out.new) }
 {
     match scale_named(scales, axis.scale.as_str()) {
         Some(scale) => push_shown(alloc, width, height, axis, scale, out),
@@ -184,20 +207,21 @@ fn push_own<'s>(
 }
 
 /// Adds the axes of a copy of an object that stand in a plot of this width and height in pixels, each over its scale.
-pub(crate) fn push_own_axes<'s>(
+pub(crate) fn push_own_axes(
     alloc: Global,
     width: Num,
     height: Num,
     scales: &[ScaleHere],
-    axes: &'s [Axis],
-    out: &mut Seq<AxisShown<'s>>,
+    axes: &[Axis],
+    out: &mut Seq<AxisShown>,
 ) -> Result<(), OutOfMemory>
+    requires axes { All IsAxis axes.now }
     requires kept { AreKeptScales scales.now }
     requires width { IsPixel width }
     requires height { IsPixel height }
-    ensures value { OnOk result (map seen out.new ≡ map seen out.old
+    ensures value { OnOk result (out.new ≡ out.old
         ++ axes_over width height (axes_here (map scale_seen scales.now) axes.now)) }
-    ensures kept { All IsAxis axes.now → All HoldsAxis out.old → OnOk result (All HoldsAxis out.new) }
+    ensures kept { All IsAxisShown out.old → OnOk result (All IsAxisShown out.new) }
 {
     for axis in axes {
         push_own(alloc, width, height, scales, axis, out)?;

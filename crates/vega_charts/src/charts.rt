@@ -9,35 +9,30 @@ ghost use Rattle.scene_tree.specs.Outcome.{in_reach};
 ghost use Rattle.vega_guides.specs.Shown.{IsCount};
 ghost use Rattle.vega_lists.specs.Held.{AreAllRows, AreSources};
 ghost use Rattle.vega_charts.specs.Sizes.{padding_round};
-ghost use Rattle.vega_scenes.specs.Scenes.{drawing_with};
-ghost use Rattle.vega_scenes.specs.Views.{HasLegends};
+ghost use Rattle.plot_scenes.specs.Scenes.{drawing_with};
+ghost use Rattle.plot_scenes.specs.Views.{HasLegends};
 ghost use Rattle.vega_spec.specs.declared.spec.Group.{out-Group};
 ghost use Rattle.vega_charts.specs.Answers.{Comes};
-ghost use Rattle.vega_charts.specs.Built.{KeepsRules};
+ghost use Rattle.vega_copies.specs.Built.{KeepsRules};
 ghost use Rattle.vega_charts.specs.Charts.{drawing_of};
 ghost use Rattle.vega_charts.specs.Scales.{and_outer, scale_in, set_of};
 ghost use Rattle.vega_charts.specs.Scenes.{drawing_over, scales_of_chart};
-ghost use Rattle.vega_charts.specs.Scopes.{keeps_signals};
-ghost use Rattle.vega_charts.specs.inner.Made.{HaveCopies};
-ghost use Rattle.vega_charts.specs.inner.Standing.{MayStand};
+ghost use Rattle.vega_copies.specs.Scopes.{keeps_signals};
+ghost use Rattle.vega_copies.specs.inner.Made.{HaveCopies};
+ghost use Rattle.vega_copies.specs.inner.Standing.{MayStand};
 ghost use Rattle.vega_charts.specs.inner.Framed.{frame_seen, IsFrame};
 ghost use Rattle.vega_charts.specs.inner.Kept.{axis_seen, kept_seen, scale_seen, AreKeptAxes, IsKeptScale};
-ghost use Rattle.vega_charts.specs.inner.Levels.{names_at, rows_at, AreNames};
+ghost use Rattle.vega_copies.specs.inner.Levels.{names_at, rows_at, AreNames};
 ghost use Rattle.vega_charts.specs.inner.Outcomes.{answered, can_be_counted, drawn_within, stopped, with_counted};
-ghost use Rattle.vega_charts.specs.inner.Outlined.{marks_in};
+ghost use Rattle.vega_copies.specs.inner.Outlined.{marks_in};
 ghost use Rattle.vega_charts.specs.inner.Topped.{drawn_grid, drawn_plot, grid_with_axes, held_top, is_of_chart, names_on_top, rows_on_top};
 ghost use Rattle.vega_charts.specs.inner.Topped.{scaled_grid, scaled_plot, sized_plot, top_of, top_seen, with_axes, IsTop};
 
 use crate::axes::{and_axes, axes_in};
-use crate::counts::count_plots;
 use crate::frames::{Frame, Sizing};
 use crate::grids::{Place, grid_view, plot_view};
-use crate::levels::{keeps_signals, level_with, with_level};
-use crate::made::{CopiesMade, made_in};
-use crate::marks::marks_in;
-use crate::names::{Level, NamesAt};
 use crate::scales::{
-    AxisHere, OfChart, ScaleHere, ScaleKept, and_outer, own_scales, scale_in, scales_in, set_of,
+    AxisHere, OfChart, ScaleHere, ScaleKept, and_outer, own_scales, scale_in, set_of,
 };
 use crate::sizes::{number, padding_round, size_of};
 use cell_value::{Cell, Named};
@@ -45,10 +40,14 @@ use expr_eval::EvalError;
 use fixed_num::Num;
 use guide_kit::GuideError;
 use mark_encode::IndexedSet;
+use plot_scenes::{Drawing, Placed, drawing_with};
 use scale_kit::ScaleIn;
 use std::alloc::Global;
 use text_kit::{OutOfMemory, Seq, Text};
-use vega_scenes::{Drawing, Placed, drawing_with};
+use vega_copies::{
+    CopiesMade, Level, NamesAt, count_plots, keeps_signals, level_with, made_in, marks_in,
+    scales_in, with_level,
+};
 use vega_spec::{Layout, VgSpec};
 
 /// As many plots in facets as a chart may have.

@@ -4,12 +4,11 @@ ghost use Rattle.expr_eval.specs.Answers.{Evaluates};
 ghost use Rattle.vega_spec.specs.declared.spec.VgMark.{out-VgMark};
 ghost use Rattle.vega_charts.specs.Scales.{with_domains, domain_length_here};
 ghost use Rattle.vega_charts.specs.Copies.{more_cells, encoded_number};
-ghost use Rattle.vega_charts.specs.inner.Levels.{values_at};
+ghost use Rattle.vega_copies.specs.inner.Levels.{values_at};
 ghost use Rattle.vega_charts.specs.inner.Kept.{scale_seen};
-ghost use Rattle.vega_charts.specs.inner.Outlined.{group_object};
+ghost use Rattle.vega_copies.specs.inner.Outlined.{group_object};
 ghost use Rattle.vega_charts.specs.inner.Framed.{frame_seen, cells_seen, IsFrame};
 
-use crate::names::NamesAt;
 use crate::scales::{ScaleHere, scale_named};
 use cell_value::{Cell, Steps};
 use expr_eval::{EvalError, ParamReader, RowReader};
@@ -18,6 +17,7 @@ use mark_encode::{ChannelName, IndexedSet, number_encoded};
 use std::alloc::Global;
 use std::sync::ledger::Ledger;
 use text_kit::{OutOfMemory, Seq, Text, copy_list};
+use vega_copies::NamesAt;
 use vega_scales::domain_size;
 use vega_spec::VgMark;
 

@@ -2,19 +2,19 @@
 ghost use Rattle.std.specs.Prelude.{◌≡◌, ◌<◌, ◌≤◌, ◌+◌, suc, ◌∷◌, [], true, IfOk, OnOk, map, All, length, IfSome};
 ghost use Rattle.expr_eval.specs.Answers.{Evaluates};
 ghost use Rattle.vega_spec.specs.declared.spec.Group.{out-Group};
-ghost use Rattle.vega_charts.specs.declared.made.CopiesMade.{out-CopiesMade};
+ghost use Rattle.vega_copies.specs.declared.made.CopiesMade.{out-CopiesMade};
 ghost use Rattle.vega_spec.specs.declared.spec.VgMark.{out-VgMark};
-ghost use Rattle.vega_charts.specs.Outlines.{object_here};
+ghost use Rattle.vega_copies.specs.Outlines.{object_here};
 ghost use Rattle.vega_charts.specs.Plots.{plot_of, grid_round, views_in, spacing_of};
-ghost use Rattle.vega_charts.specs.inner.Levels.{AreLevels};
-ghost use Rattle.vega_charts.specs.inner.Made.{levels_behind, made_seen, HaveCopies, IsCopyMade, KeepsSignals};
-ghost use Rattle.vega_charts.specs.inner.Outlined.{marks_from, marks_in, is_group, object_numbered, AreFew, group_object};
+ghost use Rattle.vega_copies.specs.inner.Levels.{AreLevels};
+ghost use Rattle.vega_copies.specs.inner.Made.{levels_behind, made_seen, HaveCopies, IsCopyMade, KeepsSignals};
+ghost use Rattle.vega_copies.specs.inner.Outlined.{marks_from, marks_in, is_group, object_numbered, AreFew, group_object};
 ghost use Rattle.vega_charts.specs.inner.Drawn.{rows_in_frame, sources_of};
-ghost use Rattle.vega_charts.specs.inner.Standing.{MayStand};
+ghost use Rattle.vega_copies.specs.inner.Standing.{MayStand};
 ghost use Rattle.vega_charts.specs.inner.Placed.{place_seen, place_past, place_entered, IsPlace, IsFound, count_found, AddsViews};
 ghost use Rattle.vega_charts.specs.inner.Placed.{grid_seen, grid_of_object, cell_seen, mark_seen, view_at, view_named, view_scaled, sized_plot};
-ghost use Rattle.vega_charts.specs.Built.{KeepsObject};
-ghost use Rattle.vega_scenes.specs.Views.{placed_plot, HasLegends};
+ghost use Rattle.vega_copies.specs.Built.{KeepsObject};
+ghost use Rattle.plot_scenes.specs.Views.{placed_plot, HasLegends};
 ghost use Rattle.vega_charts.specs.Copies.{as_grid};
 ghost use Rattle.fixed_num.specs.Ranges.{all_found};
 ghost use Rattle.std.specs.Option.{option_map};
@@ -23,27 +23,24 @@ ghost use Rattle.vega_guides.specs.Shown.{IsAxis, IsCount};
 ghost use Rattle.vega_charts.specs.inner.Framed.{frame_seen, IsFrame};
 
 use crate::axes::{all_axes_past, and_axes, axes_in};
-use crate::copies::facet_in;
 use crate::frames::{Frame, encoded_number, more_cells, slice_of};
 use crate::headers::headers_of;
 use crate::layouts::{grid_of, spacing_of};
 use crate::legends::push_legends;
-use crate::levels::{keeps_signals, with_level};
-use crate::made::{CopiesMade, CopyMade};
-use crate::marks::{count_groups_of, count_marks_of, is_group, marks_in};
-use crate::names::{Level, NamesAt};
 use crate::plots::plot_of;
-use crate::scales::{
-    AxisHere, OfChart, all_past, and_outer, own_scales, own_set_of, scales_in, set_of,
-};
+use crate::scales::{AxisHere, OfChart, all_past, and_outer, own_scales, own_set_of, set_of};
 use crate::sizes::size_cut;
 use crate::spots::{Grid, Spot, spot_of};
 use cell_value::Cell;
 use expr_eval::EvalError;
 use mark_encode::{ChannelName, IndexedSet};
+use plot_scenes::{GridShown, Header, Placed, placed_grid, placed_plot};
 use std::alloc::Global;
 use text_kit::{Copies, OutOfMemory, Seq, Text};
-use vega_scenes::{GridShown, Header, Placed, placed_grid, placed_plot};
+use vega_copies::{
+    CopiesMade, CopyMade, Level, NamesAt, count_groups_of, count_marks_of, facet_in, is_group,
+    keeps_signals, marks_in, scales_in, with_level,
+};
 use vega_spec::{Group, Layout, VgMark};
 
 /// A copy of an object that is a plot or a grid.

@@ -4,17 +4,16 @@ ghost use Rattle.std.specs.Option.{option_to_list};
 ghost use Rattle.std.specs.List.{filter_map};
 ghost use Rattle.vega_spec.specs.declared.spec.VgMark.{out-VgMark};
 ghost use Rattle.vega_charts.specs.Grids.{draws_at, header_for, headers_of, is_row};
-ghost use Rattle.vega_charts.specs.inner.Made.{made_seen};
-ghost use Rattle.vega_charts.specs.inner.Outlined.{group_object};
+ghost use Rattle.vega_copies.specs.inner.Made.{made_seen};
+ghost use Rattle.vega_copies.specs.inner.Outlined.{group_object};
 ghost use Rattle.vega_charts.specs.inner.Placed.{header_places_of};
 
-use crate::copies::facet_in;
-use crate::made::CopyMade;
 use crate::plots::headers_copied;
 use cell_value::Cell;
+use plot_scenes::Header;
 use std::alloc::Global;
 use text_kit::{OutOfMemory, Seq, Text};
-use vega_scenes::Header;
+use vega_copies::{CopyMade, facet_in};
 use vega_spec::{Facet, VgMark};
 
 /// The headers of a copy of a group: those that its facet draws, that of the row before that of the column, and then those round it.

@@ -4,16 +4,16 @@ ghost use Rattle.std.specs.Option.{option_map};
 ghost use Rattle.expr_eval.specs.Answers.{Evaluates};
 ghost use Rattle.vega_spec.specs.declared.spec.Group.{out-Group};
 ghost use Rattle.vega_spec.specs.declared.spec.VgMark.{out-VgMark};
-ghost use Rattle.vega_charts.specs.Outlines.{object_here};
+ghost use Rattle.vega_copies.specs.Outlines.{object_here};
 ghost use Rattle.vega_charts.specs.Items.{items_in_plot, items_in_copy, rows_of_mark};
 ghost use Rattle.vega_charts.specs.Plots.{drawn_in, with_guides, items_inside, and_inside, nothing_inside};
 ghost use Rattle.vega_charts.specs.inner.Framed.{frame_seen, entered, IsFrame};
-ghost use Rattle.vega_charts.specs.Built.{KeepsObject};
-ghost use Rattle.vega_charts.specs.inner.Outlined.{marks_from, marks_in, plain_of, is_group, AreFew, group_object};
+ghost use Rattle.vega_copies.specs.Built.{KeepsObject};
+ghost use Rattle.vega_copies.specs.inner.Outlined.{marks_from, marks_in, plain_of, is_group, AreFew, group_object};
 ghost use Rattle.vega_charts.specs.inner.Drawn.{inside_seen, IsInside, DrawsMore, MayDraw, rows_in_frame, sources_of, placed_from, drawn_framed, drawn_named, drawn_copy, drawn_group};
-ghost use Rattle.vega_charts.specs.inner.Made.{levels_behind, made_seen, HaveCopies, IsCopyMade, KeepsSignals, OneMade};
-ghost use Rattle.vega_charts.specs.inner.Standing.{MayStand};
-ghost use Rattle.vega_charts.specs.inner.Levels.{rows_at, rows_behind, AreNames, AreLevels};
+ghost use Rattle.vega_copies.specs.inner.Made.{levels_behind, made_seen, HaveCopies, IsCopyMade, KeepsSignals, OneMade};
+ghost use Rattle.vega_copies.specs.inner.Standing.{MayStand};
+ghost use Rattle.vega_copies.specs.inner.Levels.{rows_at, rows_behind, AreNames, AreLevels};
 ghost use Rattle.vega_lists.specs.Held.{scope_read};
 ghost use Rattle.mark_encode.specs.Orders.{data_of};
 ghost use Rattle.plain_rows.specs.Rows.{AreRows};
@@ -22,27 +22,27 @@ ghost use Rattle.vega_guides.specs.Shown.{IsAxis};
 use crate::axes::{axes_in, push_own_axes};
 use crate::frames::{Frame, encoded_number, more_cells, slice_of};
 use crate::legends::push_legends;
-use crate::levels::{keeps_signals, with_level};
-use crate::made::{CopiesMade, CopyMade};
-use crate::marks::{count_groups_of, count_marks_of, is_group, marks_in};
-use crate::names::{Level, NamesAt};
-use crate::scales::{OfChart, and_outer, own_scales, own_set_of, scales_in};
+use crate::scales::{OfChart, and_outer, own_scales, own_set_of};
 use cell_value::{Cell, Keyed};
 use expr_eval::EvalError;
 use fixed_num::Num;
 use mark_encode::{ChannelName, IndexedSet, items_over_rows};
+use plot_scenes::{AxisShown, LegendShown};
 use scene_tree::{Item, moved_items};
 use std::alloc::Global;
 use text_kit::{OutOfMemory, Seq, Text};
+use vega_copies::{
+    CopiesMade, CopyMade, Level, NamesAt, count_groups_of, count_marks_of, is_group, keeps_signals,
+    marks_in, scales_in, with_level,
+};
 use vega_lists::ListReader;
-use vega_scenes::{AxisShown, LegendShown};
 use vega_spec::{Group, MarkFrom, VgMark};
 
 /// What marks draw in the plot round them.
 #[derive(Drop)]
-pub struct Inside<'s> {
+pub struct Inside {
     /// The axes that stand there, each over its scale.
-    pub axes: Seq<AxisShown<'s>>,
+    pub axes: Seq<AxisShown>,
     /// The legends.
     pub legends: Seq<LegendShown>,
     /// The items.
@@ -144,12 +144,12 @@ fn draw_mark(
 }
 
 /// Adds the axes and the legends of a copy of an object that has this number.
-pub(crate) fn draw_guides<'s>(
+pub(crate) fn draw_guides(
     alloc: Global,
     frame: &Frame,
     number: u32,
-    group: &'s Group,
-    out: &mut Inside<'s>,
+    group: &Group,
+    out: &mut Inside,
 ) -> Result<(), OutOfMemory>
     requires frame { IsFrame frame.now }
     requires axes { All IsAxis (object_here (out-Group group.now)).axes }
@@ -192,14 +192,14 @@ fn place_from(
 
 // What a copy of a group draws whose names and scales are known, before its place is.
 #[cycle(drawing)]
-fn draw_framed<'s>(
+fn draw_framed(
     alloc: Global,
     frame: &Frame,
     unit: u32,
     number: u32,
-    mark: &'s VgMark,
+    mark: &VgMark,
     made: &[CopiesMade],
-    out: &mut Inside<'s>,
+    out: &mut Inside,
 ) -> Result<(), EvalError>
     requires frame { MayDraw frame.now (marks_in (out-Group (out-VgMark mark.now).group)) made.now }
     requires object { KeepsObject (group_object number (out-VgMark mark.now)) }
@@ -231,14 +231,14 @@ fn draw_framed<'s>(
 
 // What a copy of a group draws whose names are known.
 #[cycle(drawing)]
-fn draw_named<'s>(
+fn draw_named(
     alloc: Global,
     named: &Frame,
     unit: u32,
     number: u32,
-    mark: &'s VgMark,
+    mark: &VgMark,
     made: &[CopiesMade],
-    out: &mut Inside<'s>,
+    out: &mut Inside,
 ) -> Result<(), EvalError>
     requires frame { MayDraw named.now (marks_in (out-Group (out-VgMark mark.now).group)) made.now }
     requires object { KeepsObject (group_object number (out-VgMark mark.now)) }
@@ -269,16 +269,16 @@ fn draw_named<'s>(
 
 // What a copy of a group draws whose own names are known, with the cells of the facets round it and its own.
 #[cycle(drawing)]
-fn draw_entered<'s, 'x>(
+fn draw_entered<'x>(
     alloc: Global,
     outer: &Frame<'x, 'x, 'x>,
     levels: &'x [&'x Level],
     cells: Option<&'x [(Text, Cell)]>,
     unit: u32,
     number: u32,
-    mark: &'s VgMark,
+    mark: &VgMark,
     made: &[CopiesMade],
-    out: &mut Inside<'s>,
+    out: &mut Inside,
 ) -> Result<(), EvalError>
     requires frame { IsFrame outer.now }
     requires names { AreLevels outer.now.names.sources.now levels.now }
@@ -303,14 +303,14 @@ fn draw_entered<'s, 'x>(
 
 // What a copy of a group draws.
 #[cycle(drawing)]
-fn draw_copy<'s>(
+fn draw_copy(
     alloc: Global,
     outer: &Frame,
     unit: u32,
     number: u32,
-    mark: &'s VgMark,
+    mark: &VgMark,
     copy: &CopyMade,
-    out: &mut Inside<'s>,
+    out: &mut Inside,
 ) -> Result<(), EvalError>
     requires frame { IsFrame outer.now }
     requires marks { MayStand (rows_in_frame outer.now) (mark.now ∷ []) }
@@ -330,14 +330,14 @@ fn draw_copy<'s>(
 
 // What a copy of a group draws in which each signal of its own has a value.
 #[cycle(drawing)]
-fn draw_kept<'s>(
+fn draw_kept(
     alloc: Global,
     outer: &Frame,
     unit: u32,
     number: u32,
-    mark: &'s VgMark,
+    mark: &VgMark,
     copy: &CopyMade,
-    out: &mut Inside<'s>,
+    out: &mut Inside,
 ) -> Result<(), EvalError>
     requires frame { IsFrame outer.now }
     requires marks { MayStand (rows_in_frame outer.now) (mark.now ∷ []) }
@@ -366,14 +366,14 @@ fn draw_kept<'s>(
 
 // What the copies of a group draw.
 #[cycle(drawing)]
-fn draw_group<'s>(
+fn draw_group(
     alloc: Global,
     frame: &Frame,
     unit: u32,
     number: u32,
-    mark: &'s VgMark,
+    mark: &VgMark,
     made: &CopiesMade,
-    out: &mut Inside<'s>,
+    out: &mut Inside,
 ) -> Result<(), EvalError>
     requires frame { IsFrame frame.now }
     requires marks { MayStand (rows_in_frame frame.now) (mark.now ∷ []) }
@@ -395,14 +395,14 @@ fn draw_group<'s>(
 
 // Adds what a mark draws that is numbered `unit`, or a group that is numbered `number` and in which marks are numbered from `unit` on.
 #[cycle(drawing)]
-fn draw_one<'s>(
+fn draw_one(
     alloc: Global,
     frame: &Frame,
     unit: u32,
     number: u32,
-    mark: &'s VgMark,
+    mark: &VgMark,
     made: &CopiesMade,
-    out: &mut Inside<'s>,
+    out: &mut Inside,
 ) -> Result<(), EvalError>
     requires frame { IsFrame frame.now }
     requires marks { MayStand (rows_in_frame frame.now) (mark.now ∷ []) }
@@ -422,14 +422,14 @@ fn draw_one<'s>(
 /// Adds what marks draw whose groups have these copies, in the order of the text. They are numbered from `unit` on, and the groups among them
 /// from `number` on.
 #[cycle(drawing)]
-pub(crate) fn draw_all<'s>(
+pub(crate) fn draw_all(
     alloc: Global,
     frame: &Frame,
     unit: u32,
     number: u32,
-    marks: &'s [VgMark],
+    marks: &[VgMark],
     made: &[CopiesMade],
-    out: &mut Inside<'s>,
+    out: &mut Inside,
 ) -> Result<(), EvalError>
     requires frame { MayDraw frame.now marks.now made.now }
     requires few { AreFew unit number marks.now }

@@ -5,10 +5,10 @@ ghost use Rattle.vega_charts.specs.Grids.{columns_written};
 ghost use Rattle.vega_charts.specs.Plots.{spacing_of};
 ghost use Rattle.vega_charts.specs.inner.Placed.{columns_found, count_found, grid_found};
 
-use crate::made::CopiesMade;
 use crate::sizes::number;
 use crate::spots::Grid;
 use fixed_num::Num;
+use vega_copies::CopiesMade;
 use vega_guides::whole_of;
 use vega_spec::Layout;
 

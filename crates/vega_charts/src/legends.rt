@@ -2,18 +2,18 @@
 ghost use Rattle.std.specs.Prelude.{◌≡◌, ◌++◌, OnOk, All, filter_map};
 ghost use Rattle.std.specs.Option.{option_to_list};
 ghost use Rattle.vega_spec.specs.declared.spec.Group.{out-Group};
-ghost use Rattle.vega_charts.specs.Outlines.{object_here};
+ghost use Rattle.vega_copies.specs.Outlines.{object_here};
 ghost use Rattle.vega_charts.specs.Plots.{legend_in_channel, legend_channels, legends_in};
 ghost use Rattle.vega_charts.specs.inner.Framed.{frame_seen, IsFrame};
 ghost use Rattle.vega_guides.specs.Legends.{scale_shown};
-ghost use Rattle.vega_scenes.specs.Legends.{IsLegendShown};
+ghost use Rattle.plot_scenes.specs.Legends.{IsLegendShown};
 
 use crate::frames::Frame;
 use crate::scales::{laid_over, scale_named};
+use plot_scenes::LegendShown;
 use std::alloc::Global;
 use text_kit::{OutOfMemory, Seq, Text};
 use vega_guides::{LegendChannel, legend_shown};
-use vega_scenes::LegendShown;
 use vega_spec::{Group, Legend};
 
 // The legends of an object.

@@ -3,33 +3,31 @@ ghost use Rattle.std.specs.Prelude.{◌≡◌, ◌<◌, ◌^◌, ◌∷◌, ◌+
 ghost use Rattle.std.specs.List.{filter};
 ghost use Rattle.expr_eval.specs.Answers.{Evaluates};
 ghost use Rattle.vega_spec.specs.declared.spec.Group.{out-Group};
-ghost use Rattle.vega_scenes.specs.Legends.{IsLegendShown};
-ghost use Rattle.vega_charts.specs.Built.{KeepsObject};
-ghost use Rattle.vega_charts.specs.Outlines.{count_marks, first_unit};
+ghost use Rattle.plot_scenes.specs.Legends.{IsLegendShown};
+ghost use Rattle.vega_copies.specs.Built.{KeepsObject};
+ghost use Rattle.vega_copies.specs.Outlines.{count_marks, first_unit};
 ghost use Rattle.vega_charts.specs.Plots.{nothing_inside, plot_of, scales_of_plot};
 ghost use Rattle.vega_charts.specs.Scales.{scale_in};
 ghost use Rattle.vega_charts.specs.inner.Drawn.{inside_seen, sources_of, IsInside, MayDraw};
-ghost use Rattle.vega_charts.specs.inner.Made.{HaveCopies};
+ghost use Rattle.vega_copies.specs.inner.Made.{HaveCopies};
 ghost use Rattle.vega_charts.specs.inner.Framed.{frame_seen, frame_with, IsFrame};
 ghost use Rattle.vega_charts.specs.inner.Kept.{axis_seen, scale_seen, AreKeptAxes, IsKeptScale};
-ghost use Rattle.vega_charts.specs.inner.Outlined.{marks_from, marks_in, marks_of, object_numbered, AreFew};
+ghost use Rattle.vega_copies.specs.inner.Outlined.{marks_from, marks_in, marks_of, object_numbered, AreFew};
 ghost use Rattle.vega_charts.specs.inner.Plotted.{is_of_plot, plot_round, plot_with, standing_in};
-ghost use Rattle.vega_charts.specs.inner.Results.{result_map};
+ghost use Rattle.vega_copies.specs.inner.Results.{result_map};
 
 use crate::axes::push_all_shown;
 use crate::frames::{Frame, cells_copied};
 use crate::inside::{Inside, draw_all, draw_guides};
-use crate::made::CopiesMade;
-use crate::marks::{first_unit, marks_in};
 use crate::scales::{AxisHere, ScaleHere, scale_in};
 use crate::units::in_unit_order;
 use expr_eval::EvalError;
 use guide_kit::GuideError;
+use plot_scenes::{Axes, Header, Plot, axes_at};
 use scale_kit::ScaleIn;
 use std::alloc::Global;
 use text_kit::{Copies, OutOfMemory, Seq};
-use vega_guides::Axes;
-use vega_scenes::{Header, Plot, axes_at};
+use vega_copies::{CopiesMade, first_unit, marks_in};
 use vega_spec::Group;
 
 // Adds a scale of a plot where it isn't one of the whole chart.
@@ -78,7 +76,7 @@ pub(crate) fn headers_copied(alloc: Global, headers: &[Header]) -> Result<Seq<He
 }
 
 // Nothing inside a plot.
-fn no_inside<'s>(alloc: Global) -> Inside<'s>
+fn no_inside(alloc: Global) -> Inside
     ensures seen { inside_seen result ≡ nothing_inside }
     ensures kept { IsInside result }
 {
@@ -90,15 +88,15 @@ fn no_inside<'s>(alloc: Global) -> Inside<'s>
 }
 
 // Adds what stands in a plot: the axes of the grids round it before its own, and the items in the order of the text.
-fn draw_inside<'s>(
+fn draw_inside(
     alloc: Global,
     frame: &Frame,
-    axes: &[AxisHere<'s, '_>],
-    group: &'s Group,
+    axes: &[AxisHere],
+    group: &Group,
     made: &[CopiesMade],
     unit: u32,
     number: u32,
-    out: &mut Inside<'s>,
+    out: &mut Inside,
 ) -> Result<(), EvalError>
     requires frame { MayDraw frame.now (marks_in (out-Group group.now)) made.now }
     requires axes { AreKeptAxes axes.now }
@@ -116,15 +114,15 @@ fn draw_inside<'s>(
 }
 
 // What stands in a plot.
-fn inside_of<'s>(
+fn inside_of(
     alloc: Global,
     frame: &Frame,
-    axes: &[AxisHere<'s, '_>],
-    group: &'s Group,
+    axes: &[AxisHere],
+    group: &Group,
     made: &[CopiesMade],
     unit: u32,
     number: u32,
-) -> Result<Inside<'s>, EvalError>
+) -> Result<Inside, EvalError>
     requires frame { MayDraw frame.now (marks_in (out-Group group.now)) made.now }
     requires axes { AreKeptAxes axes.now }
     requires object { KeepsObject (object_numbered number (out-Group group.now)) }
@@ -153,7 +151,7 @@ fn plot_with(
     requires frame { IsFrame frame.now }
     requires few { count_marks (marks_of (marks_in (out-Group group.now))) < 2 ^ 32 }
     ensures { IfOk result (λ plot. plot ≡ plot_with (object_numbered 0 (out-Group group.now))
-        (first_unit (marks_from unit 0 (marks_in (out-Group group.now)))) (frame_with frame.now [] headers.now) axes (inside_seen inside.entry)) }
+        (first_unit (marks_from unit 0 (marks_in (out-Group group.now)))) (frame_with frame.now [] headers.now) axes (inside_seen inside)) }
 {
     Ok(Plot {
         width: frame.width,
@@ -182,7 +180,7 @@ fn plot_round(
     requires few { count_marks (marks_of (marks_in (out-Group group.now))) < 2 ^ 32 }
     requires kept { IsInside inside }
     ensures value { Evaluates result (plot_round (object_numbered 0 (out-Group group.now))
-        (first_unit (marks_from unit 0 (marks_in (out-Group group.now)))) (frame_with frame.now [] headers.now) (inside_seen inside.entry)) }
+        (first_unit (marks_from unit 0 (marks_in (out-Group group.now)))) (frame_with frame.now [] headers.now) (inside_seen inside)) }
     ensures legends { IfOk result (λ plot. All IsLegendShown plot.legends) }
 {
     match axes_at(alloc, inside.axes.as_slice(), &(frame.width, frame.height)) {
@@ -195,12 +193,12 @@ fn plot_round(
 /// The plot of a copy of an object whose groups have these copies: the axes of the grids round it, its own and those of the groups in it,
 /// each where it stands; its items by the numbers of their marks; its own legends and those of the groups in it. Its own number is `number`,
 /// and its marks are numbered from `unit` on. `Overflow` comes exactly where a number is out of range.
-pub(crate) fn plot_of<'s>(
+pub(crate) fn plot_of(
     alloc: Global,
     frame: &Frame,
-    axes: &[AxisHere<'s, '_>],
+    axes: &[AxisHere],
     headers: &[Header],
-    group: &'s Group,
+    group: &Group,
     made: &[CopiesMade],
     unit: u32,
     number: u32,

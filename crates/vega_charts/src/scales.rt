@@ -1,27 +1,25 @@
 // The scales that have names at a copy of an object, and axes over them.
 ghost use Rattle.std.specs.Prelude.{◌≡◌, ◌∷◌, ◌++◌, [], not, IfOk, OnOk, IsTrue, map, All, option_copied};
 ghost use Rattle.std.specs.List.{list_all, filter};
-ghost use Rattle.vega_spec.specs.declared.spec.Group.{out-Group};
-ghost use Rattle.vega_charts.specs.Outlines.{object_here};
 ghost use Rattle.std.specs.Option.{option_map};
-ghost use Rattle.vega_charts.specs.inner.Results.{result_map};
+ghost use Rattle.vega_copies.specs.inner.Results.{result_map};
 ghost use Rattle.fixed_num.specs.Ranges.{all_found};
 ghost use Rattle.expr_eval.specs.Answers.{Evaluates};
 ghost use Rattle.scale_kit.specs.Scale.{IsPixel, IsScale, AreScales};
 ghost use Rattle.vega_scales.specs.Scales.{is_built, is_domain_built, KeepsBounds};
 ghost use Rattle.vega_charts.specs.Scales.{name_of, own_scale, has_scale, and_outer, scale_named, set_of, scale_in, laid_over, past, is_at, is_sized};
-ghost use Rattle.vega_charts.specs.inner.Levels.{names_at, AreNames};
+ghost use Rattle.vega_copies.specs.inner.Levels.{names_at, AreNames};
 ghost use Rattle.vega_charts.specs.inner.Kept.{kept_seen, scale_seen, chart_has, IsKeptScale, AreKeptScales};
 
-use crate::names::NamesAt;
 use crate::spots::{Spot, is_at};
 use expr_eval::EvalError;
 use fixed_num::Num;
 use scale_kit::{ScaleIn, ScaleSet};
 use std::alloc::Global;
 use text_kit::{OutOfMemory, Seq};
+use vega_copies::NamesAt;
 use vega_scales::{Scaled, domain_of, scale_over};
-use vega_spec::{Axis, Edge, Group, Range, Scale};
+use vega_spec::{Axis, Edge, Range, Scale};
 
 /// A scale of an object with its domain.
 #[derive(Drop)]
@@ -61,16 +59,6 @@ pub enum OfChart {
     Plot,
     /// Of a top with a layout each does whose range isn't the size of a plot.
     Grid,
-}
-
-/// The scales of an object.
-pub(crate) fn scales_in(group: &Group) -> &[Scale]
-    ensures { result.now ≡ (object_here (out-Group group.now)).scales }
-{
-    match &group.scales {
-        Some(scales) => scales.as_slice(),
-        None => &[],
-    }
 }
 
 /// Whether all of some spots are at an edge.

@@ -4,7 +4,8 @@ ghost use Rattle.fixed_num.specs.Number.{limit};
 ghost use Rattle.expr_eval.specs.Answers.{Evaluates};
 ghost use Rattle.scale_kit.specs.Scale.{IsPixel};
 ghost use Rattle.vega_charts.specs.Grids.{size_cut};
-ghost use Rattle.vega_charts.specs.Sizes.{size_in, size_of, padding_round, IsSizeKept};
+ghost use Rattle.vega_charts.specs.Sizes.{size_in, size_of, padding_round};
+ghost use Rattle.vega_copies.specs.Built.{IsSizeKept};
 
 use cell_value::Cell;
 use expr_eval::{EvalError, ParamReader};

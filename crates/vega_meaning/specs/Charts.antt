@@ -7,7 +7,7 @@ use Rattle.scene_tree.specs.declared.scene.Scene.{Scene}
 use Rattle.scene_tree.specs.Outcome.{Outcome, outcome_map}
 use Rattle.svg_text.specs.SceneText.{svg_of}
 use Rattle.vega_spec.specs.declared.spec.VgSpec.{VgSpec}
-use Rattle.vega_scenes.specs.declared.scenes.Drawing.{Drawing}
+use Rattle.plot_scenes.specs.declared.scenes.Drawing.{Drawing}
 use Rattle.vega_charts.specs.Charts.{drawing_of}
 
 -- the picture of what is drawn

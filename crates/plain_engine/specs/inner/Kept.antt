@@ -10,7 +10,7 @@ use Rattle.scene_tree.specs.declared.scene.Scene.{Scene}
 use Rattle.scene_tree.specs.Outcome.{Drawn, outcome_map}
 use Rattle.svg_text.specs.SceneText.{svg_of}
 use Rattle.vega_spec.specs.declared.spec.VgSpec.{VgSpec}
-use Rattle.vega_charts.specs.Tested.{is_chart}
+use Rattle.vega_copies.specs.Tested.{is_chart}
 use Rattle.vega_meaning.specs.Charts.{vega_scene_of}
 use Rattle.vega_meaning.specs.States.{IsStateOf}
 use Rattle.play_script.specs.Meaning.{Meaning, IsStanding}

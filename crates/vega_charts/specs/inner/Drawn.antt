@@ -5,8 +5,8 @@ use Rattle.expr_eval.specs.declared.error.EvalError.{EvalError}
 use Rattle.expr_eval.specs.declared.error.EvalError.TheVariants as error
 use Rattle.vega_spec.specs.declared.spec.VgMark.{VgMark, VgMark-F}
 use Rattle.vega_lists.specs.Inside.{RowsByName}
-use Rattle.vega_scenes.specs.Axes.{seen, HoldsAxis}
-use Rattle.vega_scenes.specs.Legends.{IsLegendShown}
+use Rattle.plot_scenes.specs.Axes.{IsAxisShown}
+use Rattle.plot_scenes.specs.Legends.{IsLegendShown}
 use Rattle.vega_charts.specs.declared.frames.Frame.{Frame as HeldFrame}
 use Rattle.vega_charts.specs.declared.inside.Inside.{Inside as HeldInside}
 use Rattle.fixed_num.specs.Ranges.{◌>>=◌, all_found, in_range}
@@ -14,24 +14,24 @@ use Rattle.cell_value.specs.State.{Dataset, dataset_of}
 use Rattle.mark_encode.specs.declared.channels.ChannelName.{ChannelName}
 use Rattle.mark_encode.specs.declared.channels.ChannelName.TheVariants as channel
 use Rattle.vega_spec.specs.declared.spec.Group.{Group, out-Group}
-use Rattle.vega_charts.specs.Outlines.{Object}
-use Rattle.vega_charts.specs.Facets.{Copy, copies_of}
+use Rattle.vega_copies.specs.Outlines.{Object}
+use Rattle.vega_copies.specs.Facets.{Copy, copies_of}
 use Rattle.vega_charts.specs.Scales.{own_scale, and_outer}
 use Rattle.vega_charts.specs.Copies.{Frame, encoded_number, of_no_chart, moved_copy}
 use Rattle.vega_charts.specs.Plots.{Inside, and_inside, all_inside, with_guides, drawn_in}
-use Rattle.vega_charts.specs.inner.Levels.{rows_at}
+use Rattle.vega_copies.specs.inner.Levels.{rows_at}
 use Rattle.vega_charts.specs.inner.Framed.{IsFrame}
-use Rattle.vega_charts.specs.inner.Outlined.{marks_in, marks_from, group_object}
-use Rattle.vega_charts.specs.inner.Made.{HaveCopies}
-use Rattle.vega_charts.specs.declared.made.CopiesMade.{CopiesMade}
+use Rattle.vega_copies.specs.inner.Outlined.{marks_in, marks_from, group_object}
+use Rattle.vega_copies.specs.inner.Made.{HaveCopies}
+use Rattle.vega_copies.specs.declared.made.CopiesMade.{CopiesMade}
 
 -- what is held of what marks draw
 abbrev pub inside_seen : HeldInside → Inside
-inside_seen i = record { axes = map seen i.axes; legends = i.legends; items = i.items }
+inside_seen i = record { axes = i.axes; legends = i.legends; items = i.items }
 
 -- each axis and each legend is over a scale such as its drawing asks for
 pub record IsInside (i : HeldInside) : Type 0 where
-  pub axes : All HoldsAxis i.axes
+  pub axes : All IsAxisShown i.axes
   pub legends : All IsLegendShown i.legends
 
 -- What was drawn stands behind what there was; it is `Overflow` exactly where nothing is drawn, unless memory was refused.

@@ -4,13 +4,13 @@ use Rattle.std.specs.Option.{option_map}
 use Rattle.std.specs.Borrow.{Bor}
 use Rattle.cell_value.specs.declared.cell.Cell.{Cell}
 use Rattle.scale_kit.specs.Scale.{IsPixel, AreScales}
-use Rattle.vega_scenes.specs.declared.headers.Header.{Header}
+use Rattle.plot_scenes.specs.declared.headers.Header.{Header}
 use Rattle.vega_charts.specs.declared.frames.Frame.{Frame as HeldFrame}
-use Rattle.vega_charts.specs.declared.names.Level.{Level}
+use Rattle.vega_copies.specs.declared.names.Level.{Level}
 use Rattle.vega_charts.specs.declared.scales.AxisHere.{AxisHere as HeldAxis}
 use Rattle.vega_charts.specs.Scales.{set_of}
 use Rattle.vega_charts.specs.Copies.{Frame}
-use Rattle.vega_charts.specs.inner.Levels.{names_at, AreNames}
+use Rattle.vega_copies.specs.inner.Levels.{names_at, AreNames}
 use Rattle.vega_charts.specs.inner.Kept.{scale_seen, axis_seen, AreKeptScales}
 
 -- cells behind a reference

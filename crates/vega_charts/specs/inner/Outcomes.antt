@@ -6,13 +6,14 @@ use Rattle.expr_eval.specs.declared.error.EvalError.TheVariants as eval
 use Rattle.scene_tree.specs.Outcome.{Outcome, Panels, ◌>>=◌, in_reach}
 use Rattle.vega_spec.specs.declared.spec.Group.{out-Group}
 use Rattle.vega_spec.specs.declared.spec.VgSpec.{VgSpec}
-use Rattle.vega_scenes.specs.declared.scenes.Drawing.{Drawing}
+use Rattle.plot_scenes.specs.declared.scenes.Drawing.{Drawing}
 use Rattle.vega_charts.specs.declared.charts.DrawError.{DrawError}
 use Rattle.vega_charts.specs.declared.charts.DrawError.TheVariants as error
-use Rattle.vega_charts.specs.Scopes.{Names}
-use Rattle.vega_charts.specs.Panels.{plots_in_facets, most_panels, with_panels}
+use Rattle.vega_copies.specs.Scopes.{Names}
+use Rattle.vega_copies.specs.Panels.{plots_in_facets}
+use Rattle.vega_charts.specs.Panels.{most_panels, with_panels}
 use Rattle.vega_charts.specs.Scenes.{drawing_over}
-use Rattle.vega_charts.specs.inner.Outlined.{marks_in, marks_of}
+use Rattle.vega_copies.specs.inner.Outlined.{marks_in, marks_of}
 use Rattle.vega_charts.specs.inner.Topped.{top_of}
 
 -- why nothing is drawn, where an evaluation stops

@@ -10,29 +10,29 @@ use Rattle.vega_spec.specs.declared.guides.Layout.{Layout}
 use Rattle.vega_spec.specs.declared.spec.Group.{Group, out-Group}
 use Rattle.vega_spec.specs.declared.spec.VgMark.{VgMark, VgMark-F, out-VgMark}
 use Rattle.vega_lists.specs.Held.{scope_read}
-use Rattle.vega_scenes.specs.declared.views.Placed.{Placed}
-use Rattle.vega_charts.specs.declared.made.CopiesMade.{CopiesMade, out-CopiesMade}
+use Rattle.plot_scenes.specs.declared.views.Placed.{Placed}
+use Rattle.vega_copies.specs.declared.made.CopiesMade.{CopiesMade, out-CopiesMade}
 use Rattle.vega_charts.specs.declared.grids.Place.{Place}
-use Rattle.vega_charts.specs.declared.names.NamesAt.{NamesAt}
+use Rattle.vega_copies.specs.declared.names.NamesAt.{NamesAt}
 use Rattle.vega_charts.specs.declared.spots.Grid.{Grid}
 use Rattle.vega_charts.specs.declared.spots.Spot.{Spot}
-use Rattle.vega_charts.specs.Outlines.{Object, Marks}
-use Rattle.vega_charts.specs.Facets.{Copy, copies_of, columns_across}
+use Rattle.vega_copies.specs.Outlines.{Object, Marks}
+use Rattle.vega_copies.specs.Facets.{Copy, copies_of, columns_across}
 use Rattle.vega_charts.specs.Copies.{Frame, copy_in}
 use Rattle.std.specs.Borrow.{Bor}
 use Rattle.cell_value.specs.declared.cell.Cell.{Cell}
 use Rattle.vega_spec.specs.declared.marks.Facet.{Facet}
 use Rattle.vega_spec.specs.declared.marks.Header.{Header as HeaderPlace}
-use Rattle.vega_scenes.specs.declared.headers.Header.{Header}
-use Rattle.vega_scenes.specs.Views.{placed_plot}
-use Rattle.vega_charts.specs.declared.names.Level.{Level}
+use Rattle.plot_scenes.specs.declared.headers.Header.{Header}
+use Rattle.plot_scenes.specs.Views.{placed_plot}
+use Rattle.vega_copies.specs.declared.names.Level.{Level}
 use Rattle.vega_charts.specs.Grids.{sized, columns_written, frame_past, headers_of, with_size, cell_at}
 use Rattle.vega_charts.specs.Plots.{plot_of, view_with, views_in}
-use Rattle.vega_charts.specs.inner.Levels.{rows_at}
+use Rattle.vega_copies.specs.inner.Levels.{rows_at}
 use Rattle.vega_charts.specs.inner.Kept.{axis_seen, AreKeptAxes}
 use Rattle.vega_charts.specs.inner.Framed.{entered, frame_with, IsFrame}
-use Rattle.vega_charts.specs.inner.Made.{levels_behind, made_seen, IsCopyMade}
-use Rattle.vega_charts.specs.inner.Outlined.{marks_in, marks_from, is_group, group_object}
+use Rattle.vega_copies.specs.inner.Made.{levels_behind, made_seen, IsCopyMade}
+use Rattle.vega_copies.specs.inner.Outlined.{marks_in, marks_from, is_group, group_object}
 use Rattle.vega_charts.specs.inner.Drawn.{scaled_in, sources_of}
 
 -- a copy that is a plot or a grid

@@ -3,10 +3,10 @@ use Rattle.std.specs.Prelude.{ℕ, not, Bool, Option, Some, List, ◌++◌}
 use Rattle.std.specs.Option.{option_map}
 use Rattle.fixed_num.specs.Ranges.{◌>>=◌}
 use Rattle.cell_value.specs.State.{Dataset}
-use Rattle.vega_guides.specs.declared.axes.Axes.{Axes}
-use Rattle.vega_scenes.specs.Axes.{axes_at}
-use Rattle.vega_scenes.specs.declared.views.Plot.{Plot}
-use Rattle.vega_charts.specs.Outlines.{Object, Marks}
+use Rattle.plot_scenes.specs.declared.axes.Axes.{Axes}
+use Rattle.plot_scenes.specs.Axes.{axes_at}
+use Rattle.plot_scenes.specs.declared.views.Plot.{Plot}
+use Rattle.vega_copies.specs.Outlines.{Object, Marks}
 use Rattle.vega_charts.specs.Items.{in_unit_order}
 use Rattle.vega_charts.specs.Scales.{ScaleHere, AxisHere}
 use Rattle.vega_charts.specs.Copies.{Frame}

@@ -14,29 +14,29 @@ use Rattle.vega_lists.specs.Held.{scope_read}
 use Rattle.vega_lists.specs.Inside.{RowsByName, no_rows, rows_inside}
 use Rattle.vega_charts.specs.Sizes.{padding_round}
 use Rattle.vega_signals.specs.Settling.{values_inside}
-use Rattle.vega_scenes.specs.declared.scenes.Drawing.{Drawing}
-use Rattle.vega_scenes.specs.declared.views.Placed.{Placed}
-use Rattle.vega_scenes.specs.Scenes.{drawing_with}
-use Rattle.vega_scenes.specs.Views.{placed_plot}
-use Rattle.vega_charts.specs.declared.made.CopiesMade.{CopiesMade}
+use Rattle.plot_scenes.specs.declared.scenes.Drawing.{Drawing}
+use Rattle.plot_scenes.specs.declared.views.Placed.{Placed}
+use Rattle.plot_scenes.specs.Scenes.{drawing_with}
+use Rattle.plot_scenes.specs.Views.{placed_plot}
+use Rattle.vega_copies.specs.declared.made.CopiesMade.{CopiesMade}
 use Rattle.vega_charts.specs.declared.frames.Frame.{Frame as HeldFrame}
-use Rattle.vega_charts.specs.declared.names.Level.{Level}
-use Rattle.vega_charts.specs.declared.names.NamesAt.{NamesAt}
+use Rattle.vega_copies.specs.declared.names.Level.{Level}
+use Rattle.vega_copies.specs.declared.names.NamesAt.{NamesAt}
 use Rattle.vega_charts.specs.declared.scales.OfChart.{OfChart}
 use Rattle.vega_charts.specs.declared.scales.OfChart.TheVariants as of
 use Rattle.vega_charts.specs.declared.scales.ScaleHere.{ScaleHere as HeldScale}
-use Rattle.vega_charts.specs.Outlines.{Opened, object_here}
-use Rattle.vega_charts.specs.Scopes.{Names}
+use Rattle.vega_copies.specs.Outlines.{Opened, object_here}
+use Rattle.vega_copies.specs.Scopes.{Names}
 use Rattle.vega_charts.specs.Scales.{ScaleHere, AxisHere, and_outer, own_scale}
 use Rattle.vega_charts.specs.Copies.{Frame, as_grid}
 use Rattle.vega_charts.specs.Plots.{plot_of}
 use Rattle.vega_charts.specs.Tops.{round_top, sized_top}
 use Rattle.vega_charts.specs.Scenes.{scales_of_chart}
-use Rattle.vega_charts.specs.Built.{KeepsRules}
-use Rattle.vega_charts.specs.inner.Levels.{parts_over, AreNames}
+use Rattle.vega_copies.specs.Built.{KeepsRules}
+use Rattle.vega_copies.specs.inner.Levels.{parts_over, AreNames}
 use Rattle.vega_charts.specs.inner.Kept.{chart_has, AreKeptScales}
-use Rattle.vega_charts.specs.inner.Outlined.{marks_in, marks_from}
-use Rattle.vega_charts.specs.inner.Made.{HaveCopies}
+use Rattle.vega_copies.specs.inner.Outlined.{marks_in, marks_from}
+use Rattle.vega_copies.specs.inner.Made.{HaveCopies}
 use Rattle.vega_charts.specs.inner.Placed.{grid_of_object}
 
 -- whether a scale belongs to the whole chart

@@ -1,7 +1,7 @@
 use Rattle.std.proofs.Common.{ap}
 use Rattle.scene_tree.specs.Outcome.{outcome_map}
 use Rattle.vega_meaning.specs.Charts.{scene_in}
-use Rattle.vega_charts.proofs.ChartLaw.{law}
+use Rattle.vega_copies.proofs.ChartLaw.{law}
 use Rattle.plain_engine.proofs.scenes.scene_over.Goals as goal
 
 pub drawing_of-requires-clause-kept : goal.drawing_of-requires-clause-kept

@@ -5,7 +5,7 @@ use Rattle.vega_spec.specs.declared.spec.Group.{out-Group}
 use Rattle.vega_signals.specs.Signals.{signal_values}
 use Rattle.vega_lists.specs.Held.{AreSources}
 use Rattle.vega_lists.proofs.StateLemmas.{sources_of_state}
-use Rattle.vega_charts.proofs.ChartLaw.{law, sets_of_top, folds_of_top}
+use Rattle.vega_copies.proofs.ChartLaw.{law, sets_of_top, folds_of_top}
 use Rattle.plain_engine.proofs.sources.signals_in.Goals as goal
 
 pub signal_values-requires-clause-sources : goal.signal_values-requires-clause-sources

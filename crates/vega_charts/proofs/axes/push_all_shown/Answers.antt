@@ -1,5 +1,4 @@
 use Rattle.std.proofs.Common.{◌++◌, map}
-use Rattle.vega_scenes.specs.Axes.{seen}
 use Rattle.vega_charts.specs.Plots.{axes_over}
 use Rattle.vega_charts.specs.inner.Kept.{axis_seen, IsKeptAxis}
 use Rattle.vega_charts.proofs.SeenLemmas.{one_more_added, at_seen}
@@ -10,14 +9,15 @@ pub push_shown-requires-clause-kept : goal.push_shown-requires-clause-kept
 push_shown-requires-clause-kept c =
     (at_seen IsKeptAxis axis_seen c.args.axes.now c.loop-axis.axis-index c.axis-item.result c.loop-axis-test.true c.axis-item.is c.requires.kept).1
 
+pub push_shown-requires-clause-axis : goal.push_shown-requires-clause-axis
+push_shown-requires-clause-axis c =
+    (at_seen IsKeptAxis axis_seen c.args.axes.now c.loop-axis.axis-index c.axis-item.result c.loop-axis-test.true c.axis-item.is c.requires.kept).0
+
 pub loop-axis-preserved : goal.loop-axis-preserved
 loop-axis-preserved c = record {
   value =
       one_more_added (λ xs. axes_over c.args.width c.args.height (map axis_seen xs)) c.args.axes.now c.loop-axis.axis-index c.axis-item.result
-      (map seen c.loop-axis.out) (map seen c.push_shown.new.out) (map seen c.args.out.now ++ axes_over c.args.width c.args.height (map axis_seen c.args.axes.now))
+      c.loop-axis.out c.push_shown.new.out (c.args.out.now ++ axes_over c.args.width c.args.height (map axis_seen c.args.axes.now))
       (shown_made c.args.width c.args.height) c.loop-axis-test.true c.axis-item.is c.loop-axis.invariant.value c.in_ok-push_shown.ensures.value;
-  kept = λ all.
-      c.in_ok-push_shown.ensures.kept
-      ((at_seen IsKeptAxis axis_seen c.args.axes.now c.loop-axis.axis-index c.axis-item.result c.loop-axis-test.true c.axis-item.is c.requires.kept).0)
-      (c.loop-axis.invariant.kept all);
+  kept = λ all. c.in_ok-push_shown.ensures.kept (c.loop-axis.invariant.kept all);
 }

@@ -1,13 +1,13 @@
 use Rattle.std.proofs.Common.{◌≡◌, ◌++◌, drop, map}
 use Rattle.std.specs.List.{All}
-use Rattle.vega_scenes.specs.Axes.{seen, HoldsAxis}
+use Rattle.plot_scenes.specs.Axes.{IsAxisShown}
 use Rattle.vega_charts.specs.Plots.{axes_over}
 use Rattle.vega_charts.specs.inner.Kept.{axis_seen}
 use Rattle.vega_charts.proofs.axes.push_all_shown.Given as goal
 
 abbrev pub invariant-loop-axis : goal.invariant-loop-axis
 invariant-loop-axis l = record {
-  value : map seen l.out ++ axes_over l.width l.height (map axis_seen (drop l.axis-index l.axes))
-      ≡ map seen l.fn.out ++ axes_over l.width l.height (map axis_seen l.axes);
-  kept : All HoldsAxis l.fn.out → All HoldsAxis l.out;
+  value : l.out ++ axes_over l.width l.height (map axis_seen (drop l.axis-index l.axes))
+      ≡ l.fn.out ++ axes_over l.width l.height (map axis_seen l.axes);
+  kept : All IsAxisShown l.fn.out → All IsAxisShown l.out;
 }

@@ -1,7 +1,6 @@
 use Rattle.std.proofs.Common.{◌++◌, map, sym, subst}
 use Rattle.std.proofs.lemmas.List.Elements.{All-get_or}
 use Rattle.vega_guides.specs.Shown.{IsAxis}
-use Rattle.vega_scenes.specs.Axes.{seen}
 use Rattle.vega_charts.specs.Scales.{axes_here}
 use Rattle.vega_charts.specs.Plots.{axes_over}
 use Rattle.vega_charts.specs.inner.Kept.{scale_seen}
@@ -9,16 +8,17 @@ use Rattle.vega_charts.proofs.SeenLemmas.{one_more_added}
 use Rattle.vega_charts.proofs.AxisLemmas.{own_made}
 use Rattle.vega_charts.proofs.axes.push_own_axes.Goals as goal
 
+pub push_own-requires-clause-axis : goal.push_own-requires-clause-axis
+push_own-requires-clause-axis c =
+    subst IsAxis (sym c.axis-item.is) (All-get_or IsAxis c.args.axes.now c.loop-axis.axis-index c.axis-item.result c.loop-axis-test.true c.requires.axes)
+
 pub loop-axis-preserved : goal.loop-axis-preserved
 loop-axis-preserved c = record {
   value =
       one_more_added (λ xs. axes_over c.args.width c.args.height (axes_here (map scale_seen c.args.scales.now) xs)) c.args.axes.now c.loop-axis.axis-index
-      c.axis-item.result (map seen c.loop-axis.out) (map seen c.push_own.new.out)
-      (map seen c.args.out.now ++ axes_over c.args.width c.args.height (axes_here (map scale_seen c.args.scales.now) c.args.axes.now))
+      c.axis-item.result c.loop-axis.out c.push_own.new.out
+      (c.args.out.now ++ axes_over c.args.width c.args.height (axes_here (map scale_seen c.args.scales.now) c.args.axes.now))
       (own_made c.args.width c.args.height (map scale_seen c.args.scales.now)) c.loop-axis-test.true c.axis-item.is c.loop-axis.invariant.value
       c.in_ok-push_own.ensures.value;
-  kept = λ are all.
-      c.in_ok-push_own.ensures.kept
-      (subst IsAxis (sym c.axis-item.is) (All-get_or IsAxis c.args.axes.now c.loop-axis.axis-index c.axis-item.result c.loop-axis-test.true are))
-      (c.loop-axis.invariant.kept are all);
+  kept = λ all. c.in_ok-push_own.ensures.kept (c.loop-axis.invariant.kept all);
 }

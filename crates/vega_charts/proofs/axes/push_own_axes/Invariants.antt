@@ -1,7 +1,6 @@
 use Rattle.std.proofs.Common.{◌≡◌, ◌++◌, drop, map}
 use Rattle.std.specs.List.{All}
-use Rattle.vega_guides.specs.Shown.{IsAxis}
-use Rattle.vega_scenes.specs.Axes.{seen, HoldsAxis}
+use Rattle.plot_scenes.specs.Axes.{IsAxisShown}
 use Rattle.vega_charts.specs.Scales.{axes_here}
 use Rattle.vega_charts.specs.Plots.{axes_over}
 use Rattle.vega_charts.specs.inner.Kept.{scale_seen}
@@ -9,7 +8,7 @@ use Rattle.vega_charts.proofs.axes.push_own_axes.Given as goal
 
 abbrev pub invariant-loop-axis : goal.invariant-loop-axis
 invariant-loop-axis l = record {
-  value : map seen l.out ++ axes_over l.width l.height (axes_here (map scale_seen l.scales) (drop l.axis-index l.axes))
-      ≡ map seen l.fn.out ++ axes_over l.width l.height (axes_here (map scale_seen l.scales) l.axes);
-  kept : All IsAxis l.axes → All HoldsAxis l.fn.out → All HoldsAxis l.out;
+  value : l.out ++ axes_over l.width l.height (axes_here (map scale_seen l.scales) (drop l.axis-index l.axes))
+      ≡ l.fn.out ++ axes_over l.width l.height (axes_here (map scale_seen l.scales) l.axes);
+  kept : All IsAxisShown l.fn.out → All IsAxisShown l.out;
 }

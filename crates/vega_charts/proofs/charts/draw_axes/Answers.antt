@@ -4,9 +4,9 @@ use Rattle.expr_eval.specs.Answers.{Evaluates}
 use Rattle.vega_spec.specs.declared.spec.Group.{out-Group}
 use Rattle.vega_charts.specs.declared.frames.Frame.{Frame}
 use Rattle.vega_charts.specs.inner.Drawn.{sources_of}
-use Rattle.vega_charts.specs.inner.Made.{HaveCopies}
+use Rattle.vega_copies.specs.inner.Made.{HaveCopies}
 use Rattle.vega_charts.specs.inner.Framed.{frame_seen, frame_with, IsFrame}
-use Rattle.vega_charts.specs.inner.Outlined.{marks_in}
+use Rattle.vega_copies.specs.inner.Outlined.{marks_in}
 use Rattle.vega_charts.specs.inner.Placed.{grid_of_object}
 use Rattle.vega_charts.specs.inner.Topped.{top_of, drawn_view}
 use Rattle.vega_charts.proofs.TopLemmas.{top_is_frame, top_few, goes_on, stops}

@@ -5,7 +5,7 @@ use Rattle.expr_eval.specs.Answers.{Evaluates}
 use Rattle.vega_guides.specs.Shown.{IsAxis}
 use Rattle.vega_charts.specs.Scales.{axes_here}
 use Rattle.vega_charts.specs.inner.Kept.{axis_seen, scale_seen, AreKeptAxes}
-use Rattle.vega_charts.specs.inner.Levels.{names_at}
+use Rattle.vega_copies.specs.inner.Levels.{names_at}
 use Rattle.vega_charts.specs.inner.Topped.{drawn_grid, top_of, top_seen, with_axes}
 use Rattle.vega_charts.proofs.TopLemmas.{top_kept}
 use Rattle.scale_kit.specs.Scale.{AreScales}

@@ -2,7 +2,7 @@ use Rattle.std.proofs.Common.{map, sym, ◌∙◌, subst}
 use Rattle.cell_value.specs.State.{dataset_of}
 use Rattle.expr_eval.specs.Answers.{Evaluates}
 use Rattle.vega_charts.specs.inner.Kept.{scale_seen}
-use Rattle.vega_charts.specs.inner.Levels.{names_at}
+use Rattle.vega_copies.specs.inner.Levels.{names_at}
 use Rattle.vega_charts.proofs.TopLemmas.{sized_is, no_width, no_height}
 use Rattle.scale_kit.specs.Scale.{AreScales}
 use Rattle.vega_charts.proofs.charts.draw_plot.Goals as goal

@@ -3,14 +3,14 @@ use Rattle.std.specs.Option.{option_map}
 use Rattle.std.proofs.lemmas.List.Elements.{All-nil}
 use Rattle.fixed_num.specs.Ranges.{◌>>=◌}
 use Rattle.expr_eval.specs.Answers.{Evaluates}
-use Rattle.vega_scenes.specs.Views.{placed_plot}
+use Rattle.plot_scenes.specs.Views.{placed_plot}
 use Rattle.vega_spec.specs.declared.spec.Group.{out-Group}
 use Rattle.vega_charts.specs.declared.frames.Frame.{Frame}
 use Rattle.vega_charts.specs.Plots.{plot_of}
 use Rattle.vega_charts.specs.inner.Drawn.{sources_of}
-use Rattle.vega_charts.specs.inner.Made.{HaveCopies}
+use Rattle.vega_copies.specs.inner.Made.{HaveCopies}
 use Rattle.vega_charts.specs.inner.Framed.{frame_seen, frame_with, IsFrame}
-use Rattle.vega_charts.specs.inner.Outlined.{marks_in}
+use Rattle.vega_copies.specs.inner.Outlined.{marks_in}
 use Rattle.vega_charts.specs.inner.Topped.{top_of, drawn_view}
 use Rattle.vega_charts.proofs.TopLemmas.{top_is_frame, top_kept, top_few, goes_on, stops}
 use Rattle.vega_charts.proofs.charts.draw_sized.Goals as goal

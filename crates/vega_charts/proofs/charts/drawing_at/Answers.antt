@@ -3,9 +3,9 @@ use Rattle.cell_value.specs.State.{dataset_of}
 use Rattle.vega_lists.specs.Held.{AreAllRows}
 use Rattle.vega_spec.specs.declared.spec.Group.{out-Group}
 use Rattle.vega_charts.specs.Answers.{Comes}
-use Rattle.vega_charts.specs.inner.Standing.{MayStand}
+use Rattle.vega_copies.specs.inner.Standing.{MayStand}
 use Rattle.vega_charts.specs.inner.Outcomes.{drawn_within}
-use Rattle.vega_charts.specs.inner.Outlined.{marks_in}
+use Rattle.vega_copies.specs.inner.Outlined.{marks_in}
 use Rattle.vega_charts.proofs.TopLemmas.{rows_alike, names_alike}
 use Rattle.vega_charts.proofs.charts.drawing_at.Goals as goal
 

@@ -4,7 +4,7 @@ use Rattle.cell_value.specs.State.{dataset_of}
 use Rattle.scene_tree.specs.Outcome.{in_reach}
 use Rattle.vega_charts.specs.Answers.{Comes}
 use Rattle.vega_charts.specs.Scenes.{drawing_over}
-use Rattle.vega_charts.specs.inner.Levels.{names_at}
+use Rattle.vega_copies.specs.inner.Levels.{names_at}
 use Rattle.vega_charts.specs.inner.Topped.{top_of}
 use Rattle.vega_charts.proofs.OutcomeLemmas.{comes, too_many, few_enough}
 use Rattle.vega_charts.proofs.charts.drawing_counted.Goals as goal

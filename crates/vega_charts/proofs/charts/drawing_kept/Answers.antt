@@ -1,7 +1,7 @@
 use Rattle.std.proofs.Common.{map, sym, ap, ◌∙◌}
 use Rattle.cell_value.specs.State.{dataset_of}
-use Rattle.vega_charts.specs.Scopes.{keeps_signals}
-use Rattle.vega_charts.specs.inner.Levels.{names_at}
+use Rattle.vega_copies.specs.Scopes.{keeps_signals}
+use Rattle.vega_copies.specs.inner.Levels.{names_at}
 use Rattle.vega_charts.specs.inner.Topped.{top_of}
 use Rattle.vega_charts.proofs.TopLemmas.{top_lacks}
 use Rattle.vega_charts.proofs.charts.drawing_kept.Goals as goal

@@ -4,13 +4,13 @@ use Rattle.cell_value.specs.State.{dataset_of}
 use Rattle.expr_eval.specs.Answers.{Evaluates}
 use Rattle.vega_spec.specs.declared.spec.Group.{out-Group}
 use Rattle.vega_spec.specs.declared.spec.VgMark.{VgMark}
-use Rattle.vega_charts.specs.declared.made.CopiesMade.{CopiesMade}
-use Rattle.vega_charts.specs.Panels.{plots_in_facets}
+use Rattle.vega_copies.specs.declared.made.CopiesMade.{CopiesMade}
+use Rattle.vega_copies.specs.Panels.{plots_in_facets}
 use Rattle.vega_charts.specs.Scenes.{drawing_over}
-use Rattle.vega_charts.specs.inner.Levels.{rows_at, names_at}
-use Rattle.vega_charts.specs.inner.Made.{levels_behind, OneMade}
-use Rattle.vega_charts.specs.inner.Outlined.{marks_in, marks_of}
-use Rattle.vega_charts.specs.inner.Standing.{MayStand}
+use Rattle.vega_copies.specs.inner.Levels.{rows_at, names_at}
+use Rattle.vega_copies.specs.inner.Made.{levels_behind, OneMade}
+use Rattle.vega_copies.specs.inner.Outlined.{marks_in, marks_of}
+use Rattle.vega_copies.specs.inner.Standing.{MayStand}
 use Rattle.vega_charts.specs.inner.Topped.{top_of}
 use Rattle.vega_charts.proofs.OutcomeLemmas.{none_stopped}
 use Rattle.vega_charts.proofs.charts.drawing_made.Goals as goal

@@ -7,8 +7,8 @@ use Rattle.vega_lists.specs.Inside.{no_rows, AllKeysFit, SetsMayFold}
 use Rattle.vega_lists.specs.Products.{no_folds}
 use Rattle.vega_charts.specs.Answers.{Comes}
 use Rattle.vega_charts.specs.Charts.{drawing_of}
-use Rattle.vega_charts.specs.Scopes.{Names, names_at_top}
-use Rattle.vega_charts.specs.inner.Levels.{parts_over, AreParts}
+use Rattle.vega_copies.specs.Scopes.{Names, names_at_top}
+use Rattle.vega_copies.specs.inner.Levels.{parts_over, AreParts}
 use Rattle.vega_charts.specs.inner.Outcomes.{stopped, drawn_within}
 use Rattle.vega_charts.specs.inner.Topped.{top_of, names_on_top, rows_on_top}
 use Rattle.vega_charts.proofs.OutcomeLemmas.{from_top, named, not_named, named_by}

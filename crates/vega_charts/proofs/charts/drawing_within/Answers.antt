@@ -5,14 +5,14 @@ use Rattle.expr_eval.specs.Answers.{Evaluates}
 use Rattle.scene_tree.specs.Outcome.{in_reach}
 use Rattle.vega_spec.specs.declared.spec.Group.{out-Group}
 use Rattle.vega_charts.specs.Answers.{Comes}
-use Rattle.vega_charts.specs.Panels.{plots_in_facets}
+use Rattle.vega_copies.specs.Panels.{plots_in_facets}
 use Rattle.vega_charts.specs.Scenes.{drawing_over}
-use Rattle.vega_charts.specs.inner.Levels.{rows_at, names_at}
+use Rattle.vega_copies.specs.inner.Levels.{rows_at, names_at}
 use Rattle.vega_charts.specs.inner.Outcomes.{drawn_within}
-use Rattle.vega_charts.specs.inner.Outlined.{marks_in, marks_of}
-use Rattle.vega_charts.specs.inner.Standing.{MayStand}
+use Rattle.vega_copies.specs.inner.Outlined.{marks_in, marks_of}
+use Rattle.vega_copies.specs.inner.Standing.{MayStand}
 use Rattle.vega_charts.specs.inner.Topped.{top_of}
-use Rattle.vega_charts.proofs.NumberedPanels.{counted_alike}
+use Rattle.vega_copies.proofs.NumberedPanels.{counted_alike}
 use Rattle.vega_charts.proofs.OutcomeLemmas.{after_count, is_counted, not_counted}
 use Rattle.vega_charts.proofs.charts.drawing_within.Goals as goal
 

@@ -8,9 +8,9 @@ use Rattle.vega_scales.specs.Scales.{is_built, is_domain_built, KeepsBounds}
 use Rattle.vega_charts.specs.declared.scales.OfChart.TheVariants as of
 use Rattle.vega_charts.specs.Scales.{and_outer, own_scale}
 use Rattle.vega_charts.specs.inner.Kept.{kept_seen, chart_has, IsKeptScale}
-use Rattle.vega_charts.specs.inner.Levels.{names_at}
+use Rattle.vega_copies.specs.inner.Levels.{names_at}
 use Rattle.vega_charts.specs.inner.Topped.{top_scales, sized_plot}
-use Rattle.vega_charts.proofs.NameLemmas.{fails_with}
+use Rattle.vega_copies.proofs.NameLemmas.{fails_with}
 use Rattle.vega_charts.proofs.TopLemmas.{top_kept, goes_on, stops}
 use Rattle.vega_charts.proofs.charts.plot_over.Goals as goal
 

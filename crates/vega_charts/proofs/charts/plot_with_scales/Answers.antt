@@ -2,7 +2,7 @@ use Rattle.std.proofs.Common.{map, sym, ap, ◌∙◌, subst}
 use Rattle.cell_value.specs.State.{dataset_of}
 use Rattle.expr_eval.specs.Answers.{Evaluates}
 use Rattle.vega_charts.specs.inner.Kept.{scale_seen, AreKeptScales}
-use Rattle.vega_charts.specs.inner.Levels.{names_at}
+use Rattle.vega_copies.specs.inner.Levels.{names_at}
 use Rattle.vega_charts.specs.inner.Topped.{sized_plot}
 use Rattle.vega_charts.proofs.charts.plot_with_scales.Goals as goal
 

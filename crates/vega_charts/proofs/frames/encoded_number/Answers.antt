@@ -3,7 +3,7 @@ use Rattle.expr_eval.specs.Answers.{Evaluates}
 use Rattle.mark_encode.specs.Groups.{number_encoded}
 use Rattle.vega_spec.specs.declared.spec.VgMark.{out-VgMark}
 use Rattle.vega_charts.specs.Scales.{with_domains}
-use Rattle.vega_charts.specs.inner.Levels.{values_at}
+use Rattle.vega_copies.specs.inner.Levels.{values_at}
 use Rattle.vega_charts.specs.inner.Kept.{scale_seen}
 use Rattle.vega_charts.proofs.frames.encoded_number.Goals as goal
 

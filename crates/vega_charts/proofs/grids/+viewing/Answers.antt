@@ -9,17 +9,17 @@ use Rattle.vega_spec.specs.declared.spec.Group.{out-Group}
 use Rattle.vega_spec.specs.declared.spec.VgMark.{out-VgMark, size-VgMark}
 use Rattle.vega_charts.specs.Copies.{of_no_chart}
 use Rattle.vega_charts.specs.Scales.{own_scale, and_outer, spot_of}
-use Rattle.vega_charts.specs.declared.made.CopyMade.{out-CopyMade}
-use Rattle.vega_charts.specs.inner.Made.{levels_behind, made_seen, IsCopyMade}
+use Rattle.vega_copies.specs.declared.made.CopyMade.{out-CopyMade}
+use Rattle.vega_copies.specs.inner.Made.{levels_behind, made_seen, IsCopyMade}
 use Rattle.vega_charts.specs.inner.Drawn.{rows_in_frame}
 use Rattle.vega_charts.specs.inner.Kept.{scale_seen, axis_seen, kept_seen, IsKeptScale, AreKeptScales, AreKeptAxes}
-use Rattle.vega_charts.specs.inner.Levels.{names_at}
-use Rattle.vega_charts.specs.inner.Outlined.{marks_in, group_object, object_numbered}
+use Rattle.vega_copies.specs.inner.Levels.{names_at}
+use Rattle.vega_copies.specs.inner.Outlined.{marks_in, group_object, object_numbered}
 use Rattle.vega_charts.specs.inner.Placed.{place_seen, IsFound, view_at, AddsViews}
-use Rattle.vega_charts.proofs.StandLemmas.{object_kept}
+use Rattle.vega_copies.proofs.StandLemmas.{object_kept}
 use Rattle.vega_charts.proofs.SetLemmas.{within_frame}
 use Rattle.vega_charts.proofs.EnteredLemmas.{none_hidden}
-use Rattle.vega_charts.proofs.MadeLemmas.{levels_in_made, copies_in_made}
+use Rattle.vega_copies.proofs.MadeLemmas.{levels_in_made, copies_in_made}
 use Rattle.vega_charts.proofs.LayoutLemmas.{no_copies, copies_found, are_found, grid_ends, grid_stops}
 use Rattle.vega_charts.proofs.GridLemmas.{marks_begin, mark_within, mark_here, marks_next, marks_stop, marks_end}
 use Rattle.vega_charts.proofs.GridLemmas.{cells_begin, copy_here, spot_within, cells_next, cells_stop, cells_end, cells_count, mark_of_group}

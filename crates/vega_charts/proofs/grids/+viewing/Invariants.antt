@@ -3,9 +3,9 @@ use Rattle.std.specs.List.{enumerate_from}
 use Rattle.fixed_num.specs.Ranges.{all_found}
 use Rattle.vega_spec.specs.declared.spec.VgMark.{out-VgMark}
 use Rattle.vega_charts.specs.Plots.{views_in}
-use Rattle.vega_charts.specs.inner.Made.{made_seen}
+use Rattle.vega_copies.specs.inner.Made.{made_seen}
 use Rattle.vega_charts.specs.inner.Drawn.{sources_of}
-use Rattle.vega_charts.specs.inner.Outlined.{marks_from}
+use Rattle.vega_copies.specs.inner.Outlined.{marks_from}
 use Rattle.vega_charts.specs.inner.Placed.{place_seen, cell_seen}
 use Rattle.vega_charts.proofs.GridLemmas.{MarksLeft, CellsLeft}
 use Rattle.vega_charts.proofs.grids.+viewing.Given as goal

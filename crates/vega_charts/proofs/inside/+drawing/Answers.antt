@@ -14,17 +14,17 @@ use Rattle.vega_charts.specs.Plots.{drawn_in}
 use Rattle.vega_charts.specs.Scales.{ScaleHere, own_scale, and_outer}
 use Rattle.vega_charts.specs.inner.Framed.{frame_seen}
 use Rattle.vega_charts.specs.inner.Kept.{kept_seen, scale_seen, IsKeptScale, AreKeptScales}
-use Rattle.vega_charts.specs.declared.made.CopyMade.{out-CopyMade}
-use Rattle.vega_charts.specs.inner.Made.{levels_behind, HaveCopies}
-use Rattle.vega_charts.specs.inner.Outlined.{marks_from, marks_in, group_object, AreFew}
+use Rattle.vega_copies.specs.declared.made.CopyMade.{out-CopyMade}
+use Rattle.vega_copies.specs.inner.Made.{levels_behind, HaveCopies}
+use Rattle.vega_copies.specs.inner.Outlined.{marks_from, marks_in, group_object, AreFew}
 use Rattle.vega_charts.specs.inner.Drawn.{inside_seen, sources_of, rows_in_frame, placed_from, drawn_group, drawn_framed, drawn_named, DrawsMore}
 use Rattle.vega_charts.proofs.DrawnLemmas.{stops_drawing, nothing_left, made_within, next_made, next_stands, next_few, marks_fit, groups_fit, unit_fits, number_fits, next_drawn, next_stops, group_alone, plain_alone}
 use Rattle.vega_charts.proofs.EnteredLemmas.{moved_frame, entered_frame, no_x, no_y, framed_at, behind_guides, group_fits, own_found, no_scales, none_hidden, scaled_with}
 use Rattle.vega_charts.proofs.EnteredLemmas.{copy_stops, copy_named, copies_begun, next_copy, copy_drawn, copy_ends, no_copies_left}
 use Rattle.vega_charts.proofs.SetLemmas.{within_frame}
-use Rattle.vega_charts.proofs.MadeLemmas.{at_place, levels_in_made, copies_in_made}
+use Rattle.vega_copies.proofs.MadeLemmas.{at_place, levels_in_made, copies_in_made}
 use Rattle.vega_charts.proofs.SizeLemmas.{inside_smaller}
-use Rattle.vega_charts.proofs.StandLemmas.{few_inside, object_kept}
+use Rattle.vega_copies.proofs.StandLemmas.{few_inside, object_kept}
 use Rattle.vega_charts.proofs.inside.+drawing.Goals as goal
 
 -- marks, one after the other

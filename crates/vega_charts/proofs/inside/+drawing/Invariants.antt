@@ -2,7 +2,7 @@ use Rattle.std.proofs.Common.{drop}
 use Rattle.std.specs.Option.{option_map}
 use Rattle.vega_spec.specs.declared.spec.VgMark.{out-VgMark}
 use Rattle.vega_charts.specs.Plots.{and_inside, drawn_in}
-use Rattle.vega_charts.specs.inner.Outlined.{marks_from}
+use Rattle.vega_copies.specs.inner.Outlined.{marks_from}
 use Rattle.vega_charts.specs.inner.Framed.{frame_seen}
 use Rattle.vega_charts.specs.inner.Drawn.{inside_seen, sources_of, drawn_group}
 use Rattle.vega_charts.proofs.DrawnLemmas.{MarksLeft}

@@ -3,7 +3,7 @@ use Rattle.std.specs.Option.{option_map}
 use Rattle.vega_spec.specs.declared.spec.VgMark.{out-VgMark}
 use Rattle.vega_charts.specs.Items.{items_in_copy}
 use Rattle.vega_charts.specs.Plots.{items_inside}
-use Rattle.vega_charts.specs.inner.Outlined.{plain_of}
+use Rattle.vega_copies.specs.inner.Outlined.{plain_of}
 use Rattle.vega_charts.specs.inner.Framed.{frame_seen}
 use Rattle.vega_charts.proofs.DrawnLemmas.{adds_items, stops_drawing}
 use Rattle.vega_charts.proofs.inside.draw_mark.Goals as goal

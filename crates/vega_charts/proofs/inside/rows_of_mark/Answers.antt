@@ -1,6 +1,6 @@
 use Rattle.std.proofs.Common.{◌≡◌, Some, arith}
 use Rattle.vega_spec.specs.declared.marks.MarkFrom.TheVariants as from
-use Rattle.vega_charts.specs.inner.Levels.{rows_at}
+use Rattle.vega_copies.specs.inner.Levels.{rows_at}
 use Rattle.vega_charts.proofs.DrawnLemmas.{rows_named}
 use Rattle.vega_charts.proofs.inside.rows_of_mark.Goals as goal
 

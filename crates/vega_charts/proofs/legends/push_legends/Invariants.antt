@@ -1,6 +1,6 @@
 use Rattle.std.proofs.Common.{◌≡◌, ◌++◌, drop}
 use Rattle.std.specs.List.{All, flat_map, enumerate_from}
-use Rattle.vega_scenes.specs.Legends.{IsLegendShown}
+use Rattle.plot_scenes.specs.Legends.{IsLegendShown}
 use Rattle.vega_charts.specs.inner.Framed.{frame_seen}
 use Rattle.vega_charts.proofs.LegendLemmas.{in_channels}
 use Rattle.vega_charts.proofs.legends.push_legends.Given as goal

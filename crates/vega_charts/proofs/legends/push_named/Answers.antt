@@ -3,7 +3,7 @@ use Rattle.std.specs.List.{All}
 use Rattle.std.specs.Option.{option_to_list}
 use Rattle.std.proofs.lemmas.List.Elements.{All-push}
 use Rattle.std.proofs.lemmas.Result.{on_ok_weaker}
-use Rattle.vega_scenes.specs.Legends.{IsLegendShown}
+use Rattle.plot_scenes.specs.Legends.{IsLegendShown}
 use Rattle.vega_charts.specs.Scales.{scale_named}
 use Rattle.vega_charts.specs.inner.Kept.{scale_seen}
 use Rattle.vega_charts.specs.inner.Framed.{frame_seen}

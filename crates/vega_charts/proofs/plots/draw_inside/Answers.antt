@@ -5,9 +5,9 @@ use Rattle.vega_charts.specs.Plots.{Inside, axes_over}
 use Rattle.vega_charts.specs.inner.Drawn.{inside_seen, sources_of, MayDraw}
 use Rattle.vega_charts.specs.inner.Framed.{frame_seen}
 use Rattle.vega_charts.specs.inner.Kept.{axis_seen}
-use Rattle.vega_charts.specs.inner.Outlined.{marks_from, marks_in, object_numbered, AreFew}
+use Rattle.vega_copies.specs.inner.Outlined.{marks_from, marks_in, object_numbered, AreFew}
 use Rattle.vega_charts.specs.inner.Plotted.{standing_in}
-use Rattle.vega_charts.specs.inner.Results.{result_map}
+use Rattle.vega_copies.specs.inner.Results.{result_map}
 use Rattle.vega_charts.proofs.PlotLemmas.{one_more, stands_behind}
 use Rattle.vega_charts.proofs.plots.draw_inside.Goals as goal
 

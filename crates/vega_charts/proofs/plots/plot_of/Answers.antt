@@ -4,7 +4,7 @@ use Rattle.vega_spec.specs.declared.spec.Group.{out-Group}
 use Rattle.vega_charts.specs.inner.Drawn.{inside_seen, sources_of}
 use Rattle.vega_charts.specs.inner.Framed.{frame_seen, frame_with}
 use Rattle.vega_charts.specs.inner.Kept.{axis_seen}
-use Rattle.vega_charts.specs.inner.Outlined.{marks_from, marks_in, marks_of, object_numbered}
+use Rattle.vega_copies.specs.inner.Outlined.{marks_from, marks_in, marks_of, object_numbered}
 use Rattle.vega_charts.specs.inner.Plotted.{plot_round}
 use Rattle.vega_charts.proofs.PlotLemmas.{plot_is, plot_stops, first_alike}
 use Rattle.vega_charts.proofs.plots.plot_of.Goals as goal

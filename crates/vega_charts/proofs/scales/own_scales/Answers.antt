@@ -3,7 +3,7 @@ use Rattle.std.specs.List.{All}
 use Rattle.std.proofs.lemmas.List.Elements.{All-nil, All-push}
 use Rattle.fixed_num.specs.Ranges.{all_found}
 use Rattle.vega_charts.specs.Scales.{own_scale}
-use Rattle.vega_charts.specs.inner.Levels.{names_at}
+use Rattle.vega_copies.specs.inner.Levels.{names_at}
 use Rattle.vega_charts.specs.inner.Kept.{chart_has, kept_seen, IsKeptScale}
 use Rattle.vega_charts.proofs.SeenLemmas.{begun_seen, next_seen, ended_seen, stopped_seen}
 use Rattle.vega_charts.proofs.scales.own_scales.Goals as goal

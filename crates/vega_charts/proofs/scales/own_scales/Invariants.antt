@@ -3,7 +3,7 @@ use Rattle.std.specs.List.{All}
 use Rattle.fixed_num.specs.Ranges.{all_found}
 use Rattle.fixed_num.proofs.FoundLemmas.{after}
 use Rattle.vega_charts.specs.Scales.{own_scale}
-use Rattle.vega_charts.specs.inner.Levels.{names_at}
+use Rattle.vega_copies.specs.inner.Levels.{names_at}
 use Rattle.vega_charts.specs.inner.Kept.{chart_has, kept_seen, IsKeptScale}
 use Rattle.vega_charts.proofs.scales.own_scales.Given as goal
 

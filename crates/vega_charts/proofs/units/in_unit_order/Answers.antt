@@ -1,7 +1,7 @@
 use Rattle.std.proofs.Common.{ap, ◌∙◌, rules}
 use Rattle.std.proofs.lemmas.List.Sorted.{answers_always}
 use Rattle.vega_charts.specs.Items.{unit_of, in_unit_order}
-use Rattle.vega_scenes.proofs.OrderLemmas.{sort_gives}
+use Rattle.plot_scenes.proofs.OrderLemmas.{sort_gives}
 use Rattle.vega_charts.proofs.UnitLemmas.{by_unit_total}
 use Rattle.vega_charts.proofs.units.in_unit_order.Goals as goal
 

@@ -7,7 +7,7 @@ use Rattle.param_flow.specs.declared.reply.Reply.TheVariants.{Refused}
 use Rattle.param_flow.specs.declared.reply.Cause.TheVariants as cause
 use Rattle.param_flow.specs.Change.{names_of_change}
 use Rattle.param_flow.specs.Semantics.{has_param}
-use Rattle.vega_charts.proofs.ChartLaw.{law}
+use Rattle.vega_copies.proofs.ChartLaw.{law}
 use Rattle.vega_meaning.specs.Semantics.{vega_semantics}
 use Rattle.plain_engine.proofs.Places.{has_name}
 use Rattle.plain_engine.proofs.Replies.{not_there, row_refused, replied, changed, meant_by}

@@ -1,6 +1,0 @@
-use Rattle.std.proofs.Common.{◌≡◌, drop}
-use Rattle.vega_charts.specs.inner.Alike.{is_one_of}
-use Rattle.vega_charts.proofs.alike.is_one_of.Given as goal
-
-abbrev pub invariant-loop-other : goal.invariant-loop-other
-invariant-loop-other l = is_one_of (drop l.other-index l.names) l.name ≡ is_one_of l.names l.name

@@ -1,7 +1,0 @@
-use Rattle.std.proofs.Common.{◌≡◌, ◌++◌, map, zip}
-use Rattle.vega_charts.specs.inner.Counted.{bare_named}
-use Rattle.vega_charts.proofs.copies.bare_parts.Given as goal
-
-abbrev pub invariant-loop-name : goal.invariant-loop-name
-invariant-loop-name l =
-    l.parts ++ map bare_named (zip l.name-iterator.a.rest.now l.name-iterator.b.rest.now) ≡ map bare_named (zip l.names l.lists)

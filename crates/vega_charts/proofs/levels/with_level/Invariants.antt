@@ -1,5 +1,0 @@
-use Rattle.std.proofs.Common.{◌≡◌, ◌++◌, ◌∷◌, drop, map}
-use Rattle.vega_charts.proofs.levels.with_level.Given as goal
-
-abbrev pub invariant-loop-other : goal.invariant-loop-other
-invariant-loop-other l = map (λ level. level.now) l.levels ++ map (λ level. level.now) (drop l.other-index l.outer) ≡ l.level ∷ map (λ level. level.now) l.outer

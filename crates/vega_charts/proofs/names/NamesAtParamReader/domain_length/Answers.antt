@@ -1,5 +1,0 @@
-use Rattle.vega_charts.proofs.NameLemmas.{no_length}
-use Rattle.vega_charts.proofs.names.NamesAtParamReader.domain_length.Goals as goal
-
-pub returns : goal.returns
-returns c = no_length c.args.self.now.levels.now c.args.arg2.now

@@ -1,5 +1,0 @@
-use Rattle.vega_charts.proofs.NameLemmas.{no_member}
-use Rattle.vega_charts.proofs.names.NamesAtParamReader.member.Goals as goal
-
-pub returns : goal.returns
-returns c = no_member c.args.self.now.levels.now c.args.arg3.now c.args.arg4.now

@@ -1,5 +1,0 @@
-use Rattle.vega_charts.proofs.NameLemmas.{none_stored}
-use Rattle.vega_charts.proofs.names.NamesAtParamReader.stored.Goals as goal
-
-pub returns : goal.returns
-returns c = none_stored c.args.self.now.levels.now c.args.arg2.now

@@ -1,0 +1,16 @@
+pub mod CopyLemmas
+pub mod CountLemmas
+pub mod NameLemmas
+pub mod NumberedPanels
+pub mod OutlineLemmas
+pub mod StandLemmas
+pub mod NewNames
+pub mod ProductLemmas
+pub mod TreeLemmas
+pub mod FitLaw
+pub mod ChartLaw
+pub mod PassLaw
+pub mod MadeLemmas
+pub mod PanelLemmas
+pub mod BareLemmas
+pub mod AlikeLemmas

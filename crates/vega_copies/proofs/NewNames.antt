@@ -1,0 +1,74 @@
+-- Names that stand once each.
+use Rattle.std.proofs.Common.{◌≡◌, ℕ, ◌+◌, ◌<◌, Bool, true, false, cond, not, ◌&&◌, ◌||◌, List, [], ◌∷◌, ◌++◌, length, take, drop, get_or}
+use Rattle.std.proofs.Common.{refl, sym, ap, subst, ◌∙◌, append_assoc, arith}
+use Rattle.std.specs.Prelude.{◌≢◌}
+use Rattle.std.specs.List.{list_any, AllPairs}
+use Rattle.std.specs.Str.{bytes_eq}
+use Rattle.std.proofs.lemmas.Bool.Decides.{same_from_decides, Decides-like}
+use Rattle.std.proofs.lemmas.List.{append-nil, drop_more, take_more}
+use Rattle.std.proofs.lemmas.List.Folds.{list_any_more, list_any_at}
+use Rattle.std.proofs.lemmas.List.Quantifiers.{all_pairs_push}
+use Rattle.std.proofs.lemmas.Slice.Eq.{bytes_eq-Decides}
+use Rattle.vega_copies.specs.Tested.{are_new}
+
+bytes_eq-flips : (x y : List ℕ) → bytes_eq x y ≡ bytes_eq y x
+bytes_eq-flips x y = same_from_decides _ _ (bytes_eq-Decides x y) (Decides-like _ sym sym (bytes_eq-Decides y x))
+
+chosen_or : (a b : Bool) → cond a true b ≡ (b || a)
+chosen_or true true = refl
+chosen_or true false = refl
+chosen_or false true = refl
+chosen_or false false = refl
+
+-- a set with one more name
+pub added : (q name field : List ℕ) (old new : Bool) → name ≡ field → new ≡ cond (bytes_eq name q) true old
+    → new ≡ (old || bytes_eq q field)
+added q name field old new same after =
+    after ∙ chosen_or (bytes_eq name q) old ∙ ap (λ (b : Bool). old || b) (bytes_eq-flips name q ∙ ap (bytes_eq q) same)
+
+module _ (names : List (List ℕ)) (i : ℕ) (name : List ℕ) (within : i < length names) (is : name ≡ get_or names i name) where
+  at_name : drop i names ≡ name ∷ drop (i + 1) names
+  at_name = drop_more names i name within ∙ ap (λ name. name ∷ drop (i + 1) names) (sym is)
+
+  to_name : take (i + 1) names ≡ take i names ++ name ∷ []
+  to_name = take_more names i name within ∙ ap (λ name. take i names ++ name ∷ []) (sym is)
+
+  -- a name that was seen
+  pub seen_again : (whole : Bool) → list_any (bytes_eq name) (take i names) ≡ true → are_new (take i names) (drop i names) ≡ whole
+      → false ≡ whole
+  seen_again whole seen rest =
+      let here : are_new (take i names) (drop i names) ≡ false = rw (at_name, seen) refl in
+      sym here ∙ rest
+
+  -- one that wasn't
+  pub one_new : (whole : Bool) → list_any (bytes_eq name) (take i names) ≡ false → are_new (take i names) (drop i names) ≡ whole
+      → are_new (take (i + 1) names) (drop (i + 1) names) ≡ whole
+  one_new whole unseen rest =
+      let here : are_new (take i names) (drop i names) ≡ are_new (take i names ++ name ∷ []) (drop (i + 1) names) = rw
+      (at_name, unseen) refl in
+      ap (λ before. are_new before (drop (i + 1) names)) to_name ∙ sym here ∙ rest
+
+  pub seen_more : (q : List ℕ) (old new : Bool) → old ≡ list_any (bytes_eq q) (take i names) → new ≡ (old || bytes_eq q name)
+      → new ≡ list_any (bytes_eq q) (take (i + 1) names)
+  seen_more q old new was after =
+      after ∙ (λ j. was j || bytes_eq q (is j)) ∙ sym (list_any_more (bytes_eq q) names i name within)
+
+both : (a b : Bool) → (not a && b) ≡ true → (a ≡ false) × (b ≡ true)
+both true b h = absurd (cc)
+both false b h = (refl, h)
+
+apart_from : (before names : List (List ℕ)) → AllPairs (λ a b. a ≢ b) before → are_new before names ≡ true
+    → AllPairs (λ a b. a ≢ b) (before ++ names)
+apart_from before [] h e = subst (AllPairs (λ a b. a ≢ b)) (sym (append-nil before)) h
+apart_from before (name ∷ names) h e =
+    let parts = both (list_any (bytes_eq name) before) (are_new (before ++ name ∷ []) names) e in
+    let other : (k : ℕ) (d : List ℕ) → k < length before → get_or before k d ≢ name = λ k d in_it same.
+    let found : list_any (bytes_eq name) before ≡ true =
+    list_any_at (bytes_eq name) before k d in_it ((bytes_eq-Decides name (get_or before k d)).1 (sym same)) in
+    absurd (cc (found, parts.0)) in
+    subst (AllPairs (λ a b. a ≢ b)) (append_assoc before (name ∷ []) names)
+    (apart_from (before ++ name ∷ []) names (all_pairs_push (λ a b. a ≢ b) before name h other) parts.1)
+
+-- names of which each is new are apart
+pub apart : (names : List (List ℕ)) → are_new [] names ≡ true → AllPairs (λ a b. a ≢ b) names
+apart names e = apart_from [] names (λ i j d less within. absurd (omega (arith, less, within))) e

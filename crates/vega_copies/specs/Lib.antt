@@ -1,0 +1,9 @@
+pub mod Outlines
+pub mod Scopes
+pub mod Facets
+pub mod CopyNames
+pub mod Panels
+pub mod Built
+pub mod Fitting
+pub mod Tested
+pub mod inner

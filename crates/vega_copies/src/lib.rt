@@ -1,0 +1,24 @@
+//! What comes of rows in whole Vega specifications: the copies of their groups, the lists and values for which names stand in each, how many
+//! plots stand in facets, and whether a specification has a meaning so far.
+#![tactic(auto)]
+
+mod alike;
+mod apart;
+mod copies;
+mod counts;
+mod folds;
+mod levels;
+mod made;
+mod marks;
+mod names;
+mod objects;
+mod tested;
+
+pub use copies::facet_in;
+pub use counts::count_plots;
+pub use levels::{keeps_signals, level_with, with_level};
+pub use made::{CopiesMade, CopyMade, made_in};
+pub use marks::{count_groups_of, count_marks_of, first_unit, is_group, marks_in};
+pub use names::{Level, NamesAt};
+pub use objects::scales_in;
+pub use tested::{charts_are_tested, is_chart};
