@@ -97,10 +97,23 @@ a_newer_source() {
     PATH=$PWD/tree/bin:$PATH tree/chart --version | grep -q "isn't proved"
 }
 
+# Whether no definition of the crates that know no Vega specification cites a crate about those.
+definitions_without_vega() {
+    told=0
+    for crate in mark_shapes domain_kit plot_scenes scale_infer unit_plan chart_plan chart_meaning "$top"/crates/vl_*; do
+        specs=$top/crates/${crate##*/}/specs
+        if [ -d "$specs" ] && grep -rn 'Rattle\.vega_' "$specs" >&2; then
+            told=1
+        fi
+    done
+    [ "$told" -eq 0 ]
+}
+
 a_small_tree
 echo '{"a":1,"a":2}' >twice.json
 echo '[]' >list.json
 
+fact "definitions without Vega" definitions_without_vega
 fact "the version" the_version
 fact "a picture" the_picture
 fact "the example of the README" the_replies
