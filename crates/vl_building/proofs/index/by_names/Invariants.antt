@@ -1,0 +1,14 @@
+use Rattle.std.proofs.Common.{◌≤◌, length, drop}
+use Rattle.vl_building.specs.Sources.{is_named}
+use Rattle.vl_building.specs.inner.Index.{IsIndexFrom}
+use Rattle.vl_building.proofs.index.by_names.Given as goal
+
+-- those from here on are found
+abbrev pub invariant-loop-left : goal.invariant-loop-left
+invariant-loop-left l = record {
+  within : l.left ≤ length l.all;
+  found : IsIndexFrom is_named l.index l.left (drop l.left l.all);
+}
+
+abbrev pub decreases-loop-left : goal.decreases-loop-left
+decreases-loop-left l = l.left

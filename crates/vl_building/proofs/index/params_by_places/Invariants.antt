@@ -1,0 +1,14 @@
+use Rattle.std.proofs.Common.{◌≤◌, length, drop}
+use Rattle.vl_building.specs.Spec.{is_param_at}
+use Rattle.vl_building.specs.inner.Index.{IsIndexFrom}
+use Rattle.vl_building.proofs.index.params_by_places.Given as goal
+
+-- those from here on are found
+abbrev pub invariant-loop-left : goal.invariant-loop-left
+invariant-loop-left l = record {
+  within : l.left ≤ length l.params;
+  found : IsIndexFrom is_param_at l.index l.left (drop l.left l.params);
+}
+
+abbrev pub decreases-loop-left : goal.decreases-loop-left
+decreases-loop-left l = l.left

@@ -1,0 +1,60 @@
+use Rattle.std.proofs.Common.{◌≡◌, ◌++◌, drop, map, ◌+◌, ◌*◌}
+use Rattle.std.specs.Prelude.{codes}
+use Rattle.std.specs.List.{enumerate_from}
+use Rattle.json_exact.specs.declared.json.Json.{size-Json}
+use Rattle.vl_building.specs.Views.{child, as_view, views_given, view_given, views_in}
+use Rattle.vl_building.specs.inner.Named.{shown}
+use Rattle.vl_building.specs.inner.Heads.{views_inside, inside_from}
+use Rattle.vl_building.proofs.views.+views.Given as goal
+
+abbrev pub decreases-view_of : goal.decreases-view_of
+decreases-view_of l = 10 * size-Json l.tree.now + 0
+
+abbrev pub decreases-views_of : goal.decreases-views_of
+decreases-views_of l = 10 * size-Json l.tree.now + 1
+
+abbrev pub decreases-child_view : goal.decreases-child_view
+decreases-child_view l = 10 * size-Json l.tree.now + 1
+
+abbrev pub decreases-child_views : goal.decreases-child_views
+decreases-child_views l = 10 * size-Json l.tree.now + 2
+
+abbrev pub decreases-boxed_view : goal.decreases-boxed_view
+decreases-boxed_view l = 10 * size-Json l.tree.now + 2
+
+abbrev pub decreases-object_view : goal.decreases-object_view
+decreases-object_view l = 10 * goal.size-object_view l + 8
+
+abbrev pub decreases-kind_by : goal.decreases-kind_by
+decreases-kind_by l = 10 * goal.size-kind_by l + 7
+
+abbrev pub decreases-layer_of : goal.decreases-layer_of
+decreases-layer_of l = 10 * goal.size-layer_of l + 6
+
+abbrev pub decreases-faceted_of : goal.decreases-faceted_of
+decreases-faceted_of l = 10 * goal.size-faceted_of l + 6
+
+abbrev pub decreases-joined_of : goal.decreases-joined_of
+decreases-joined_of l = 10 * goal.size-joined_of l + 6
+
+abbrev pub decreases-views_at : goal.decreases-views_at
+decreases-views_at l = 10 * goal.size-views_at l + 5
+
+abbrev pub decreases-view_at : goal.decreases-view_at
+decreases-view_at l = 10 * goal.size-view_at l + 5
+
+abbrev pub decreases-views_in : goal.decreases-views_in
+decreases-views_in l = 10 * goal.size-views_in l + 9
+
+abbrev pub invariant-views_at-loop-number : goal.invariant-views_at-loop-number
+invariant-views_at-loop-number l = views_given (inside_from (shown l.named) l.number (drop l.number l.members) l.place l.name)
+    ≡ views_given (views_inside (shown l.named) l.members l.place l.name)
+
+abbrev pub invariant-view_at-loop-number : goal.invariant-view_at-loop-number
+invariant-view_at-loop-number l = view_given (inside_from (shown l.named) l.number (drop l.number l.members) l.place (codes "spec"))
+    ≡ view_given (views_inside (shown l.named) l.members l.place (codes "spec"))
+
+abbrev pub invariant-views_in-loop-number : goal.invariant-views_in-loop-number
+invariant-views_in-loop-number l =
+    l.views ++ map (λ item. (item.1 (child l.place item.0)).0) (enumerate_from l.number (map (as_view (shown l.named)) (drop l.number l.items)))
+    ≡ views_in (map (as_view (shown l.named)) l.items) l.place

@@ -1,0 +1,119 @@
+// What a specification has of data and parameters.
+ghost use Rattle.std.specs.Prelude.{◌≡◌, map, IfOk};
+ghost use Rattle.json_exact.specs.Path.{member_value};
+ghost use Rattle.vl_building.specs.Parts.{object_at};
+ghost use Rattle.vl_building.specs.Sources.{parse_of, parse_at, format_of, data_at};
+
+use crate::names::{format_kind_at, parse_kind_of};
+use crate::parts::{Object, members_at};
+use crate::several::{Part, three_parts};
+use crate::{parts, values};
+use json_exact::{Json, Member};
+use std::alloc::Global;
+use text_kit::{OutOfMemory, Seq, Text};
+use vl_spec::{Format, ParamOf, ParseKind};
+
+/// Data where it stands.
+#[derive(Drop)]
+pub struct DataAt {
+    /// Its place.
+    pub place: Seq<usize>,
+    /// Its name.
+    pub name: Option<Text>,
+    /// The file that has the rows.
+    pub url: Option<Text>,
+    /// The format.
+    pub format: Option<Format>,
+    /// The rows, as they are written.
+    pub values: Option<Json>,
+}
+
+/// A parameter where it stands.
+#[derive(Drop)]
+pub struct ParamAt {
+    /// Its place.
+    pub place: Seq<usize>,
+    /// The parameter.
+    pub param: ParamOf,
+}
+
+// How the texts of the field of a member's name are read.
+fn parse_of(member: &Member) -> Result<(Text, ParseKind), OutOfMemory>
+    ensures { IfOk result (λ parse. parse ≡ parse_of member.now) }
+{
+    let name = member.name.copy()?;
+    Ok((name, parse_kind_of(&member.value)))
+}
+
+// The same of each member.
+fn parses_of(alloc: Global, members: &[Member]) -> Result<Seq<(Text, ParseKind)>, OutOfMemory>
+    ensures { IfOk result (λ parses. parses ≡ map parse_of members.now) }
+{
+    let mut parses = Seq::new(alloc);
+    for member in members {
+        parses.push(parse_of(member)?)?;
+    }
+    Ok(parses)
+}
+
+// The same under a name.
+fn parse_at(
+    alloc: Global,
+    members: &[Member],
+    name: &str,
+) -> Result<Option<Seq<(Text, ParseKind)>>, OutOfMemory>
+    ensures { IfOk result (λ parses. parses ≡ parse_at members.now name.now) }
+{
+    match members_at(members, name) {
+        Some(members) => Ok(Some(parses_of(alloc, members.as_slice())?)),
+        None => Ok(None),
+    }
+}
+
+impl Object for Format {
+    ghost built = { format_of };
+
+    fn of_members(alloc: Global, members: &[Member]) -> Result<Format, OutOfMemory> {
+        Ok(Format {
+            type_: format_kind_at(members, "type"),
+            parse: parse_at(alloc, members, "parse")?,
+        })
+    }
+}
+
+impl Part for Option<Format> {
+    ghost part = { object_at format_of };
+
+    fn part_at(
+        alloc: Global,
+        members: &[Member],
+        name: &str,
+    ) -> Result<Option<Format>, OutOfMemory> {
+        parts::object_at(alloc, members, name)
+    }
+}
+
+// A copy of the value under a name.
+fn value_at(alloc: Global, members: &[Member], name: &str) -> Result<Option<Json>, OutOfMemory>
+    ensures { IfOk result (λ tree. tree ≡ member_value members.now name.now) }
+{
+    match values::member_value(members, name) {
+        Some(tree) => Ok(Some(tree.copy(alloc)?)),
+        None => Ok(None),
+    }
+}
+
+/// Data of these members at a place.
+pub fn data_at(alloc: Global, place: Seq<usize>, members: &[Member]) -> Result<DataAt, OutOfMemory>
+    ensures { IfOk result (λ at. at ≡ data_at place members.now) }
+{
+    let (name, url, format) = three_parts(alloc, members, "name", "url", "format")?;
+    let values = value_at(alloc, members, "values")?;
+    Ok(DataAt {
+        place,
+        name,
+        url,
+        format,
+        values,
+    })
+}

@@ -1,0 +1,228 @@
+// Filters.
+ghost use Rattle.std.specs.Prelude.{◌≡◌, true, map, IfOk};
+ghost use Rattle.std.specs.Option.{option_and_then, unwrap_or};
+ghost use Rattle.json_exact.specs.Inside.{items_in};
+ghost use Rattle.vl_building.specs.Parts.{found_at, flag_at};
+ghost use Rattle.json_exact.specs.declared.json.Json.{out-Json};
+ghost use Rattle.vl_building.specs.Inside.{member_gives};
+ghost use Rattle.vl_building.specs.Filters.{param_test_of, bound_in, range_from, range_in, needed_range, later_comparison, comparison_of, field_test_of, as_filter, no_filter, text_filter, filters_given, filter_given, object_filter, filter_of, filters_of, needed_filter};
+
+use crate::cells::{needed_scalar, needed_scalars};
+use crate::fields::needed_field;
+use crate::parts;
+use crate::parts::{expression_in, has_member, items_at, needed_text};
+use crate::tables::time_unit_at;
+use expr_syntax::Expr;
+use fixed_num::Num;
+use json_exact::{Json, Member};
+use std::alloc::Global;
+use text_kit::{Boxed, OutOfMemory, Seq};
+use vl_spec::{Comparison, FieldTest, Filter, ParamTest};
+
+/// A test by a parameter.
+pub fn param_test_of(alloc: Global, members: &[Member]) -> Result<ParamTest, OutOfMemory>
+    ensures { IfOk result (λ test. test ≡ param_test_of members.now) }
+{
+    Ok(ParamTest {
+        param: needed_text(alloc, members, "param")?,
+        empty: parts::flag_at(members, "empty"),
+    })
+}
+
+/// A bound: a number, or null for none.
+pub fn bound_in(tree: &Json) -> Option<Option<Num>>
+    ensures { result ≡ bound_in (out-Json tree.now) }
+{
+    match tree {
+        Json::Null => Some(None),
+        Json::Number(number) => Some(Some(*number)),
+        Json::Flag(_) | Json::Huge | Json::Text(_) | Json::List(_) | Json::Object(_) => None,
+    }
+}
+
+// From one bound to another.
+fn range_from(low: Option<Option<Num>>, high: Option<Option<Num>>) -> Option<Comparison>
+    ensures { result ≡ range_from low high }
+{
+    let low = low?;
+    let high = high?;
+    Some(Comparison::Range(low, high))
+}
+
+// Two bounds.
+fn range_in(items: &[Json]) -> Option<Comparison>
+    ensures { result ≡ range_in items.now }
+{
+    let [low, high] = items else {
+        return None;
+    };
+    range_from(bound_in(low), bound_in(high))
+}
+
+// The range of two bounds, where it is well-formed.
+fn range_at(members: &[Member], name: &str) -> Option<Comparison>
+    ensures { result ≡ option_and_then range_in (found_at items_in members.now name.now) }
+{
+    range_in(items_at(members, name)?.as_slice())
+}
+
+// The two bounds under a name; none where they are ill-formed.
+fn needed_range(members: &[Member], name: &str) -> Comparison
+    ensures { result ≡ needed_range members.now name.now }
+{
+    match range_at(members, name) {
+        Some(range) => range,
+        None => Comparison::Range(None, None),
+    }
+}
+
+// The truth value under a name, true where there is none.
+fn needed_flag(members: &[Member], name: &str) -> bool
+    ensures { result ≡ unwrap_or (flag_at members.now name.now) true }
+{
+    match parts::flag_at(members, name) {
+        Some(flag) => flag,
+        None => true,
+    }
+}
+
+// A comparison by one of these members.
+fn later_comparison(alloc: Global, members: &[Member]) -> Result<Comparison, OutOfMemory>
+    ensures { IfOk result (λ comparison. comparison ≡ later_comparison members.now) }
+{
+    if has_member(members, "gte") {
+        Ok(Comparison::MoreSame(needed_scalar(members, "gte")?))
+    } else if has_member(members, "range") {
+        Ok(needed_range(members, "range"))
+    } else if has_member(members, "oneOf") {
+        Ok(Comparison::OneOf(needed_scalars(alloc, members, "oneOf")?))
+    } else {
+        Ok(Comparison::Valid(needed_flag(members, "valid")))
+    }
+}
+
+// A comparison, by the first of its members that is there.
+fn comparison_of(alloc: Global, members: &[Member]) -> Result<Comparison, OutOfMemory>
+    ensures { IfOk result (λ comparison. comparison ≡ comparison_of members.now) }
+{
+    if has_member(members, "equal") {
+        Ok(Comparison::Equal(needed_scalar(members, "equal")?))
+    } else if has_member(members, "lt") {
+        Ok(Comparison::Less(needed_scalar(members, "lt")?))
+    } else if has_member(members, "lte") {
+        Ok(Comparison::LessSame(needed_scalar(members, "lte")?))
+    } else if has_member(members, "gt") {
+        Ok(Comparison::More(needed_scalar(members, "gt")?))
+    } else {
+        later_comparison(alloc, members)
+    }
+}
+
+// A test of a field.
+fn field_test_of(alloc: Global, members: &[Member]) -> Result<FieldTest, OutOfMemory>
+    ensures { IfOk result (λ test. test ≡ field_test_of members.now) }
+{
+    let field = needed_field(alloc, members, "field")?;
+    let comparison = comparison_of(alloc, members)?;
+    Ok(FieldTest {
+        field,
+        time_unit: time_unit_at(members, "timeUnit"),
+        comparison,
+    })
+}
+
+// A filter that is a text.
+fn text_filter(alloc: Global, text: &str) -> Result<Filter, OutOfMemory>
+    ensures { IfOk result (λ filter. filter ≡ text_filter text.now) }
+{
+    match expression_in(alloc, text)? {
+        Some(e) => Ok(Filter::Expr(e)),
+        None => Ok(Filter::Expr(Expr::Null)),
+    }
+}
+
+/// The filter that a value is.
+#[cycle(filters)]
+pub fn filter_of(alloc: Global, tree: &Json) -> Result<Filter, OutOfMemory>
+    ensures { IfOk result (λ filter. filter ≡ filter_of tree.now) }
+{
+    match tree {
+        Json::Text(text) => text_filter(alloc, text.as_str()),
+        Json::Object(members) => object_filter(alloc, members.as_slice()),
+        Json::Null | Json::Flag(_) | Json::Number(_) | Json::Huge | Json::List(_) => Ok(
+            Filter::Expr(Expr::Null),
+        ),
+    }
+}
+
+// A filter that is an object, by the first of these members that is there.
+#[cycle(filters)]
+fn object_filter(alloc: Global, members: &[Member]) -> Result<Filter, OutOfMemory>
+    ensures { IfOk result (λ filter. filter ≡ object_filter members.now (member_gives as_filter members.now)) }
+{
+    if has_member(members, "and") {
+        Ok(Filter::And(filters_at(alloc, members, "and")?))
+    } else if has_member(members, "or") {
+        Ok(Filter::Or(filters_at(alloc, members, "or")?))
+    } else if has_member(members, "not") {
+        Ok(Filter::Not(Boxed::new(alloc, needed_filter(alloc, members, "not")?)?))
+    } else if has_member(members, "field") {
+        Ok(Filter::Field(field_test_of(alloc, members)?))
+    } else {
+        Ok(Filter::Param(param_test_of(alloc, members)?))
+    }
+}
+
+/// The filter under a name, one that no row passes where there is none.
+#[cycle(filters)]
+pub fn needed_filter(alloc: Global, members: &[Member], name: &str) -> Result<Filter, OutOfMemory>
+    ensures { IfOk result (λ filter. filter ≡ needed_filter members.now name.now) }
+{
+    for member in members {
+        if member.name.as_str() == name {
+            return filter_of(alloc, &member.value);
+        }
+    }
+    Ok(Filter::Expr(Expr::Null))
+}
+
+// The filters that the items of a value are.
+#[cycle(filters)]
+fn filters_of(alloc: Global, tree: &Json) -> Result<Seq<Filter>, OutOfMemory>
+    ensures { IfOk result (λ filters. filters ≡ filters_of tree.now) }
+{
+    match tree {
+        Json::List(items) => filters_in(alloc, items.as_slice()),
+        Json::Null
+        | Json::Flag(_)
+        | Json::Number(_)
+        | Json::Huge
+        | Json::Text(_)
+        | Json::Object(_) => Ok(Seq::new(alloc)),
+    }
+}
+
+// The filters that items are.
+#[cycle(filters)]
+fn filters_in(alloc: Global, items: &[Json]) -> Result<Seq<Filter>, OutOfMemory>
+    ensures { IfOk result (λ filters. filters ≡ map filter_of items.now) }
+{
+    let mut filters = Seq::new(alloc);
+    for tree in items {
+        filters.push(filter_of(alloc, tree)?)?;
+    }
+    Ok(filters)
+}
+
+// The filters that the items of the list under a name are.
+#[cycle(filters)]
+fn filters_at(alloc: Global, members: &[Member], name: &str) -> Result<Seq<Filter>, OutOfMemory>
+    ensures { IfOk result (λ filters. filters ≡ filters_given (member_gives as_filter members.now name.now)) }
+{
+    for member in members {
+        if member.name.as_str() == name {
+            return filters_of(alloc, &member.value);
+        }
+    }
+    Ok(Seq::new(alloc))
+}

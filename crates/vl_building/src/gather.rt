@@ -1,0 +1,264 @@
+// The visits that find data and parameters.
+ghost use Rattle.std.specs.Prelude.{◌≡◌, ◌++◌, map, reverse, IfOk, OnOk};
+ghost use Rattle.vl_building.specs.Gather.{place_of, param_at, params_in, data_by, params_by, data_seen, params_seen, items_of, data_of, params_of};
+
+use crate::data::{DataAt, ParamAt, data_at};
+use crate::marks::param_of;
+use crate::places::child;
+use crate::values::members_of;
+use json_exact::Json;
+use spec_walk::{Visitor, walk};
+use std::alloc::Global;
+use text_kit::{OutOfMemory, Seq};
+use vl_schema::{DATA, PARAMETERS, TOP, vl_schema};
+
+/// What is noted of a value on the way down to others.
+#[derive(Clone, Copy)]
+pub struct Around {
+    /// Its number among its parent's children, counted from 0.
+    pub number: usize,
+    /// Its shape.
+    pub shape: u16,
+}
+
+// The numbers of some values.
+fn numbers(alloc: Global, trail: &[Around]) -> Result<Seq<usize>, OutOfMemory>
+    ensures { IfOk result (λ place. place ≡ map (λ a. a.number) trail.now) }
+{
+    let mut place = Seq::with_capacity(alloc, trail.len())?;
+    for around in trail {
+        place.push(around.number)?;
+    }
+    Ok(place)
+}
+
+// Where the innermost value of a trail stands.
+#[tactic(auto, using(crate::proofs::TrailLemmas::place_forward))]
+fn place_of(alloc: Global, trail: &[Around]) -> Result<Seq<usize>, OutOfMemory>
+    ensures { IfOk result (λ place. place ≡ place_of (reverse trail.now)) }
+{
+    match trail {
+        [_, below @ ..] => numbers(alloc, below),
+        [] => Ok(Seq::new(alloc)),
+    }
+}
+
+// The items of a value, none where it is no list.
+fn items_of(tree: &Json) -> &[Json]
+    ensures { result.now ≡ items_of tree.now }
+{
+    match tree {
+        Json::List(items) => items.as_slice(),
+        Json::Null
+        | Json::Flag(_)
+        | Json::Number(_)
+        | Json::Huge
+        | Json::Text(_)
+        | Json::Object(_) => &[],
+    }
+}
+
+// The parameter that an item of a list at a place is.
+fn param_at(
+    alloc: Global,
+    place: &[usize],
+    number: usize,
+    tree: &Json,
+) -> Result<ParamAt, OutOfMemory>
+    ensures { IfOk result (λ found. found ≡ param_at place.now (number, tree.now)) }
+{
+    let place = child(alloc, place, number)?;
+    let param = param_of(alloc, members_of(tree))?;
+    Ok(ParamAt { place, param })
+}
+
+// Adds the parameters of a list at a place.
+fn push_list(
+    alloc: Global,
+    place: &[usize],
+    items: &[Json],
+    out: &mut Seq<ParamAt>,
+) -> Result<(), OutOfMemory>
+    ensures { OnOk result (out.new ≡ out.old ++ params_in place.now items.now) }
+{
+    for (number, tree) in items.iter().enumerate() {
+        out.push(param_at(alloc, place, number, tree)?)?;
+    }
+    Ok(())
+}
+
+// Adds the data that a value of a shape is.
+fn push_data(
+    alloc: Global,
+    shape: u16,
+    trail: &[Around],
+    tree: &Json,
+    out: &mut Seq<DataAt>,
+) -> Result<(), OutOfMemory>
+    ensures { OnOk result (out.new ≡ out.old ++ data_by shape (place_of (reverse trail.now)) tree.now) }
+{
+    if shape == DATA {
+        let place = place_of(alloc, trail)?;
+        out.push(data_at(alloc, place, members_of(tree))?)
+    } else {
+        Ok(())
+    }
+}
+
+// Adds the parameters that stand in a value of a shape.
+fn push_params(
+    alloc: Global,
+    shape: u16,
+    trail: &[Around],
+    tree: &Json,
+    out: &mut Seq<ParamAt>,
+) -> Result<(), OutOfMemory>
+    ensures { OnOk result (out.new ≡ out.old ++ params_by shape (place_of (reverse trail.now)) tree.now) }
+{
+    if shape == PARAMETERS {
+        let place = place_of(alloc, trail)?;
+        push_list(alloc, place.as_slice(), items_of(tree), out)
+    } else {
+        Ok(())
+    }
+}
+
+// Adds the data that the visit of the innermost value of a trail finds.
+fn push_data_seen(
+    alloc: Global,
+    trail: &[Around],
+    tree: &Json,
+    out: &mut Seq<DataAt>,
+) -> Result<(), OutOfMemory>
+    ensures { OnOk result (out.new ≡ out.old ++ data_seen (reverse trail.now) tree.now) }
+{
+    match trail {
+        [.., here] => push_data(alloc, here.shape, trail, tree, out),
+        [] => Ok(()),
+    }
+}
+
+// Adds the parameters that it finds.
+fn push_params_seen(
+    alloc: Global,
+    trail: &[Around],
+    tree: &Json,
+    out: &mut Seq<ParamAt>,
+) -> Result<(), OutOfMemory>
+    ensures { OnOk result (out.new ≡ out.old ++ params_seen (reverse trail.now) tree.now) }
+{
+    match trail {
+        [.., here] => push_params(alloc, here.shape, trail, tree, out),
+        [] => Ok(()),
+    }
+}
+
+// The values round the next one, from the top on, and the data so far.
+#[derive(Drop)]
+struct DataGathering {
+    trail: Seq<Around>,
+    data_: Seq<DataAt>,
+}
+
+impl Visitor for DataGathering {
+    ghost use Rattle.std.specs.Prelude.{reverse};
+    ghost use Rattle.vl_building.specs.Gather.{noted as note_of, data_seen};
+    ghost use Rattle.vl_building.specs.declared.data.DataAt.{DataAt};
+    ghost use Rattle.vl_building.specs.declared.gather.Around.{Around};
+
+    ghost Note = { Around };
+
+    ghost Part = { DataAt };
+
+    ghost noted = { note_of };
+
+    ghost visit = { data_seen };
+
+    ghost trail = { λ g. reverse g.trail };
+
+    ghost gathered = { λ g. g.data_ };
+
+    fn enter(
+        &mut self,
+        alloc: Global,
+        number: usize,
+        shape: u16,
+        tree: &Json,
+    ) -> Result<(), OutOfMemory> {
+        self.trail.push(Around { number, shape })?;
+        push_data_seen(alloc, self.trail.as_slice(), tree, &mut self.data_)
+    }
+
+    fn leave(&mut self) {
+        let _ = self.trail.pop();
+    }
+}
+
+// The values round the next one, from the top on, and the parameters so far.
+#[derive(Drop)]
+struct ParamGathering {
+    trail: Seq<Around>,
+    params: Seq<ParamAt>,
+}
+
+impl Visitor for ParamGathering {
+    ghost use Rattle.std.specs.Prelude.{reverse};
+    ghost use Rattle.vl_building.specs.Gather.{noted as note_of, params_seen};
+    ghost use Rattle.vl_building.specs.declared.data.ParamAt.{ParamAt};
+    ghost use Rattle.vl_building.specs.declared.gather.Around.{Around};
+
+    ghost Note = { Around };
+
+    ghost Part = { ParamAt };
+
+    ghost noted = { note_of };
+
+    ghost visit = { params_seen };
+
+    ghost trail = { λ g. reverse g.trail };
+
+    ghost gathered = { λ g. g.params };
+
+    fn enter(
+        &mut self,
+        alloc: Global,
+        number: usize,
+        shape: u16,
+        tree: &Json,
+    ) -> Result<(), OutOfMemory> {
+        self.trail.push(Around { number, shape })?;
+        push_params_seen(alloc, self.trail.as_slice(), tree, &mut self.params)
+    }
+
+    fn leave(&mut self) {
+        let _ = self.trail.pop();
+    }
+}
+
+/// The data of a specification, in the order of the text.
+pub fn data_of(alloc: Global, tree: &Json) -> Result<Seq<DataAt>, OutOfMemory>
+    ensures { IfOk result (λ all. all ≡ data_of tree.now) }
+{
+    let schema = vl_schema(alloc)?;
+    let mut gathering = DataGathering {
+        trail: Seq::new(alloc),
+        data_: Seq::new(alloc),
+    };
+    walk(alloc, &schema, tree, 0, TOP, &mut gathering)?;
+    let DataGathering { trail: _, data_ } = gathering;
+    Ok(data_)
+}
+
+/// Its parameters, in the order of the text.
+pub fn params_of(alloc: Global, tree: &Json) -> Result<Seq<ParamAt>, OutOfMemory>
+    ensures { IfOk result (λ params. params ≡ params_of tree.now) }
+{
+    let schema = vl_schema(alloc)?;
+    let mut gathering = ParamGathering {
+        trail: Seq::new(alloc),
+        params: Seq::new(alloc),
+    };
+    walk(alloc, &schema, tree, 0, TOP, &mut gathering)?;
+    let ParamGathering { trail: _, params } = gathering;
+    Ok(params)
+}

@@ -1,0 +1,91 @@
+// What goes by places: the names of the sources of data, and the numbers of parameters.
+ghost use Rattle.std.specs.Prelude.{◌≡◌, IfOk};
+ghost use Rattle.vl_building.specs.Sources.{named_from};
+ghost use Rattle.vl_building.specs.Spec.{naming_of};
+ghost use Rattle.vl_building.specs.Gather.{data_of};
+ghost use Rattle.vl_building.specs.inner.Named.{shown, source_numbered};
+
+use crate::data::{DataAt, ParamAt};
+use crate::gather;
+use crate::index::{data_by_places, params_by_places};
+use crate::keyed::{Keyed, number_at};
+use crate::sources::named;
+use json_exact::Json;
+use std::alloc::Global;
+use text_kit::{OutOfMemory, Seq, Text};
+
+/// Data with the name of its source.
+#[derive(Drop)]
+pub struct NamedData {
+    /// The name of its source, if it says one.
+    pub source: Option<Text>,
+    /// The data.
+    pub data_: DataAt,
+}
+
+/// What goes by places.
+#[derive(Drop)]
+pub struct Named {
+    /// The data.
+    pub all: Seq<NamedData>,
+    /// Their numbers by their places.
+    pub data_: Keyed,
+    /// The numbers of parameters by their places.
+    pub params: Keyed,
+}
+
+/// A copy of a name, if there is one.
+pub fn copied_name(name: &Option<Text>) -> Result<Option<Text>, OutOfMemory>
+    ensures { IfOk result (λ copy. copy ≡ name.now) }
+{
+    match name {
+        Some(name) => Ok(Some(name.copy()?)),
+        None => Ok(None),
+    }
+}
+
+// The name of the source of data of this number.
+fn source_numbered(all: &[NamedData], number: usize) -> Result<Option<Text>, OutOfMemory>
+    ensures { IfOk result (λ name. name ≡ source_numbered all.now number) }
+{
+    match all.get(number) {
+        Some(named) => copied_name(&named.source),
+        None => Ok(None),
+    }
+}
+
+/// The name of the source of the data at a place.
+pub fn source_at(named: &Named, place: &[usize]) -> Result<Option<Text>, OutOfMemory>
+    ensures { IfOk result (λ name. name ≡ (shown named.now).source_at place.now) }
+{
+    match number_at(&named.data_, place) {
+        Some(number) => source_numbered(named.all.as_slice(), number),
+        None => Ok(None),
+    }
+}
+
+/// The number of the parameter at a place.
+pub fn param_at(named: &Named, place: &[usize]) -> Option<usize>
+    ensures { result ≡ (shown named.now).param_at place.now }
+{
+    number_at(&named.params, place)
+}
+
+// What goes by the places of data and parameters.
+fn named_by(alloc: Global, all: Seq<NamedData>, params: &[ParamAt]) -> Result<Named, OutOfMemory>
+    ensures all { IfOk result (λ named. named.all ≡ all) }
+    ensures naming { IfOk result (λ named. shown named ≡ naming_of all params.now) }
+{
+    let params = params_by_places(alloc, params)?;
+    let data_ = data_by_places(alloc, all.as_slice())?;
+    Ok(Named { all, data_, params })
+}
+
+/// What goes by places in a specification with these parameters.
+pub fn naming_in(alloc: Global, tree: &Json, params: &[ParamAt]) -> Result<Named, OutOfMemory>
+    ensures all { IfOk result (λ named. named.all ≡ named_from 0 (data_of tree.now)) }
+    ensures naming { IfOk result (λ named. shown named ≡ naming_of (named_from 0 (data_of tree.now)) params.now) }
+{
+    let all = named(alloc, gather::data_of(alloc, tree)?)?;
+    named_by(alloc, all, params)
+}

@@ -1,0 +1,116 @@
+// What stands under several names at once.
+ghost use Rattle.std.specs.Prelude.{◌≡◌, IfOk};
+ghost use Rattle.vl_building.specs.Parts.{list_at, text_at};
+
+use crate::parts;
+use crate::parts::Item;
+use json_exact::Member;
+use std::alloc::Global;
+use text_kit::{OutOfMemory, Seq, Text};
+
+/// What is read under a name.
+pub trait Part: Sized {
+    ghost use Rattle.std.specs.Prelude.{List, ℕ};
+    ghost use Rattle.json_exact.specs.declared.json.Member.{Member};
+
+    ghost part: { List Member → List ℕ → Self };
+
+    /// What stands under a name.
+    fn part_at(alloc: Global, members: &[Member], name: &str) -> Result<Self, OutOfMemory>
+        ensures { IfOk result (λ value. value ≡ part members.now name.now) };
+}
+
+impl Part for Option<Text> {
+    ghost part = { text_at };
+
+    fn part_at(_: Global, members: &[Member], name: &str) -> Result<Option<Text>, OutOfMemory> {
+        parts::text_at(members, name)
+    }
+}
+
+impl<T: Item + Drop> Part for Option<Seq<T>> {
+    ghost part = { list_at T.item };
+
+    fn part_at(
+        alloc: Global,
+        members: &[Member],
+        name: &str,
+    ) -> Result<Option<Seq<T>>, OutOfMemory> {
+        parts::list_at(alloc, members, name)
+    }
+}
+
+/// What stands under two names.
+pub fn two_parts<A: Part + Drop, B: Part>(
+    alloc: Global,
+    members: &[Member],
+    a: &str,
+    b: &str,
+) -> Result<(A, B), OutOfMemory>
+    ensures { IfOk result (λ parts. parts ≡ (A.part members.now a.now, B.part members.now b.now)) }
+{
+    let a = A::part_at(alloc, members, a)?;
+    Ok((a, B::part_at(alloc, members, b)?))
+}
+
+/// What stands under three names.
+pub fn three_parts<A: Part + Drop, B: Part + Drop, C: Part>(
+    alloc: Global,
+    members: &[Member],
+    a: &str,
+    b: &str,
+    c: &str,
+) -> Result<(A, B, C), OutOfMemory>
+    ensures { IfOk result (λ parts. parts ≡ (A.part members.now a.now, B.part members.now b.now, C.part members.now c.now)) }
+{
+    let (a, b) = two_parts(alloc, members, a, b)?;
+    Ok((a, b, C::part_at(alloc, members, c)?))
+}
+
+/// What stands under four names.
+pub fn four_parts<A: Part + Drop, B: Part + Drop, C: Part + Drop, D: Part>(
+    alloc: Global,
+    members: &[Member],
+    a: &str,
+    b: &str,
+    c: &str,
+    d: &str,
+) -> Result<(A, B, C, D), OutOfMemory>
+    ensures { IfOk result (λ parts. parts ≡ (A.part members.now a.now, B.part members.now b.now, C.part members.now c.now, D.part members.now d.now)) }
+{
+    let (a, b) = two_parts(alloc, members, a, b)?;
+    let (c, d) = two_parts(alloc, members, c, d)?;
+    Ok((a, b, c, d))
+}
+
+/// What stands under six names.
+pub fn six_parts<
+    A: Part + Drop,
+    B: Part + Drop,
+    C: Part + Drop,
+    D: Part + Drop,
+    E: Part + Drop,
+    F: Part,
+>(
+    alloc: Global,
+    members: &[Member],
+    a: &str,
+    b: &str,
+    c: &str,
+    d: &str,
+    e: &str,
+    f: &str,
+) -> Result<(A, B, C, D, E, F), OutOfMemory>
+    ensures { IfOk result (λ parts. parts ≡ (
+      A.part members.now a.now,
+      B.part members.now b.now,
+      C.part members.now c.now,
+      D.part members.now d.now,
+      E.part members.now e.now,
+      F.part members.now f.now,
+    )) }
+{
+    let (a, b, c) = three_parts(alloc, members, a, b, c)?;
+    let (d, e, f) = three_parts(alloc, members, d, e, f)?;
+    Ok((a, b, c, d, e, f))
+}

@@ -1,0 +1,316 @@
+// The sources that data names.
+ghost use Rattle.std.specs.Prelude.{◌≡◌, ◌++◌, ◌==◌, false, [], ◌∷◌, IfOk, OnOk};
+ghost use Rattle.std.specs.Option.{option_copied, option_map_or, option_to_list};
+ghost use Rattle.vl_building.specs.Sources.{gives, is_unnamed, source_name, name_behind, count_behind, named_behind, named_from, of_dataset, of_data, giver_or, source_for, first_source, source_at, sources_with, sources_of};
+ghost use Rattle.vl_building.specs.inner.Index.{at_number};
+ghost use Rattle.vl_building.specs.inner.Finding.{rows_numbered, first_numbered, found_by, Finds};
+
+use crate::data::DataAt;
+use crate::index::{by_datasets, by_givers, by_names, name_numbers};
+use crate::keyed::{Keyed, number_at};
+use crate::naming::{NamedData, copied_name};
+use json_exact::{Json, Member};
+use std::alloc::Global;
+use text_kit::{Copies, OutOfMemory, Seq, Text};
+use vl_spec::{Format, SourceOf};
+
+/// Whether data gives rows, and isn't a name alone.
+pub fn gives(at: &DataAt) -> bool
+    ensures { result ≡ gives at.now }
+{
+    at.values.is_some() || at.url.is_some()
+}
+
+// Whether data has to be given a name.
+fn is_unnamed(at: &DataAt) -> bool
+    ensures { result ≡ is_unnamed at.now }
+{
+    at.name.is_none() && gives(at)
+}
+
+// The name of the source of unnamed data, of which so many stand before.
+fn source_name(alloc: Global, number: usize) -> Result<Text, OutOfMemory>
+    ensures { IfOk result (λ name. name ≡ source_name number) }
+{
+    let mut buffer = itoa::Buffer::new();
+    let mut name = Text::of(alloc, "source_")?;
+    name.push_str(buffer.format(number))?;
+    Ok(name)
+}
+
+// The name of the source of data, where so many unnamed ones stand before.
+fn name_behind(alloc: Global, number: usize, at: &DataAt) -> Result<Option<Text>, OutOfMemory>
+    ensures { IfOk result (λ name. name ≡ name_behind number at.now) }
+{
+    if is_unnamed(at) {
+        Ok(Some(source_name(alloc, number)?))
+    } else {
+        copied_name(&at.name)
+    }
+}
+
+// How many unnamed ones stand before the next; there is no memory for more than a `usize` counts.
+fn count_behind(number: usize, at: &DataAt) -> Result<usize, OutOfMemory>
+    ensures { IfOk result (λ count. count ≡ count_behind number at.now) }
+{
+    if is_unnamed(at) {
+        match number.checked_add(1) {
+            Some(count) => Ok(count),
+            None => Err(OutOfMemory),
+        }
+    } else {
+        Ok(number)
+    }
+}
+
+// Adds data with the name of its source. The number is that of the unnamed ones before the next.
+fn push_named(
+    alloc: Global,
+    number: usize,
+    at: DataAt,
+    out: &mut Seq<NamedData>,
+) -> Result<usize, OutOfMemory>
+    ensures added { OnOk result (out.new ≡ out.old ++ named_behind number at ∷ []) }
+    ensures count { IfOk result (λ count. count ≡ count_behind number at) }
+{
+    let source = name_behind(alloc, number, &at)?;
+    let count = count_behind(number, &at)?;
+    out.push(NamedData { source, data_: at })?;
+    Ok(count)
+}
+
+/// Each data with the name of its source.
+pub fn named(alloc: Global, all: Seq<DataAt>) -> Result<Seq<NamedData>, OutOfMemory>
+    ensures { IfOk result (λ out. out ≡ named_from 0 all) }
+{
+    let mut out = Seq::new(alloc);
+    let mut number = 0;
+    for at in all.into_vec() {
+        number = push_named(alloc, number, at, &mut out)?;
+    }
+    Ok(out)
+}
+
+// A copy of rows, if there are some.
+fn copied_rows(alloc: Global, rows: &Option<Json>) -> Result<Option<Json>, OutOfMemory>
+    ensures { IfOk result (λ copy. copy ≡ rows.now) }
+{
+    match rows {
+        Some(rows) => Ok(Some(rows.copy(alloc)?)),
+        None => Ok(None),
+    }
+}
+
+// Copies of a name and a format.
+fn name_and_format(
+    alloc: Global,
+    name: &Text,
+    format: &Option<Format>,
+) -> Result<(Text, Option<Format>), OutOfMemory>
+    ensures { IfOk result (λ copies. copies ≡ (name.now, format.now)) }
+{
+    let name = name.copy()?;
+    Ok((name, Copies::copied(format, alloc)?))
+}
+
+// The source of a name that a dataset gives.
+fn of_dataset(
+    alloc: Global,
+    name: &Text,
+    first: &DataAt,
+    rows: &Json,
+) -> Result<SourceOf, OutOfMemory>
+    ensures { IfOk result (λ source. source ≡ of_dataset name.now first.now rows.now) }
+{
+    let (name, format) = name_and_format(alloc, name, &first.format)?;
+    let values = rows.copy(alloc)?;
+    Ok(SourceOf {
+        name,
+        values: Some(values),
+        url: None,
+        format,
+    })
+}
+
+// The source of a name by data.
+fn of_data(alloc: Global, name: &Text, at: &DataAt) -> Result<SourceOf, OutOfMemory>
+    ensures { IfOk result (λ source. source ≡ of_data name.now at.now) }
+{
+    let (name, format) = name_and_format(alloc, name, &at.format)?;
+    let url = copied_name(&at.url)?;
+    let values = copied_rows(alloc, &at.values)?;
+    Ok(SourceOf {
+        name,
+        values,
+        url,
+        format,
+    })
+}
+
+/// What finds datasets and data by the names of sources.
+#[derive(Drop)]
+pub struct Finders {
+    /// Datasets.
+    pub datasets: Keyed,
+    /// Data.
+    pub names: Keyed,
+    /// Data that gives rows.
+    pub givers: Keyed,
+}
+
+// The finders of some datasets and data.
+fn finders_of(alloc: Global, datasets: &[Member], all: &[NamedData]) -> Result<Finders, OutOfMemory>
+    ensures { IfOk result (λ finders. Finds datasets.now all.now finders) }
+{
+    let names = by_names(alloc, all)?;
+    let givers = by_givers(alloc, all)?;
+    let datasets = by_datasets(alloc, datasets)?;
+    Ok(Finders {
+        datasets,
+        names,
+        givers,
+    })
+}
+
+// The rows of the dataset of a number.
+fn rows_numbered(datasets: &[Member], number: Option<usize>) -> Option<&Json>
+    ensures { option_copied result ≡ rows_numbered datasets.now number }
+{
+    let member = datasets.get(number?)?;
+    Some(&member.value)
+}
+
+// The data of a number, or else this.
+fn giver_or<'a>(all: &'a [NamedData], number: Option<usize>, first: &'a DataAt) -> &'a DataAt
+    ensures { result.now ≡ giver_or (at_number all.now number) first.now }
+{
+    match number {
+        Some(number) => match all.get(number) {
+            Some(giver) => &giver.data_,
+            None => first,
+        },
+        None => first,
+    }
+}
+
+// The source of a name, which data names first.
+fn source_for(
+    alloc: Global,
+    datasets: &[Member],
+    all: &[NamedData],
+    finders: &Finders,
+    first: &DataAt,
+    name: &Text,
+) -> Result<SourceOf, OutOfMemory>
+    ensures { IfOk result (λ source. source ≡ source_for (found_by finders.now datasets.now all.now) name.now first.now) }
+{
+    let key = name_numbers(alloc, name.as_str())?;
+    match rows_numbered(datasets, number_at(&finders.datasets, key.as_slice())) {
+        Some(rows) => of_dataset(alloc, name, first, rows),
+        None => of_data(
+            alloc,
+            name,
+            giver_or(all, number_at(&finders.givers, key.as_slice()), first),
+        ),
+    }
+}
+
+// Whether a number is the other.
+fn is_number(first: Option<usize>, number: usize) -> bool
+    ensures { result ≡ option_map_or (λ first. first == number) first false }
+{
+    match first {
+        Some(first) => first == number,
+        None => false,
+    }
+}
+
+// Whether data of a number is the first that names its source so.
+fn is_first(
+    alloc: Global,
+    finders: &Finders,
+    number: usize,
+    name: &Text,
+) -> Result<bool, OutOfMemory>
+    ensures { IfOk result (λ first. first ≡ option_map_or (λ other. other == number) (first_numbered finders.now name.now) false) }
+{
+    let key = name_numbers(alloc, name.as_str())?;
+    Ok(is_number(number_at(&finders.names, key.as_slice()), number))
+}
+
+// The source of a name, if data of this number names it first.
+fn first_source(
+    alloc: Global,
+    datasets: &[Member],
+    all: &[NamedData],
+    finders: &Finders,
+    number: usize,
+    at: &DataAt,
+    name: &Text,
+) -> Result<Option<SourceOf>, OutOfMemory>
+    ensures { IfOk result (λ source. source ≡ first_source (found_by finders.now datasets.now all.now) number at.now name.now) }
+{
+    if is_first(alloc, finders, number, name)? {
+        Ok(Some(source_for(alloc, datasets, all, finders, at, name)?))
+    } else {
+        Ok(None)
+    }
+}
+
+// The source that data of a number names first.
+fn source_at(
+    alloc: Global,
+    datasets: &[Member],
+    all: &[NamedData],
+    finders: &Finders,
+    number: usize,
+    named: &NamedData,
+) -> Result<Option<SourceOf>, OutOfMemory>
+    ensures { IfOk result (λ source. source ≡ source_at (found_by finders.now datasets.now all.now) (number, named.now)) }
+{
+    match &named.source {
+        Some(name) => first_source(alloc, datasets, all, finders, number, &named.data_, name),
+        None => Ok(None),
+    }
+}
+
+// Adds a source, if there is one.
+fn push_source(source: Option<SourceOf>, out: &mut Seq<SourceOf>) -> Result<(), OutOfMemory>
+    ensures { OnOk result (out.new ≡ out.old ++ option_to_list source) }
+{
+    match source {
+        Some(source) => out.push(source),
+        None => Ok(()),
+    }
+}
+
+// The sources, as the finders find them.
+fn sources_with(
+    alloc: Global,
+    datasets: &[Member],
+    all: &[NamedData],
+    finders: &Finders,
+) -> Result<Seq<SourceOf>, OutOfMemory>
+    ensures { IfOk result (λ sources. sources ≡ sources_with (found_by finders.now datasets.now all.now) all.now) }
+{
+    let mut out = Seq::new(alloc);
+    for (number, named) in all.iter().enumerate() {
+        push_source(
+            source_at(alloc, datasets, all, finders, number, named)?,
+            &mut out,
+        )?;
+    }
+    Ok(out)
+}
+
+/// The sources of some datasets and data, each where it is named first.
+pub fn sources_of(
+    alloc: Global,
+    datasets: &[Member],
+    all: &[NamedData],
+) -> Result<Seq<SourceOf>, OutOfMemory>
+    ensures { IfOk result (λ sources. sources ≡ sources_of datasets.now all.now) }
+{
+    let finders = finders_of(alloc, datasets, all)?;
+    sources_with(alloc, datasets, all, &finders)
+}

@@ -1,0 +1,456 @@
+// Views.
+ghost use Rattle.std.specs.Prelude.{◌≡◌, map, codes, IfOk};
+ghost use Rattle.vl_spec.specs.declared.views.Facet.TheVariants as facet;
+ghost use Rattle.vl_building.specs.Parts.{object_at};
+ghost use Rattle.vl_building.specs.Inside.{member_gives};
+ghost use Rattle.vl_building.specs.Channels.{channel_of, encoding_of};
+ghost use Rattle.vl_building.specs.Views.{child, is_view_kind, other_word, view_word, cross_of, facet_of, unit_of, layer_with, faceted_with, joined_with, as_view, views_given, view_given, kind_by, object_view, views_in, view_of, views_of, no_view};
+ghost use Rattle.vl_building.specs.inner.Named.{shown};
+ghost use Rattle.vl_building.specs.inner.Heads.{head_of, view_of_head, views_inside};
+
+use crate::naming::Named;
+use crate::numbers::{count_at, space_at};
+use crate::parts::{Object, has_member, needed_members};
+use crate::places::{numbers_at, source_of, transforms_at};
+use crate::several::{three_parts, two_parts};
+use crate::sizes::size_at;
+use crate::{parts, places};
+use json_exact::{Json, Member};
+use std::alloc::Global;
+use text_kit::{Boxed, OutOfMemory, Seq, Text};
+use vl_spec::{
+    Channel, CrossFacet, Encoding, Facet, Faceted, Joined, Joining, Layer, Resolve, Transform,
+    Unit, View, ViewKind,
+};
+
+// Whether it is a member of which the first decides what a view is.
+fn is_view_kind(name: &str) -> bool
+    ensures { result ≡ is_view_kind name.now }
+{
+    name == "mark"
+        || name == "layer"
+        || name == "facet"
+        || name == "hconcat"
+        || name == "vconcat"
+        || name == "concat"
+}
+
+// What decides where no such member stands: a `spec`, or else `mark`.
+fn other_word(members: &[Member]) -> &'static str
+    ensures { result.now ≡ other_word members.now }
+{
+    if has_member(members, "spec") {
+        "facet"
+    } else {
+        "mark"
+    }
+}
+
+// What decides what a view is.
+fn view_word(members: &[Member]) -> &str
+    ensures { result.now ≡ view_word members.now }
+{
+    for member in members {
+        if is_view_kind(member.name.as_str()) {
+            return member.name.as_str();
+        }
+    }
+    other_word(members)
+}
+
+impl Object for CrossFacet {
+    ghost built = { cross_of };
+
+    fn of_members(alloc: Global, members: &[Member]) -> Result<CrossFacet, OutOfMemory> {
+        let (row, column) = two_parts(alloc, members, "row", "column")?;
+        Ok(CrossFacet { row, column })
+    }
+}
+
+// How rows are parted by one field.
+fn one_facet(alloc: Global, members: &[Member]) -> Result<Facet, OutOfMemory>
+    ensures { IfOk result (λ parted. parted ≡ facet.One (channel_of members.now)) }
+{
+    Ok(Facet::One(Channel::of_members(alloc, members)?))
+}
+
+// How rows are parted: by rows and columns only without `field`.
+fn facet_of(alloc: Global, members: &[Member]) -> Result<Facet, OutOfMemory>
+    ensures { IfOk result (λ facet. facet ≡ facet_of members.now) }
+{
+    if has_member(members, "field") {
+        one_facet(alloc, members)
+    } else if has_member(members, "row") || has_member(members, "column") {
+        Ok(Facet::Cross(CrossFacet::of_members(alloc, members)?))
+    } else {
+        one_facet(alloc, members)
+    }
+}
+
+// One mark.
+fn unit_of(alloc: Global, members: &[Member]) -> Result<Unit, OutOfMemory>
+    ensures { IfOk result (λ unit. unit ≡ unit_of members.now) }
+{
+    let (mark, encoding) = two_parts(alloc, members, "mark", "encoding")?;
+    Ok(Unit { mark, encoding })
+}
+
+// How rows are parted, and a value.
+fn facet_with<T: Drop>(
+    alloc: Global,
+    members: &[Member],
+    value: T,
+) -> Result<(Facet, T), OutOfMemory>
+    ensures { IfOk result (λ both. both ≡ (facet_of members.now, value)) }
+{
+    let facet = facet_of(alloc, members)?;
+    Ok((facet, value))
+}
+
+// The channels of a layer, and a value.
+fn encoding_with<T: Drop>(
+    alloc: Global,
+    members: &[Member],
+    value: T,
+) -> Result<(Option<Encoding>, T), OutOfMemory>
+    ensures { IfOk result (λ both. both ≡ (object_at encoding_of members.now (codes "encoding"), value)) }
+{
+    let encoding = parts::object_at(alloc, members, "encoding")?;
+    Ok((encoding, value))
+}
+
+/// What a view has of its own.
+#[derive(Drop)]
+pub struct Head {
+    /// Its name.
+    pub name: Option<Text>,
+    /// Its title.
+    pub title: Option<Text>,
+    /// The name of the source of its rows.
+    pub data_: Option<Text>,
+    /// Which scales the views inside it share.
+    pub resolve: Option<Resolve>,
+    /// The numbers of its parameters.
+    pub params: Seq<usize>,
+    /// What is done to its rows.
+    pub transform: Option<Seq<Transform>>,
+}
+
+// What a view has of its own.
+fn head_of(
+    alloc: Global,
+    named: &Named,
+    members: &[Member],
+    place: &[usize],
+) -> Result<Head, OutOfMemory>
+    ensures { IfOk result (λ head. head ≡ head_of (shown named.now) members.now place.now) }
+{
+    let (name, title, resolve) = three_parts(alloc, members, "name", "title", "resolve")?;
+    let data_ = source_of(alloc, named, place, members)?;
+    let params = numbers_at(alloc, named, place, members, "params")?;
+    let transform = transforms_at(alloc, named, place, members, "transform")?;
+    Ok(Head {
+        name,
+        title,
+        data_,
+        resolve,
+        params,
+        transform,
+    })
+}
+
+// The same, and a value.
+fn head_with<T: Drop>(
+    alloc: Global,
+    named: &Named,
+    members: &[Member],
+    place: &[usize],
+    value: T,
+) -> Result<(Head, T), OutOfMemory>
+    ensures { IfOk result (λ both. both ≡ (head_of (shown named.now) members.now place.now, value)) }
+{
+    let head = head_of(alloc, named, members, place)?;
+    Ok((head, value))
+}
+
+// A view of this kind.
+fn view_with(members: &[Member], head: Head, kind: ViewKind) -> View
+    ensures { result ≡ view_of_head members.now head kind }
+{
+    let Head {
+        name,
+        title,
+        data_,
+        resolve,
+        params,
+        transform,
+    } = head;
+    View {
+        name,
+        title,
+        data_,
+        transform,
+        params,
+        width: size_at(members, "width"),
+        height: size_at(members, "height"),
+        resolve,
+        kind,
+    }
+}
+
+// A view without members.
+fn no_view(alloc: Global) -> View
+    ensures { result ≡ no_view }
+{
+    View {
+        name: None,
+        title: None,
+        data_: None,
+        transform: None,
+        params: Seq::new(alloc),
+        width: None,
+        height: None,
+        resolve: None,
+        kind: ViewKind::Unit(Unit {
+            mark: None,
+            encoding: None,
+        }),
+    }
+}
+
+/// The view that a value at a place is; one that is no object is a view without members.
+#[cycle(views)]
+pub fn view_of(
+    alloc: Global,
+    named: &Named,
+    tree: &Json,
+    place: &[usize],
+) -> Result<View, OutOfMemory>
+    ensures { IfOk result (λ view. view ≡ view_of (shown named.now) tree.now place.now) }
+{
+    match tree {
+        Json::Object(members) => object_view(alloc, named, members.as_slice(), place),
+        Json::Null | Json::Flag(_) | Json::Number(_) | Json::Huge | Json::Text(_) | Json::List(_) =>
+            Ok(no_view(alloc)),
+    }
+}
+
+// The view of these members.
+#[cycle(views)]
+fn object_view(
+    alloc: Global,
+    named: &Named,
+    members: &[Member],
+    place: &[usize],
+) -> Result<View, OutOfMemory>
+    ensures { IfOk result (λ view. view
+        ≡ object_view (shown named.now) members.now (member_gives (as_view (shown named.now)) members.now) place.now) }
+{
+    let kind = kind_by(alloc, named, view_word(members), members, place)?;
+    let (head, kind) = head_with(alloc, named, members, place, kind)?;
+    Ok(view_with(members, head, kind))
+}
+
+// What a view is, by the member that decides.
+#[cycle(views)]
+fn kind_by(
+    alloc: Global,
+    named: &Named,
+    word: &str,
+    members: &[Member],
+    place: &[usize],
+) -> Result<ViewKind, OutOfMemory>
+    ensures { IfOk result (λ kind. kind ≡ kind_by word.now members.now (views_inside (shown named.now) members.now place.now)) }
+{
+    if word == "layer" {
+        Ok(ViewKind::Layer(layer_of(alloc, named, members, place)?))
+    } else if word == "facet" {
+        Ok(ViewKind::Facet(faceted_of(alloc, named, members, place)?))
+    } else if word == "hconcat" {
+        Ok(ViewKind::Joined(joined_of(alloc, named, Joining::Row, "hconcat", members, place)?))
+    } else if word == "vconcat" {
+        Ok(ViewKind::Joined(joined_of(alloc, named, Joining::Column, "vconcat", members, place)?))
+    } else if word == "concat" {
+        Ok(ViewKind::Joined(joined_of(alloc, named, Joining::Grid, "concat", members, place)?))
+    } else {
+        Ok(ViewKind::Unit(unit_of(alloc, members)?))
+    }
+}
+
+// Views on each other.
+#[cycle(views)]
+fn layer_of(
+    alloc: Global,
+    named: &Named,
+    members: &[Member],
+    place: &[usize],
+) -> Result<Layer, OutOfMemory>
+    ensures { IfOk result (λ layer. layer
+        ≡ layer_with members.now (views_given (views_inside (shown named.now) members.now place.now (codes "layer")))) }
+{
+    let layer = views_at(alloc, named, members, place, "layer")?;
+    let (encoding, layer) = encoding_with(alloc, members, layer)?;
+    Ok(Layer { layer, encoding })
+}
+
+// A view for each part of the rows.
+#[cycle(views)]
+fn faceted_of(
+    alloc: Global,
+    named: &Named,
+    members: &[Member],
+    place: &[usize],
+) -> Result<Faceted, OutOfMemory>
+    ensures { IfOk result (λ faceted. faceted
+        ≡ faceted_with members.now (view_given (views_inside (shown named.now) members.now place.now (codes "spec")))) }
+{
+    let view = view_at(alloc, named, members, place)?;
+    let (facet, view) = facet_with(alloc, needed_members(members, "facet"), view)?;
+    Ok(Faceted {
+        facet,
+        columns: count_at(members, "columns"),
+        spacing: space_at(members, "spacing"),
+        spec: view,
+    })
+}
+
+// Views beside each other.
+#[cycle(views)]
+fn joined_of(
+    alloc: Global,
+    named: &Named,
+    joining: Joining,
+    name: &str,
+    members: &[Member],
+    place: &[usize],
+) -> Result<Joined, OutOfMemory>
+    ensures { IfOk result (λ joined. joined
+        ≡ joined_with joining members.now (views_given (views_inside (shown named.now) members.now place.now name.now))) }
+{
+    Ok(Joined {
+        joining,
+        columns: count_at(members, "columns"),
+        spacing: space_at(members, "spacing"),
+        views: views_at(alloc, named, members, place, name)?,
+    })
+}
+
+// The view under `spec`, in a box.
+#[cycle(views)]
+fn view_at(
+    alloc: Global,
+    named: &Named,
+    members: &[Member],
+    place: &[usize],
+) -> Result<Boxed<View>, OutOfMemory>
+    ensures { IfOk result (λ view. view ≡ view_given (views_inside (shown named.now) members.now place.now (codes "spec"))) }
+{
+    for (number, member) in members.iter().enumerate() {
+        if member.name.as_str() == "spec" {
+            return boxed_view(alloc, named, &member.value, place, number);
+        }
+    }
+    Boxed::new(alloc, no_view(alloc))
+}
+
+// The view that a child of an object at a place is, in a box.
+#[cycle(views)]
+fn boxed_view(
+    alloc: Global,
+    named: &Named,
+    tree: &Json,
+    place: &[usize],
+    number: usize,
+) -> Result<Boxed<View>, OutOfMemory>
+    ensures { IfOk result (λ view. view ≡ view_of (shown named.now) tree.now (child place.now number)) }
+{
+    let view = child_view(alloc, named, tree, place, number)?;
+    Boxed::new(alloc, view)
+}
+
+// The view that a child of a value at a place is.
+#[cycle(views)]
+fn child_view(
+    alloc: Global,
+    named: &Named,
+    tree: &Json,
+    place: &[usize],
+    number: usize,
+) -> Result<View, OutOfMemory>
+    ensures { IfOk result (λ view. view ≡ view_of (shown named.now) tree.now (child place.now number)) }
+{
+    let here = places::child(alloc, place, number)?;
+    view_of(alloc, named, tree, here.as_slice())
+}
+
+// The views that the items of the list under a name are.
+#[cycle(views)]
+fn views_at(
+    alloc: Global,
+    named: &Named,
+    members: &[Member],
+    place: &[usize],
+    name: &str,
+) -> Result<Seq<View>, OutOfMemory>
+    ensures { IfOk result (λ views. views ≡ views_given (views_inside (shown named.now) members.now place.now name.now)) }
+{
+    for (number, member) in members.iter().enumerate() {
+        if member.name.as_str() == name {
+            return child_views(alloc, named, &member.value, place, number);
+        }
+    }
+    Ok(Seq::new(alloc))
+}
+
+// The views that the items of a child of an object at a place are.
+#[cycle(views)]
+fn child_views(
+    alloc: Global,
+    named: &Named,
+    tree: &Json,
+    place: &[usize],
+    number: usize,
+) -> Result<Seq<View>, OutOfMemory>
+    ensures { IfOk result (λ views. views ≡ views_of (shown named.now) tree.now (child place.now number)) }
+{
+    let here = places::child(alloc, place, number)?;
+    views_of(alloc, named, tree, here.as_slice())
+}
+
+// The views that the items of a value at a place are.
+#[cycle(views)]
+fn views_of(
+    alloc: Global,
+    named: &Named,
+    tree: &Json,
+    place: &[usize],
+) -> Result<Seq<View>, OutOfMemory>
+    ensures { IfOk result (λ views. views ≡ views_of (shown named.now) tree.now place.now) }
+{
+    match tree {
+        Json::List(items) => views_in(alloc, named, items.as_slice(), place),
+        Json::Null
+        | Json::Flag(_)
+        | Json::Number(_)
+        | Json::Huge
+        | Json::Text(_)
+        | Json::Object(_) => Ok(Seq::new(alloc)),
+    }
+}
+
+// The views that items at a place are.
+#[cycle(views)]
+fn views_in(
+    alloc: Global,
+    named: &Named,
+    items: &[Json],
+    place: &[usize],
+) -> Result<Seq<View>, OutOfMemory>
+    ensures { IfOk result (λ views. views ≡ views_in (map (as_view (shown named.now)) items.now) place.now) }
+{
+    let mut views = Seq::new(alloc);
+    for (number, tree) in items.iter().enumerate() {
+        views.push(child_view(alloc, named, tree, place, number)?)?;
+    }
+    Ok(views)
+}
