@@ -1,0 +1,3 @@
+mod KnownLemmas
+mod BandLemmas
+mod UnlistedLemmas

@@ -1,0 +1,6 @@
+use Rattle.std.proofs.Common.{rules}
+use Rattle.scale_index.proofs.UnlistedLemmas.{no_paint}
+use Rattle.scale_index.proofs.unlisted.unlisted_paint.Goals as goal
+
+pub returns-else-is_empty : goal.returns-else-is_empty
+returns-else-is_empty c = no_paint c.args.s.now c.args.v.now c.requires.unlisted (λ none. search rules)

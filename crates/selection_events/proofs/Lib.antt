@@ -1,0 +1,7 @@
+mod LastLemmas
+mod AloneLemmas
+mod AlongLemmas
+mod InverseLemmas
+mod FieldLemmas
+mod ExtentLemmas
+mod KeptLemmas

@@ -1,0 +1,3 @@
+-- Words that only private contracts and proofs cite.
+pub mod Last
+pub mod Alone
