@@ -1,14 +1,13 @@
 -- Conditions that are objects, and lists of conditions.
-use Rattle.std.proofs.Common.{◌≡◌, List, [], map, refl, sym, ap, ◌∙◌}
-use Rattle.std.specs.Prelude.{Option, Some}
+use Rattle.std.proofs.Common.{◌≡◌, List, [], map, sym, ap, ◌∙◌}
+use Rattle.std.specs.Prelude.{Some}
 use Rattle.json_exact.specs.declared.json.Json.{Json}
 use Rattle.json_exact.specs.declared.json.Json.TheVariants as json
 use Rattle.json_exact.specs.declared.json.Member.{Member}
 use Rattle.std.proofs.lemmas.Simd.{map-map}
 use Rattle.vl_spec.specs.declared.channels.Condition.{Condition}
-use Rattle.vl_spec.specs.declared.channels.Conditions.{Conditions}
 use Rattle.vl_spec.specs.declared.channels.Conditions.TheVariants as conditions
-use Rattle.vl_building.specs.Parts.{Opened, members_of}
+use Rattle.tree_readers.specs.Parts.{members_of}
 use Rattle.vl_building.specs.Inside.{no_members, member_gives}
 use Rattle.vl_building.specs.Channels.{AsCondition, as_condition, as_condition_with, condition_with, conditions_in, condition_of, conditions_of}
 use Rattle.vl_building.proofs.Inside.{object_opened, object_members, list_opened, at_object, at_list}

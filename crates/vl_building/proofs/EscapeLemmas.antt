@@ -1,12 +1,12 @@
 -- The text of a field without its escapes, byte by byte and character by character.
-use Rattle.std.proofs.Common.{◌≡◌, ℕ, ◌+◌, ◌<◌, ◌≤◌, ◌/◌, ◌%◌, List, [], ◌∷◌, ◌++◌, refl, sym, ap, ◌∙◌, arith, inl, inr, append-nil}
-use Rattle.std.specs.Prelude.{◌==◌, ◌&&◌, Bool, true, false, encode_utf8, encode_utf8_all, if◌then◌else◌}
+use Rattle.std.proofs.Common.{◌≡◌, ℕ, ◌+◌, ◌≤◌, List, [], ◌∷◌, ◌++◌, refl, sym, ap, ◌∙◌, arith, inl, inr, append-nil}
+use Rattle.std.specs.Prelude.{◌==◌, Bool, true, false, encode_utf8, encode_utf8_all}
 use Rattle.std.proofs.lemmas.Bool.{cases_lt}
 use Rattle.std.proofs.lemmas.Bool.Decides.{nat_tests}
 use Rattle.std.proofs.lemmas.List.{append_assoc}
 use Rattle.std.proofs.lemmas.Str.{encodes-append}
 use Rattle.json_exact.proofs.Letters.{encode_1, encode_2, encode_3, encode_4}
-use Rattle.vl_building.specs.Fields.{BACKSLASH, is_mark, begins_with_mark, field_name}
+use Rattle.vl_building.specs.Fields.{is_mark, field_name}
 use Rattle.vl_building.specs.inner.Escapes.{waiting, stepped, waits_behind}
 
 -- a mark is no `\`

@@ -1,10 +1,9 @@
 -- Filters that are objects, and lists of filters.
-use Rattle.std.proofs.Common.{◌≡◌, List, map, refl, sym, ap, ◌∙◌}
+use Rattle.std.proofs.Common.{◌≡◌, List, map, sym, ap, ◌∙◌}
 use Rattle.json_exact.specs.declared.json.Json.{Json}
 use Rattle.json_exact.specs.declared.json.Json.TheVariants as json
 use Rattle.json_exact.specs.declared.json.Member.{Member}
 use Rattle.std.proofs.lemmas.Simd.{map-map}
-use Rattle.vl_spec.specs.declared.filters.Filter.{Filter}
 use Rattle.vl_building.specs.Inside.{member_gives}
 use Rattle.vl_building.specs.Filters.{AsFilter, as_filter, as_filter_with, filter_in, object_filter, filter_of, filters_of}
 use Rattle.vl_building.proofs.Inside.{object_opened, at_object, at_list}

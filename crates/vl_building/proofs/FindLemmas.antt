@@ -1,5 +1,5 @@
 -- What an index finds is the first that passes.
-use Rattle.std.proofs.Common.{◌≡◌, ℕ, zero, suc, ◌+◌, Bool, true, false, List, [], ◌∷◌, drop, Option, Some, None, cond, refl, sym, ap, ◌∙◌, subst, add-one}
+use Rattle.std.proofs.Common.{◌≡◌, ℕ, zero, suc, ◌+◌, Bool, true, false, List, [], ◌∷◌, drop, Option, Some, cond, refl, sym, ap, ◌∙◌, subst, add-one}
 use Rattle.std.specs.Prelude.{find, slice_get, bytes_eq, Vec}
 use Rattle.std.specs.Option.{option_map}
 use Rattle.std.specs.List.{position_from}

@@ -1,6 +1,6 @@
 -- What a list and an object give: what the rows of a tree give is what its lists of items and members give.
 use Rattle.std.proofs.Common.{◌≡◌, ℕ, List, [], ◌∷◌, map, refl, sym, ap, ◌∙◌}
-use Rattle.std.specs.Prelude.{Option, Some, None, Bool, true, false, if◌then◌else◌}
+use Rattle.std.specs.Prelude.{Option, Some, Bool, true, false, if◌then◌else◌}
 use Rattle.std.specs.Option.{option_map, unwrap_or}
 use Rattle.std.specs.Str.{bytes_eq}
 use Rattle.json_exact.specs.declared.json.Json.{Json, out-Json, out-roll-Json, Row_of-Json, end_of-Json, more_of-Json, items-the_row-Json, items_hidden-the_row-Json-0, Row_of-Member, end_of-Member, more_of-Member, items-the_row-Member, items_hidden-the_row-Member-1}
@@ -10,7 +10,7 @@ use Rattle.json_exact.specs.declared.json.Json.TheVariants.{rolls-Object, rolls-
 use Rattle.json_exact.specs.declared.json.Json.TheOpen as level
 use Rattle.json_exact.specs.declared.json.Member.{Member}
 use Rattle.json_exact.specs.Inside.{members_in}
-use Rattle.vl_building.specs.Parts.{Opened, members_of}
+use Rattle.tree_readers.specs.Parts.{Opened, members_of}
 use Rattle.vl_building.specs.Inside.{Giving, no_members, given_by, given_by_items, given_by_member, member_gives}
 
 -- an object and a list, opened

@@ -6,7 +6,6 @@ pub mod ChannelLemmas
 pub mod ViewLemmas
 pub mod EscapeLemmas
 pub mod PlaceLemmas
-pub mod IndexLemmas
 pub mod TrailLemmas
 pub mod FindLemmas
 pub mod SpecLemmas
@@ -15,4 +14,3 @@ pub mod TakenNumbers
 pub mod TakenNames
 pub mod TakenValues
 pub mod TakenObjects
-pub mod PushLemmas

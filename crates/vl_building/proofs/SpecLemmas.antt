@@ -3,7 +3,7 @@ use Rattle.std.proofs.Common.{◌≡◌, List, ap, ◌∙◌}
 use Rattle.json_exact.specs.declared.json.Json.{Json}
 use Rattle.vl_building.specs.declared.data.ParamAt.{ParamAt}
 use Rattle.vl_building.specs.declared.naming.Named.{Named}
-use Rattle.vl_building.specs.Parts.{members_of}
+use Rattle.tree_readers.specs.Parts.{members_of}
 use Rattle.vl_building.specs.Sources.{named_from}
 use Rattle.vl_building.specs.Gather.{data_of, params_of}
 use Rattle.vl_building.specs.Spec.{naming_of, spec_with, spec_among, spec_of}

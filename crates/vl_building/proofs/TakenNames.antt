@@ -1,5 +1,5 @@
 -- The readers of names keep what the table takes.
-use Rattle.std.proofs.Common.{◌≡◌, ℕ, true, List, [], ◌∷◌, refl}
+use Rattle.std.proofs.Common.{◌≡◌, ℕ, List, [], ◌∷◌, refl}
 use Rattle.std.specs.Prelude.{codes}
 use Rattle.std.specs.Str.{bytes_eq}
 use Rattle.std.specs.Option.{is_some}
@@ -16,12 +16,12 @@ use Rattle.vl_schema.specs.Words.{drag_names, type_names, scheme_names, offset_n
 use Rattle.vl_schema.specs.Words.{unit_names, operation_names, scale_names}
 use Rattle.vl_building.specs.Names.{align_named, autosize_named, baseline_named, field_type_named, format_kind_named, interpolate_named, mark_type_named, offset_named, order_named}
 use Rattle.vl_building.specs.Names.{parse_kind_named, scheme_named, select_event_named, select_type_named, sharing_named, side_named, channel_named, window_operation_named, time_unit_named}
-use Rattle.vl_building.specs.Names.{operation_named, scale_kind_named}
+use Rattle.vl_building.specs.Names.{aggregates, scale_types, operation_named, scale_kind_named}
 use Rattle.vl_building.specs.Taken.{Keeps, text_as, NamesAreKept, CodesAreKept}
 use Rattle.vl_building.proofs.TakenLemmas.{name_keeps, next, position_keeps, below_keeps}
 
 pub autosize_among : (name : List ℕ) → is_some (autosize_named name) ≡ among autosize_names name
-unfolding autosize_names
+unfolding autosize_names autosize_named
 autosize_among name = next (codes "pad") name _ _ _ refl
 
 autosize_kept : Keeps AUTOSIZE (text_as autosize_named)
@@ -29,7 +29,7 @@ unfolding leaves numbers named lists plain_objects objects autosize_names
 autosize_kept = name_keeps AUTOSIZE AUTOSIZE_NAMES autosize_named autosize_names refl refl autosize_among
 
 pub format_kind_among : (name : List ℕ) → is_some (format_kind_named name) ≡ among format_names name
-unfolding format_names
+unfolding format_names format_kind_named
 format_kind_among name = next (codes "json") name _ _ _ (next (codes "csv") name _ _ _ refl)
 
 format_kind_kept : Keeps FORMAT_TYPE (text_as format_kind_named)
@@ -37,7 +37,7 @@ unfolding leaves numbers named lists plain_objects objects format_names
 format_kind_kept = name_keeps FORMAT_TYPE FORMAT_NAMES format_kind_named format_names refl refl format_kind_among
 
 pub parse_kind_among : (name : List ℕ) → is_some (parse_kind_named name) ≡ among parse_names name
-unfolding parse_names
+unfolding parse_names parse_kind_named
 parse_kind_among name = next (codes "number") name _ _ _ (next (codes "boolean") name _ _ _ (next (codes "string") name _ _ _ (next (codes "date") name _ _ _ refl)))
 
 parse_kind_kept : Keeps PARSE_KIND (text_as parse_kind_named)
@@ -45,7 +45,7 @@ unfolding leaves numbers named lists plain_objects objects parse_names
 parse_kind_kept = name_keeps PARSE_KIND PARSE_NAMES parse_kind_named parse_names refl refl parse_kind_among
 
 pub mark_type_among : (name : List ℕ) → is_some (mark_type_named name) ≡ among mark_names name
-unfolding mark_names
+unfolding mark_names mark_type_named
 mark_type_among name = next (codes "bar") name _ _ _ (next (codes "rect") name _ _ _ (next (codes "point") name _ _ _ (next (codes "circle") name _ _ _ (next (codes "square") name _ _ _ (next (codes "line") name _ _ _ (next (codes "area") name _ _ _ (next (codes "tick") name _ _ _ (next (codes "rule") name _ _ _ (next (codes "text") name _ _ _ refl)))))))))
 
 mark_type_kept : Keeps MARK_TYPE (text_as mark_type_named)
@@ -53,7 +53,7 @@ unfolding leaves numbers named lists plain_objects objects mark_names
 mark_type_kept = name_keeps MARK_TYPE MARK_NAMES mark_type_named mark_names refl refl mark_type_among
 
 pub align_among : (name : List ℕ) → is_some (align_named name) ≡ among align_names name
-unfolding align_names
+unfolding align_names align_named
 align_among name = next (codes "left") name _ _ _ (next (codes "center") name _ _ _ (next (codes "right") name _ _ _ refl))
 
 align_kept : Keeps ALIGN (text_as align_named)
@@ -61,7 +61,7 @@ unfolding leaves numbers named lists plain_objects objects align_names
 align_kept = name_keeps ALIGN ALIGN_NAMES align_named align_names refl refl align_among
 
 pub baseline_among : (name : List ℕ) → is_some (baseline_named name) ≡ among baseline_names name
-unfolding baseline_names
+unfolding baseline_names baseline_named
 baseline_among name = next (codes "top") name _ _ _ (next (codes "middle") name _ _ _ (next (codes "bottom") name _ _ _ (next (codes "alphabetic") name _ _ _ refl)))
 
 baseline_kept : Keeps BASELINE (text_as baseline_named)
@@ -69,7 +69,7 @@ unfolding leaves numbers named lists plain_objects objects baseline_names
 baseline_kept = name_keeps BASELINE BASELINE_NAMES baseline_named baseline_names refl refl baseline_among
 
 pub interpolate_among : (name : List ℕ) → is_some (interpolate_named name) ≡ among interpolate_names name
-unfolding interpolate_names
+unfolding interpolate_names interpolate_named
 interpolate_among name = next (codes "linear") name _ _ _ refl
 
 interpolate_kept : Keeps INTERPOLATE (text_as interpolate_named)
@@ -77,7 +77,7 @@ unfolding leaves numbers named lists plain_objects objects interpolate_names
 interpolate_kept = name_keeps INTERPOLATE INTERPOLATE_NAMES interpolate_named interpolate_names refl refl interpolate_among
 
 pub select_type_among : (name : List ℕ) → is_some (select_type_named name) ≡ among select_names name
-unfolding select_names
+unfolding select_names select_type_named
 select_type_among name = next (codes "point") name _ _ _ (next (codes "interval") name _ _ _ refl)
 
 select_type_kept : Keeps SELECT_TYPE (text_as select_type_named)
@@ -101,7 +101,7 @@ unfolding leaves numbers named lists plain_objects objects drag_names
 interval_event_kept = name_keeps INTERVAL_EVENTS DRAG_NAMES (select_event_named selection.Interval) drag_names refl refl interval_event_among
 
 pub field_type_among : (name : List ℕ) → is_some (field_type_named name) ≡ among type_names name
-unfolding type_names
+unfolding type_names field_type_named
 field_type_among name = next (codes "quantitative") name _ _ _ (next (codes "temporal") name _ _ _ (next (codes "ordinal") name _ _ _ (next (codes "nominal") name _ _ _ refl)))
 
 field_type_kept : Keeps FIELD_TYPE (text_as field_type_named)
@@ -109,7 +109,7 @@ unfolding leaves numbers named lists plain_objects objects type_names
 field_type_kept = name_keeps FIELD_TYPE TYPE_NAMES field_type_named type_names refl refl field_type_among
 
 pub scheme_among : (name : List ℕ) → is_some (scheme_named name) ≡ among scheme_names name
-unfolding scheme_names
+unfolding scheme_names scheme_named
 scheme_among name = next (codes "tableau10") name _ _ _ (next (codes "blues") name _ _ _ refl)
 
 scheme_kept : Keeps SCHEME (text_as scheme_named)
@@ -117,7 +117,7 @@ unfolding leaves numbers named lists plain_objects objects scheme_names
 scheme_kept = name_keeps SCHEME SCHEME_NAMES scheme_named scheme_names refl refl scheme_among
 
 pub offset_among : (name : List ℕ) → is_some (offset_named name) ≡ among offset_names name
-unfolding offset_names
+unfolding offset_names offset_named
 offset_among name = next (codes "zero") name _ _ _ (next (codes "normalize") name _ _ _ (next (codes "center") name _ _ _ refl))
 
 offset_kept : Keeps OFFSET (text_as offset_named)
@@ -125,7 +125,7 @@ unfolding leaves numbers named lists plain_objects objects offset_names
 offset_kept = name_keeps OFFSET OFFSET_NAMES offset_named offset_names refl refl offset_among
 
 pub order_among : (name : List ℕ) → is_some (order_named name) ≡ among order_names name
-unfolding order_names
+unfolding order_names order_named
 order_among name = next (codes "ascending") name _ _ _ (next (codes "descending") name _ _ _ refl)
 
 order_kept : Keeps ORDER (text_as order_named)
@@ -133,7 +133,7 @@ unfolding leaves numbers named lists plain_objects objects order_names
 order_kept = name_keeps ORDER ORDER_NAMES order_named order_names refl refl order_among
 
 pub sharing_among : (name : List ℕ) → is_some (sharing_named name) ≡ among sharing_names name
-unfolding sharing_names
+unfolding sharing_names sharing_named
 sharing_among name = next (codes "shared") name _ _ _ (next (codes "independent") name _ _ _ refl)
 
 sharing_kept : Keeps SHARING (text_as sharing_named)
@@ -141,7 +141,7 @@ unfolding leaves numbers named lists plain_objects objects sharing_names
 sharing_kept = name_keeps SHARING SHARING_NAMES sharing_named sharing_names refl refl sharing_among
 
 pub side_among : (name : List ℕ) → is_some (side_named name) ≡ among side_names name
-unfolding side_names
+unfolding side_names side_named
 side_among name = next (codes "left") name _ _ _ (next (codes "right") name _ _ _ (next (codes "top") name _ _ _ (next (codes "bottom") name _ _ _ refl)))
 
 side_kept : Keeps SIDE (text_as side_named)
@@ -196,7 +196,7 @@ time_unit_kept = name_keeps TIME_UNIT UNIT_NAMES time_unit_named unit_names refl
 
 operation_among : (name : List ℕ) → is_some (operation_named name) ≡ among operation_names name
 unfolding operation_names
-operation_among name = below_keeps (λ n. bytes_eq n name) 12 operation_names (codes "row_number" ∷ codes "rank" ∷ codes "dense_rank" ∷ codes "lag" ∷ codes "lead" ∷ codes "first_value" ∷ codes "last_value" ∷ []) refl
+operation_among name = below_keeps (λ n. bytes_eq n name) aggregates operation_names (codes "row_number" ∷ codes "rank" ∷ codes "dense_rank" ∷ codes "lag" ∷ codes "lead" ∷ codes "first_value" ∷ codes "last_value" ∷ []) refl
 
 operation_kept : Keeps OPERATION (text_as operation_named)
 unfolding leaves numbers named lists plain_objects objects operation_names
@@ -204,7 +204,7 @@ operation_kept = name_keeps OPERATION OPERATION_NAMES operation_named operation_
 
 scale_kind_among : (name : List ℕ) → is_some (scale_kind_named name) ≡ among scale_names name
 unfolding scale_names
-scale_kind_among name = below_keeps (λ n. bytes_eq n name) 5 scale_names (codes "ramp" ∷ []) refl
+scale_kind_among name = below_keeps (λ n. bytes_eq n name) scale_types scale_names (codes "ramp" ∷ []) refl
 
 scale_kind_kept : Keeps SCALE_TYPE (text_as scale_kind_named)
 unfolding leaves numbers named lists plain_objects objects scale_names

@@ -1,6 +1,6 @@
 -- The readers of numbers keep what the table takes.
 use Rattle.std.proofs.Common.{◌≡◌, ℤ, Bool, true, false, ◌||◌, List, [], ◌∷◌, refl}
-use Rattle.std.specs.Prelude.{pos, negsuc, Option, Some, None, find, if◌then◌else◌}
+use Rattle.std.specs.Prelude.{pos, negsuc, Some, None, find, if◌then◌else◌}
 use Rattle.std.specs.Option.{option_map, is_some}
 use Rattle.json_exact.specs.declared.json.Json.TheOpen as level
 use Rattle.cell_value.specs.declared.cell.Cell.TheVariants as cell

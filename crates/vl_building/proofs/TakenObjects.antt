@@ -4,7 +4,6 @@ use Rattle.std.specs.Prelude.{Option, Some, None, find, map, codes, nat_le, if�
 use Rattle.std.specs.Option.{is_some}
 use Rattle.std.specs.List.{list_any, list_all}
 use Rattle.std.proofs.lemmas.Bool.Decides.{nat_tests}
-use Rattle.std.specs.Str.{bytes_eq}
 use Rattle.json_exact.specs.declared.json.Json.TheOpen as level
 use Rattle.json_exact.specs.declared.json.Member.{Member}
 use Rattle.spec_schema.specs.declared.form.Shape.{Shape}
@@ -38,7 +37,7 @@ use Rattle.vl_building.specs.Values.{texts_in, nullable_in}
 use Rattle.vl_building.specs.Definitions.{sort_named, bin_in, sort_in}
 use Rattle.vl_building.specs.Guides.{domain_in, axis_of, legend_of}
 use Rattle.vl_building.specs.Names.{select_type_named, mark_type_named}
-use Rattle.vl_building.specs.Marks.{mark_in, select_in, mark_named, select_named}
+use Rattle.vl_building.specs.Marks.{mark_in, select_in}
 use Rattle.vl_building.specs.Taken.{stands, Keeps, ObjectsAreKept}
 use Rattle.vl_building.proofs.TakenLemmas.{form_fits, keeps_by, mapped, alone, next, name_taken}
 use Rattle.vl_building.proofs.TakenNames.{select_type_among, mark_type_among}
@@ -125,7 +124,7 @@ unfolding leaves numbers named lists plain_objects objects
 bin_kept = keeps_by BIN _ bin_forms refl bin_each
 
 sort_among : (name : List ℕ) → is_some (sort_named name) ≡ among sort_names name
-unfolding sort_names
+unfolding sort_names sort_named
 sort_among name = next (codes "ascending") name _ _ _ (next (codes "descending") name _ _ _ (next (codes "x") name _ _ _ (next (codes "-x") name _ _ _ (next (codes "y") name _ _ _ (next (codes "-y") name _ _ _ refl)))))
 
 abbrev sort_forms : List Shape

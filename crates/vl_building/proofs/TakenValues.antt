@@ -1,5 +1,5 @@
 -- The readers of other single values keep what the table takes.
-use Rattle.std.proofs.Common.{◌≡◌, ℕ, ℤ, ◌+◌, ◌≤◌, Bool, true, false, ◌&&◌, List, [], ◌∷◌, length, refl, sym, ap, ◌∙◌, arith}
+use Rattle.std.proofs.Common.{◌≡◌, ℕ, ℤ, ◌+◌, Bool, true, false, ◌&&◌, List, [], ◌∷◌, length, refl, ap, ◌∙◌, arith}
 use Rattle.std.specs.Prelude.{Option, Some, None, find, codes, nat_le, if◌then◌else◌}
 use Rattle.std.specs.Option.{option_map, option_and_then, is_some}
 use Rattle.std.proofs.lemmas.Bool.Decides.{nat_tests}
@@ -16,7 +16,7 @@ use Rattle.vl_schema.specs.declared.codes.TheConstants.{TEXT, FLAG, CELL, SCALAR
 use Rattle.vl_schema.specs.declared.codes.TheConstants.{OFFSET_NAMES, CLEAR_NAMES, TOGGLE_NAMES}
 use Rattle.vl_schema.specs.Shapes.{shape, leaves, numbers, named, lists, plain_objects, objects}
 use Rattle.vl_schema.specs.Words.{offset_names, clear_names, toggle_names}
-use Rattle.vl_building.specs.Parts.{flag_in, cell_in, pair_in, two_texts}
+use Rattle.tree_readers.specs.Parts.{flag_in, cell_in, pair_in, two_texts}
 use Rattle.vl_building.specs.Names.{offset_named}
 use Rattle.vl_building.specs.Values.{scalar_in, title_in, both_names, names_in}
 use Rattle.vl_building.specs.Filters.{bound_in}

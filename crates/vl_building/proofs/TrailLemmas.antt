@@ -1,5 +1,5 @@
 -- Trails from the outermost value inwards, as the program keeps them.
-use Rattle.std.proofs.Common.{◌≡◌, ℕ, List, drop, map, ap}
+use Rattle.std.proofs.Common.{◌≡◌, List, drop, map, ap}
 use Rattle.std.specs.Prelude.{reverse}
 use Rattle.std.proofs.lemmas.List.{reverse-reverse}
 use Rattle.vl_building.specs.declared.gather.Around.{Around}

@@ -7,7 +7,6 @@ use Rattle.json_exact.specs.declared.json.Json.{Json, out-Json}
 use Rattle.json_exact.specs.declared.json.Json.TheVariants as json
 use Rattle.json_exact.specs.declared.json.Json.TheOpen as level
 use Rattle.json_exact.specs.declared.json.Member.{Member}
-use Rattle.json_exact.specs.Path.{member_value}
 use Rattle.vl_spec.specs.declared.channels.Channel.{Channel, roll-Channel}
 use Rattle.vl_spec.specs.declared.channels.Condition.{Condition, roll-Condition}
 use Rattle.vl_spec.specs.declared.channels.Conditions.{Conditions}
@@ -18,20 +17,20 @@ use Rattle.vl_spec.specs.declared.channels.Encoding.{Encoding}
 use Rattle.vl_spec.specs.declared.channels.ChannelOf.{ChannelOf}
 use Rattle.vl_spec.specs.declared.channels.ChannelKind.{ChannelKind}
 use Rattle.vl_spec.specs.declared.channels.ChannelKind.TheVariants as channel_kind
-use Rattle.vl_building.specs.Parts.{Opened, has_member, members_of}
+use Rattle.tree_readers.specs.Parts.{Opened, has_member, members_of}
 use Rattle.vl_building.specs.Inside.{Giving, given_by, member_gives}
 use Rattle.vl_building.specs.Names.{channel_named}
 use Rattle.vl_building.specs.Definitions.{definition_of}
 use Rattle.vl_building.specs.Filters.{param_test_of, needed_filter}
 
 -- when a condition holds: by its filter, or else by its parameter
-abbrev pub test_of : List Member → Test
+unfoldable pub test_of : List Member → Test
 test_of members =
     if has_member members (codes "test") then test.Filter (needed_filter members (codes "test"))
     else test.Param (param_test_of members)
 
 -- a definition of a channel, its conditions being these
-abbrev pub channel_with : List Member → Option Conditions → Channel
+unfoldable pub channel_with : List Member → Option Conditions → Channel
 channel_with members held = roll-Channel (record { definition = definition_of members; condition = held })
 
 -- what a value is as a condition, and what it is as conditions
@@ -43,7 +42,7 @@ abbrev pub conditions_given : Option AsCondition → Option Conditions
 conditions_given given = option_and_then (λ (c : AsCondition). c.1) given
 
 -- a condition that shows this
-abbrev pub condition_showing : List Member → Channel → Condition
+unfoldable pub condition_showing : List Member → Channel → Condition
 condition_showing members channel = roll-Condition (record { test = test_of members; shows = channel })
 
 -- a condition, by its members and by what they hold
@@ -98,11 +97,11 @@ abbrev pub channel_coded : List ℕ → Json → ℕ → Option ChannelOf
 channel_coded name tree code = option_map (λ shown. record { channel = code; shows = shown }) (shown_in name (out-Json tree))
 
 -- the channel that a member is, if it is one
-abbrev pub channel_in : Member → Option ChannelOf
+unfoldable pub channel_in : Member → Option ChannelOf
 channel_in m = option_and_then (channel_coded m.name m.value) (channel_named m.name)
 
 -- the channels of a view
-abbrev pub encoding_of : List Member → Encoding
+unfoldable pub encoding_of : List Member → Encoding
 encoding_of members = record { channels = filter_map channel_in members }
 
 -- The rules at work.
@@ -114,6 +113,7 @@ no_other_channel : shown_in (codes "x") (level.List []) ≡ None
 no_other_channel = refl
 
 a_tooltip_is_not_read : channel_in (record { name = codes "tooltip"; value = json.Null }) ≡ None
+unfolding channel_in
 a_tooltip_is_not_read = refl
 
 no_conditions : conditions_in level.Null (condition_showing [] (channel_with [] None)) [] ≡ None

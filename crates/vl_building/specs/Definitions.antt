@@ -1,8 +1,8 @@
 -- Definitions of channels, apart from their conditions.
 use Rattle.std.specs.Prelude.{◌≡◌, refl, ℕ, Bool, false, ◌||◌, Option, Some, None, List, [], ◌∷◌, find, map, codes, if◌then◌else◌}
-use Rattle.std.specs.Option.{option_map, option_map_or, option_and_then}
+use Rattle.std.specs.Option.{option_map, option_map_or}
 use Rattle.std.specs.Str.{bytes_eq}
-use Rattle.json_exact.specs.declared.json.Json.{Json, out-Json}
+use Rattle.json_exact.specs.declared.json.Json.{out-Json}
 use Rattle.json_exact.specs.declared.json.Json.TheVariants as json
 use Rattle.json_exact.specs.declared.json.Json.TheOpen as level
 use Rattle.json_exact.specs.declared.json.Member.{Member}
@@ -16,13 +16,12 @@ use Rattle.vl_spec.specs.declared.definitions.Bin.TheVariants as bin
 use Rattle.vl_spec.specs.declared.definitions.BinSettings.{BinSettings}
 use Rattle.vl_spec.specs.declared.definitions.Stacking.{Stacking}
 use Rattle.vl_spec.specs.declared.definitions.Stacking.TheVariants as stacking
-use Rattle.vl_spec.specs.declared.orders.Order.{Order}
 use Rattle.vl_spec.specs.declared.orders.Order.TheVariants as order
 use Rattle.vl_spec.specs.declared.orders.Offset.TheVariants as offset
 use Rattle.vl_spec.specs.declared.orders.Sort.{Sort}
 use Rattle.vl_spec.specs.declared.orders.Sort.TheVariants as sort
 use Rattle.vl_spec.specs.declared.orders.FieldSort.{FieldSort}
-use Rattle.vl_building.specs.Parts.{Opened, found_at, object_at, text_at}
+use Rattle.tree_readers.specs.Parts.{Opened, found_at, object_at, text_at}
 use Rattle.vl_building.specs.Fields.{field_at}
 use Rattle.vl_building.specs.Numbers.{space_at, count_at, bin_step_at}
 use Rattle.vl_building.specs.Values.{scalar_of, needed_scalar, title_at, nullable_at}
@@ -30,7 +29,7 @@ use Rattle.vl_building.specs.Names.{named_at, order_named, offset_named, field_t
 use Rattle.vl_building.specs.Guides.{axis_of, legend_of, header_of, scale_of}
 
 -- in which way a field is put into bins
-abbrev pub bin_settings_of : List Member → BinSettings
+unfoldable pub bin_settings_of : List Member → BinSettings
 bin_settings_of members = record {
   maxbins = count_at members (codes "maxbins");
   step = bin_step_at members (codes "step");
@@ -47,7 +46,7 @@ abbrev pub bin_at : List Member → List ℕ → Option Bin
 bin_at = found_at bin_in
 
 -- an order that is a text
-abbrev pub sort_named : List ℕ → Option Sort
+unfoldable pub sort_named : List ℕ → Option Sort
 sort_named name =
     if bytes_eq name (codes "ascending") then Some (sort.Cells order.Ascending)
     else (if bytes_eq name (codes "descending") then Some (sort.Cells order.Descending)
@@ -58,7 +57,7 @@ sort_named name =
     else None)))))
 
 -- an order by an aggregate of a field
-abbrev pub field_sort_of : List Member → FieldSort
+unfoldable pub field_sort_of : List Member → FieldSort
 field_sort_of members = record {
   field = field_at members (codes "field");
   op = named_at operation_named members (codes "op");
@@ -93,7 +92,7 @@ abbrev pub stacking_at : List Member → List ℕ → Option Stacking
 stacking_at = found_at stacking_in
 
 -- a cell that is written, on a scale
-abbrev pub datum_definition_of : List Member → DatumDefinition
+unfoldable pub datum_definition_of : List Member → DatumDefinition
 datum_definition_of members = record {
   datum = needed_scalar members (codes "datum");
   type_ = named_at field_type_named members (codes "type");
@@ -104,7 +103,7 @@ datum_definition_of members = record {
 }
 
 -- the cells of a field, or what is made of it
-abbrev pub field_definition_of : List Member → FieldDefinition
+unfoldable pub field_definition_of : List Member → FieldDefinition
 field_definition_of members = record {
   field = field_at members (codes "field");
   type_ = named_at field_type_named members (codes "type");
@@ -124,7 +123,7 @@ field_definition_of members = record {
 }
 
 -- a member of which the first decides what a definition is
-abbrev pub is_channel_kind : List ℕ → Bool
+unfoldable pub is_channel_kind : List ℕ → Bool
 is_channel_kind name =
     bytes_eq name (codes "value") || bytes_eq name (codes "datum") || bytes_eq name (codes "field")
     || bytes_eq name (codes "aggregate") || bytes_eq name (codes "bin") || bytes_eq name (codes "timeUnit")
@@ -134,14 +133,14 @@ abbrev pub channel_kind : List Member → List ℕ
 channel_kind members = option_map_or (λ (m : Member). m.name) (find (λ (m : Member). is_channel_kind m.name) members) []
 
 -- a definition by its first deciding member
-abbrev pub definition_by : List ℕ → List Member → Definition
+unfoldable pub definition_by : List ℕ → List Member → Definition
 definition_by kind members =
     if bytes_eq kind (codes "value") then definition.Value (needed_scalar members (codes "value"))
     else (if bytes_eq kind (codes "datum") then definition.Datum (datum_definition_of members)
     else definition.Field (field_definition_of members))
 
 -- a definition
-abbrev pub definition_of : List Member → Definition
+unfoldable pub definition_of : List Member → Definition
 definition_of members = definition_by (channel_kind members) members
 
 -- The rules at work.
@@ -152,13 +151,15 @@ nulls [] = []
 nulls (name ∷ names) = record { name = name; value = json.Null } ∷ nulls names
 
 the_first_decides : channel_kind (nulls (codes "title" ∷ codes "aggregate" ∷ codes "value" ∷ [])) ≡ codes "aggregate"
+unfolding is_channel_kind
 the_first_decides = refl
 
 a_value_before_a_field : definition_of (nulls (codes "value" ∷ codes "field" ∷ [])) ≡ definition.Value cell.Null
-unfolding out-Json denote.Hole.Carrier.out
+unfolding out-Json denote.Hole.Carrier.out definition_of definition_by is_channel_kind
 a_value_before_a_field = refl
 
 by_y_from_the_greatest : sort_named (codes "-y") ≡ Some (sort.Y order.Descending)
+unfolding sort_named
 by_y_from_the_greatest = refl
 
 null_is_an_order : sort_in level.Null ≡ Some sort.Null
@@ -171,4 +172,5 @@ bins_by_a_name_are_none : bin_in (level.Text (codes "binned")) ≡ None
 bins_by_a_name_are_none = refl
 
 a_stack_by_its_offset : stacking_in (level.Text (codes "center")) ≡ Some (stacking.Offset offset.Center)
+unfolding offset_named
 a_stack_by_its_offset = refl

@@ -1,9 +1,9 @@
 -- The names of fields: a `\` before `.`, `[` or `]` is dropped, and the name is taken whole.
-use Rattle.std.specs.Prelude.{◌≡◌, refl, ℕ, ◌==◌, Bool, false, ◌&&◌, ◌||◌, Option, List, [], ◌∷◌, map, codes, if◌then◌else◌}
+use Rattle.std.specs.Prelude.{◌≡◌, refl, ℕ, ◌==◌, Bool, false, ◌&&◌, ◌||◌, Option, List, [], ◌∷◌, codes, if◌then◌else◌}
 use Rattle.std.specs.Option.{option_map, unwrap_or}
 use Rattle.json_exact.specs.declared.json.Json.{Json}
 use Rattle.json_exact.specs.declared.json.Member.{Member}
-use Rattle.vl_building.specs.Parts.{text_at, text_of, list_at}
+use Rattle.tree_readers.specs.Parts.{text_at, text_of, list_at}
 
 -- the byte of `\`
 abbrev pub BACKSLASH : ℕ

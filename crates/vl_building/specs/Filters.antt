@@ -14,14 +14,15 @@ use Rattle.vl_spec.specs.declared.filters.ParamTest.{ParamTest}
 use Rattle.vl_spec.specs.declared.filters.FieldTest.{FieldTest}
 use Rattle.vl_spec.specs.declared.filters.Comparison.{Comparison}
 use Rattle.vl_spec.specs.declared.filters.Comparison.TheVariants as comparison
-use Rattle.vl_building.specs.Parts.{Opened, found_at, has_member, flag_at, needed_text, expression_in}
+use Rattle.tree_readers.specs.Parts.{Opened, found_at, has_member, flag_at, needed_text}
+use Rattle.vl_building.specs.Expressions.{expression_in}
 use Rattle.vl_building.specs.Inside.{Giving, given_by, member_gives}
 use Rattle.vl_building.specs.Fields.{needed_field}
 use Rattle.vl_building.specs.Values.{needed_scalar, needed_scalars}
 use Rattle.vl_building.specs.Names.{named_at, time_unit_named}
 
 -- a test by a parameter
-abbrev pub param_test_of : List Member → ParamTest
+unfoldable pub param_test_of : List Member → ParamTest
 param_test_of members = record {
   param = needed_text members (codes "param");
   empty = flag_at members (codes "empty");
@@ -46,8 +47,8 @@ range_in items = None
 abbrev pub needed_range : List Member → List ℕ → Comparison
 needed_range members name = unwrap_or (option_and_then range_in (found_at items_in members name)) (comparison.Range None None)
 
--- a comparison with a cell, or that of a list of cells
-abbrev pub later_comparison : List Member → Comparison
+-- a comparison, by the first of these members that is there, or else by `valid`
+unfoldable pub later_comparison : List Member → Comparison
 later_comparison members =
     if has_member members (codes "gte") then comparison.MoreSame (needed_scalar members (codes "gte"))
     else (if has_member members (codes "range") then needed_range members (codes "range")
@@ -55,7 +56,7 @@ later_comparison members =
     else comparison.Valid (unwrap_or (flag_at members (codes "valid")) true)))
 
 -- a comparison, by the first of its members that is there
-abbrev pub comparison_of : List Member → Comparison
+unfoldable pub comparison_of : List Member → Comparison
 comparison_of members =
     if has_member members (codes "equal") then comparison.Equal (needed_scalar members (codes "equal"))
     else (if has_member members (codes "lt") then comparison.Less (needed_scalar members (codes "lt"))
@@ -64,7 +65,7 @@ comparison_of members =
     else later_comparison members)))
 
 -- a test of a field
-abbrev pub field_test_of : List Member → FieldTest
+unfoldable pub field_test_of : List Member → FieldTest
 field_test_of members = record {
   field = needed_field members (codes "field");
   time_unit = named_at time_unit_named members (codes "timeUnit");
@@ -80,7 +81,7 @@ abbrev pub no_filter : Filter
 no_filter = filter.Expr expr.Null
 
 -- a filter that is a text
-abbrev pub text_filter : List ℕ → Filter
+unfoldable pub text_filter : List ℕ → Filter
 text_filter text = filter.Expr (unwrap_or (expression_in text) expr.Null)
 
 -- the filters that a member holds, none where it is no list
@@ -92,7 +93,7 @@ abbrev pub filter_given : Option AsFilter → Filter
 filter_given given = option_map_or (λ (f : AsFilter). f.0) given no_filter
 
 -- a filter that is an object, by the first of these members that is there
-abbrev pub object_filter : List Member → (List ℕ → Option AsFilter) → Filter
+unfoldable pub object_filter : List Member → (List ℕ → Option AsFilter) → Filter
 object_filter members inside =
     if has_member members (codes "and") then filter.And (filters_given (inside (codes "and")))
     else (if has_member members (codes "or") then filter.Or (filters_given (inside (codes "or")))
@@ -145,10 +146,11 @@ unfolding out-Json denote.Hole.Carrier.out
 a_range_without_bounds = refl
 
 a_comparison_with_null : comparison_of (nulls (codes "field" ∷ codes "gt" ∷ [])) ≡ comparison.More cell.Null
-unfolding out-Json denote.Hole.Carrier.out
+unfolding out-Json denote.Hole.Carrier.out comparison_of
 a_comparison_with_null = refl
 
 the_order_of_members_is_not_asked : object_filter (nulls (codes "field" ∷ codes "or" ∷ [])) (λ name. None) ≡ filter.Or []
+unfolding object_filter
 the_order_of_members_is_not_asked = refl
 
 a_value_that_is_no_filter : filter_in level.Null (λ name. None) ≡ filter.Expr expr.Null

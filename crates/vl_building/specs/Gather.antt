@@ -9,7 +9,7 @@ use Rattle.vl_schema.specs.declared.codes.TheConstants.{DATA, PARAMETERS, TOP}
 use Rattle.vl_building.specs.declared.data.DataAt.{DataAt}
 use Rattle.vl_building.specs.declared.data.ParamAt.{ParamAt}
 use Rattle.vl_building.specs.declared.gather.Around.{Around}
-use Rattle.vl_building.specs.Parts.{members_of}
+use Rattle.tree_readers.specs.Parts.{members_of}
 use Rattle.vl_building.specs.Marks.{param_of}
 use Rattle.vl_building.specs.Sources.{data_at}
 use Rattle.vl_building.specs.Views.{Place, child}
@@ -56,10 +56,14 @@ abbrev pub params_seen : Trail → Json → List ParamAt
 params_seen [] tree = []
 params_seen (here ∷ round) tree = params_by here.shape (place_of (here ∷ round)) tree
 
+-- what visits of all values find, from the top on in the order of the text
+abbrev pub gathered : {A : Type 0} → (Trail → Json → List A) → Json → List A
+gathered seen tree = seen_in vl_schema noted seen tree 0 TOP []
+
 -- the data of a specification, in the order of the text
 abbrev pub data_of : Json → List DataAt
-data_of tree = seen_in vl_schema noted data_seen tree 0 TOP []
+data_of = gathered data_seen
 
 -- its parameters, in the order of the text
 abbrev pub params_of : Json → List ParamAt
-params_of tree = seen_in vl_schema noted params_seen tree 0 TOP []
+params_of = gathered params_seen

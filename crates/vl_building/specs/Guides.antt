@@ -16,13 +16,13 @@ use Rattle.vl_spec.specs.declared.scales.Domain.{Domain}
 use Rattle.vl_spec.specs.declared.scales.Domain.TheVariants as domain
 use Rattle.vl_spec.specs.declared.scales.ParamDomain.{ParamDomain}
 use Rattle.vl_spec.specs.Bounds.{most_look}
-use Rattle.vl_building.specs.Parts.{Opened, found_at, flag_at, text_at, needed_text}
+use Rattle.tree_readers.specs.Parts.{Opened, found_at, flag_at, text_at, needed_text}
 use Rattle.vl_building.specs.Numbers.{between, share_at, tick_count_at, angle_at}
 use Rattle.vl_building.specs.Values.{scalar_of, scalars_at, title_at}
 use Rattle.vl_building.specs.Names.{named_at, side_named, scheme_named, scale_kind_named, channel_named}
 
 -- an axis
-abbrev pub axis_of : List Member → Axis
+unfoldable pub axis_of : List Member → Axis
 axis_of members = record {
   title = title_at members (codes "title");
   labels = flag_at members (codes "labels");
@@ -37,18 +37,18 @@ axis_of members = record {
 }
 
 -- a legend
-abbrev pub legend_of : List Member → Legend
+unfoldable pub legend_of : List Member → Legend
 legend_of members = record {
   title = title_at members (codes "title");
   format = text_at members (codes "format");
 }
 
 -- the headers of panels
-abbrev pub header_of : List Member → Header
+unfoldable pub header_of : List Member → Header
 header_of members = record { labels = flag_at members (codes "labels") }
 
 -- the domain that a selection gives
-abbrev pub param_domain_of : List Member → ParamDomain
+unfoldable pub param_domain_of : List Member → ParamDomain
 param_domain_of members = record {
   param = needed_text members (codes "param");
   encoding = named_at channel_named members (codes "encoding");
@@ -85,7 +85,7 @@ abbrev pub range_at : List Member → List ℕ → Option (List Cell)
 range_at members name = option_and_then range_in (found_at items_in members name)
 
 -- what is said of a scale
-abbrev pub scale_of : List Member → Scale
+unfoldable pub scale_of : List Member → Scale
 scale_of members = record {
   type_ = named_at scale_kind_named members (codes "type");
   domain = domain_at members (codes "domain");

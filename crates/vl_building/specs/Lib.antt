@@ -1,4 +1,4 @@
-pub mod Parts
+pub mod Expressions
 pub mod Inside
 pub mod Numbers
 pub mod Names

@@ -25,7 +25,8 @@ use Rattle.vl_spec.specs.declared.params.Clear.{Clear}
 use Rattle.vl_spec.specs.declared.params.Clear.TheVariants as clear
 use Rattle.vl_spec.specs.declared.params.Toggle.{Toggle}
 use Rattle.vl_spec.specs.declared.params.Toggle.TheVariants as toggle
-use Rattle.vl_building.specs.Parts.{Opened, found_at, has_member, flag_at, text_at, needed_text, texts_at, needed_expression, cell_at}
+use Rattle.tree_readers.specs.Parts.{Opened, found_at, has_member, flag_at, text_at, needed_text, texts_at, cell_at}
+use Rattle.vl_building.specs.Expressions.{needed_expression}
 use Rattle.vl_building.specs.Fields.{fields_at}
 use Rattle.vl_building.specs.Numbers.{share_at, count_at, look_at, shift_at}
 use Rattle.vl_building.specs.Names.{named_at, align_named, baseline_named, interpolate_named, mark_type_named, needed_mark_type, select_type_named, needed_select_type, select_event_named, channels_at}
@@ -48,7 +49,7 @@ abbrev pub sign_size_at : MarkType → List Member → List ℕ → Option ℤ
 sign_size_at type_ members name = if is_sign type_ then look_at members name else None
 
 -- the type and the look of a mark
-abbrev pub mark_definition_of : List Member → MarkDefinition
+unfoldable pub mark_definition_of : List Member → MarkDefinition
 mark_definition_of members = record {
   type_ = needed_mark_type members (codes "type");
   color = text_at members (codes "color");
@@ -100,7 +101,7 @@ toggle_in (level.Text text) = toggle_named text
 toggle_in other = None
 
 -- the type of a selection, what it keeps and when it changes
-abbrev pub select_definition_of : List Member → SelectDefinition
+unfoldable pub select_definition_of : List Member → SelectDefinition
 select_definition_of members = record {
   type_ = needed_select_type members (codes "type");
   fields = fields_at members (codes "fields");
@@ -125,7 +126,7 @@ abbrev pub needed_select : List Member → List ℕ → Select
 needed_select members name = unwrap_or (found_at select_in members name) (select.Type select_type.Point)
 
 -- a selection
-abbrev pub selection_of : List Member → Selection
+unfoldable pub selection_of : List Member → Selection
 selection_of members = record {
   views = texts_at members (codes "views");
   select = needed_select members (codes "select");
@@ -136,14 +137,14 @@ abbrev pub needed_cell : List Member → List ℕ → Cell
 needed_cell members name = unwrap_or (cell_at members name) cell.Null
 
 -- what a parameter is, by the first of these members that is there
-abbrev pub param_kind_of : List Member → ParamKind
+unfoldable pub param_kind_of : List Member → ParamKind
 param_kind_of members =
     if has_member members (codes "select") then param_kind.Select (selection_of members)
     else (if has_member members (codes "expr") then param_kind.Expr (needed_expression members (codes "expr"))
     else param_kind.Value (needed_cell members (codes "value")))
 
 -- a parameter
-abbrev pub param_of : List Member → ParamOf
+unfoldable pub param_of : List Member → ParamOf
 param_of members = record { name = needed_text members (codes "name"); kind = param_kind_of members }
 
 -- The rules at work.
@@ -160,10 +161,12 @@ bars_have_none : sign_size_at mark_type.Bar a_size (codes "size") ≡ None
 bars_have_none = refl
 
 an_arc_is_no_mark : mark_in (level.Text (codes "arc")) ≡ None
+unfolding mark_type_named
 an_arc_is_no_mark = refl
 
-false_clears_nothing : clear_in (level.Flag false) ≡ None
-false_clears_nothing = refl
+false_is_no_event : clear_in (level.Flag false) ≡ None
+false_is_no_event = refl
 
 a_parameter_of_a_name_alone : param_kind_of [] ≡ param_kind.Value cell.Null
+unfolding param_kind_of
 a_parameter_of_a_name_alone = refl

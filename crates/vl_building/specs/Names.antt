@@ -37,7 +37,7 @@ use Rattle.vl_spec.specs.declared.guides.Side.{Side}
 use Rattle.vl_spec.specs.declared.guides.Side.TheVariants as side
 use Rattle.vl_spec.specs.declared.sizes.Autosize.{Autosize}
 use Rattle.vl_spec.specs.declared.sizes.Autosize.TheVariants as autosize
-use Rattle.vl_building.specs.Parts.{found_at, text_at}
+use Rattle.tree_readers.specs.Parts.{found_at, text_at}
 
 -- what the name under a name stands for
 abbrev pub named_at : {A : Type 0} → (List ℕ → Option A) → List Member → List ℕ → Option A
@@ -48,14 +48,14 @@ abbrev pub named_in : {A : Type 0} → (List ℕ → Option A) → Json → Opti
 named_in named tree = option_and_then named (text_in (out-Json tree))
 
 -- directions
-abbrev pub order_named : List ℕ → Option Order
+unfoldable pub order_named : List ℕ → Option Order
 order_named name =
     if bytes_eq name (codes "ascending") then Some order.Ascending
     else (if bytes_eq name (codes "descending") then Some order.Descending
     else None)
 
 -- where stacks begin
-abbrev pub offset_named : List ℕ → Option Offset
+unfoldable pub offset_named : List ℕ → Option Offset
 offset_named name =
     if bytes_eq name (codes "zero") then Some offset.Zero
     else (if bytes_eq name (codes "normalize") then Some offset.Normalize
@@ -63,14 +63,14 @@ offset_named name =
     else None))
 
 -- types of data files
-abbrev pub format_kind_named : List ℕ → Option FormatKind
+unfoldable pub format_kind_named : List ℕ → Option FormatKind
 format_kind_named name =
     if bytes_eq name (codes "json") then Some format_kind.Json
     else (if bytes_eq name (codes "csv") then Some format_kind.Csv
     else None)
 
 -- readings of texts
-abbrev pub parse_kind_named : List ℕ → Option ParseKind
+unfoldable pub parse_kind_named : List ℕ → Option ParseKind
 parse_kind_named name =
     if bytes_eq name (codes "number") then Some parse_kind.Number
     else (if bytes_eq name (codes "boolean") then Some parse_kind.Boolean
@@ -79,7 +79,7 @@ parse_kind_named name =
     else None)))
 
 -- types of marks
-abbrev pub mark_type_named : List ℕ → Option MarkType
+unfoldable pub mark_type_named : List ℕ → Option MarkType
 mark_type_named name =
     if bytes_eq name (codes "bar") then Some mark_type.Bar
     else (if bytes_eq name (codes "rect") then Some mark_type.Rect
@@ -94,7 +94,7 @@ mark_type_named name =
     else None)))))))))
 
 -- where texts are anchored
-abbrev pub align_named : List ℕ → Option Align
+unfoldable pub align_named : List ℕ → Option Align
 align_named name =
     if bytes_eq name (codes "left") then Some align.Left
     else (if bytes_eq name (codes "center") then Some align.Center
@@ -102,7 +102,7 @@ align_named name =
     else None))
 
 -- where the baselines of texts are
-abbrev pub baseline_named : List ℕ → Option Baseline
+unfoldable pub baseline_named : List ℕ → Option Baseline
 baseline_named name =
     if bytes_eq name (codes "top") then Some baseline.Top
     else (if bytes_eq name (codes "middle") then Some baseline.Middle
@@ -111,13 +111,13 @@ baseline_named name =
     else None)))
 
 -- how the points of lines are joined
-abbrev pub interpolate_named : List ℕ → Option Interpolate
+unfoldable pub interpolate_named : List ℕ → Option Interpolate
 interpolate_named name =
     if bytes_eq name (codes "linear") then Some interpolate.Linear
     else None
 
 -- types of selections
-abbrev pub select_type_named : List ℕ → Option SelectType
+unfoldable pub select_type_named : List ℕ → Option SelectType
 select_type_named name =
     if bytes_eq name (codes "point") then Some select_type.Point
     else (if bytes_eq name (codes "interval") then Some select_type.Interval
@@ -133,7 +133,7 @@ select_event_named select_type.Interval name =
     else None
 
 -- kinds of cells
-abbrev pub field_type_named : List ℕ → Option FieldType
+unfoldable pub field_type_named : List ℕ → Option FieldType
 field_type_named name =
     if bytes_eq name (codes "quantitative") then Some field_type.Quantitative
     else (if bytes_eq name (codes "temporal") then Some field_type.Temporal
@@ -142,21 +142,21 @@ field_type_named name =
     else None)))
 
 -- colour schemes
-abbrev pub scheme_named : List ℕ → Option Scheme
+unfoldable pub scheme_named : List ℕ → Option Scheme
 scheme_named name =
     if bytes_eq name (codes "tableau10") then Some scheme.Tableau10
     else (if bytes_eq name (codes "blues") then Some scheme.Blues
     else None)
 
 -- whether views share a scale
-abbrev pub sharing_named : List ℕ → Option Sharing
+unfoldable pub sharing_named : List ℕ → Option Sharing
 sharing_named name =
     if bytes_eq name (codes "shared") then Some sharing.Shared
     else (if bytes_eq name (codes "independent") then Some sharing.Independent
     else None)
 
 -- sides of a plot
-abbrev pub side_named : List ℕ → Option Side
+unfoldable pub side_named : List ℕ → Option Side
 side_named name =
     if bytes_eq name (codes "left") then Some side.Left
     else (if bytes_eq name (codes "right") then Some side.Right
@@ -165,10 +165,18 @@ side_named name =
     else None)))
 
 -- how a picture's size is found
-abbrev pub autosize_named : List ℕ → Option Autosize
+unfoldable pub autosize_named : List ℕ → Option Autosize
 autosize_named name =
     if bytes_eq name (codes "pad") then Some autosize.Pad
     else None
+
+-- how many operations are those of aggregates; those that windows have besides come after them
+abbrev pub aggregates : ℕ
+aggregates = 12
+
+-- how many kinds of scales are types; the kind that is none comes after them
+abbrev pub scale_types : ℕ
+scale_types = 5
 
 -- a code below a limit
 abbrev pub below : ℕ → ℕ → Option ℕ
@@ -178,17 +186,17 @@ below limit code = if nat_lt code limit then Some code else None
 abbrev pub window_operation_named : List ℕ → Option ℕ
 window_operation_named = index_of operations
 
--- the code of an operation of aggregates, which are the first twelve
+-- the code of an operation of aggregates
 abbrev pub operation_named : List ℕ → Option ℕ
-operation_named name = option_and_then (below 12) (index_of operations name)
+operation_named name = option_and_then (below aggregates) (index_of operations name)
 
 -- the code of a unit of time
 abbrev pub time_unit_named : List ℕ → Option ℕ
 time_unit_named = index_of time_units
 
--- the code of a type of scales, which are the first five kinds
+-- the code of a type of scales
 abbrev pub scale_kind_named : List ℕ → Option ℕ
-scale_kind_named name = option_and_then (below 5) (index_of scale_kinds name)
+scale_kind_named name = option_and_then (below scale_types) (index_of scale_kinds name)
 
 -- the code of a channel
 abbrev pub channel_named : List ℕ → Option ℕ

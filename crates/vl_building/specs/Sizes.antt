@@ -13,7 +13,7 @@ use Rattle.vl_spec.specs.declared.sizes.ConfigView.{ConfigView}
 use Rattle.vl_spec.specs.declared.sizes.Resolve.{Resolve}
 use Rattle.vl_spec.specs.declared.sizes.SharingOf.{SharingOf}
 use Rattle.vl_spec.specs.Bounds.{over_zero, most_size}
-use Rattle.vl_building.specs.Parts.{Opened, found_at, object_at}
+use Rattle.tree_readers.specs.Parts.{Opened, found_at, object_at}
 use Rattle.vl_building.specs.Numbers.{between, size_step_at, plain_size_at}
 use Rattle.vl_building.specs.Names.{named_in, sharing_named, channel_named}
 
@@ -36,7 +36,7 @@ abbrev pub size_at : List Member → List ℕ → Option Size
 size_at = found_at size_in
 
 -- the sizes of views that say none
-abbrev pub config_view_of : List Member → ConfigView
+unfoldable pub config_view_of : List Member → ConfigView
 config_view_of members = record {
   continuous_width = plain_size_at members (codes "continuousWidth");
   continuous_height = plain_size_at members (codes "continuousHeight");
@@ -54,11 +54,11 @@ abbrev pub sharing_coded : Member → ℕ → Option SharingOf
 sharing_coded m code = option_map (λ sharing. record { channel = code; sharing = sharing }) (named_in sharing_named m.value)
 
 -- what a member says of the channel of its name
-abbrev pub sharing_in : Member → Option SharingOf
+unfoldable pub sharing_in : Member → Option SharingOf
 sharing_in m = option_and_then (sharing_coded m) (channel_named m.name)
 
 -- which scales views share
-abbrev pub resolve_of : List Member → Resolve
+unfoldable pub resolve_of : List Member → Resolve
 resolve_of members = record { scale = option_map (filter_map sharing_in) (found_at members_in members (codes "scale")) }
 
 -- The rules at work.
@@ -74,4 +74,5 @@ unfolding out-Json denote.Hole.Carrier.out
 the_greatest_step = refl
 
 a_name_that_is_no_channel_shares_nothing : sharing_in (record { name = codes "radius"; value = json.Text (codes "shared") }) ≡ None
+unfolding sharing_in
 a_name_that_is_no_channel_shares_nothing = refl

@@ -11,7 +11,7 @@ use Rattle.vl_spec.specs.declared.sources.Format.{Format}
 use Rattle.vl_spec.specs.declared.sources.ParseKind.{ParseKind}
 use Rattle.vl_building.specs.declared.data.DataAt.{DataAt}
 use Rattle.vl_building.specs.declared.naming.NamedData.{NamedData}
-use Rattle.vl_building.specs.Parts.{found_at, object_at, text_at}
+use Rattle.tree_readers.specs.Parts.{found_at, object_at, text_at}
 use Rattle.vl_building.specs.Names.{named_at, format_kind_named, parse_kind_of}
 
 -- how the texts of the field of a member's name are read
@@ -23,14 +23,14 @@ abbrev pub parse_at : List Member → List ℕ → Option (List (List ℕ × Par
 parse_at members name = option_map (map parse_of) (found_at members_in members name)
 
 -- the format of data
-abbrev pub format_of : List Member → Format
+unfoldable pub format_of : List Member → Format
 format_of members = record {
   type_ = named_at format_kind_named members (codes "type");
   parse = parse_at members (codes "parse");
 }
 
 -- data at a place
-abbrev pub data_at : List ℕ → List Member → DataAt
+unfoldable pub data_at : List ℕ → List Member → DataAt
 data_at place members = record {
   place = place;
   name = text_at members (codes "name");

@@ -11,7 +11,7 @@ use Rattle.vl_spec.specs.declared.spec.VlSpec.{VlSpec}
 use Rattle.vl_spec.specs.declared.views.View.{View}
 use Rattle.vl_building.specs.declared.data.ParamAt.{ParamAt}
 use Rattle.vl_building.specs.declared.naming.NamedData.{NamedData}
-use Rattle.vl_building.specs.Parts.{members_of, needed_members, text_at}
+use Rattle.tree_readers.specs.Parts.{members_of, needed_members, text_at}
 use Rattle.vl_building.specs.Numbers.{space_at}
 use Rattle.vl_building.specs.Names.{named_at, autosize_named}
 use Rattle.vl_building.specs.Sizes.{config_at}
@@ -55,7 +55,7 @@ abbrev pub top_view : Naming → Json → View
 top_view naming tree = view_of naming tree []
 
 -- the specification of these data and parameters, where this goes by places
-abbrev pub spec_with : Json → List Member → List NamedData → Naming → List ParamAt → VlSpec
+unfoldable pub spec_with : Json → List Member → List NamedData → Naming → List ParamAt → VlSpec
 spec_with tree members all naming params = record {
   schema = schema_of members;
   padding = space_at members (codes "padding");

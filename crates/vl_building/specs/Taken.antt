@@ -14,7 +14,7 @@ use Rattle.vl_schema.specs.declared.codes.TheConstants.{TEXT_OR_TEXTS, BIN, SORT
 use Rattle.vl_schema.specs.Shapes.{MAX_LENGTH}
 use Rattle.vl_spec.specs.Bounds.{least_number, most_number, over_zero, most_space, most_share, least_count, most_count, most_ticks, most_look, least_shift, most_shift, most_size, most_step}
 use Rattle.vl_spec.specs.declared.params.SelectType.TheVariants as selection
-use Rattle.vl_building.specs.Parts.{Opened, flag_in, cell_in, two_texts}
+use Rattle.tree_readers.specs.Parts.{Opened, flag_in, cell_in, two_texts}
 use Rattle.vl_building.specs.Numbers.{between, whole_between, angle}
 use Rattle.vl_building.specs.Names.{order_named, offset_named, format_kind_named, parse_kind_named, mark_type_named, align_named, baseline_named, interpolate_named, select_type_named, select_event_named, field_type_named, scheme_named, sharing_named, side_named, autosize_named}
 use Rattle.vl_building.specs.Names.{operation_named, window_operation_named, time_unit_named, scale_kind_named, channel_named}

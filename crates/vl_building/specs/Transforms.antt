@@ -1,5 +1,5 @@
 -- Transforms of rows. A lookup has the name of its source from outside.
-use Rattle.std.specs.Prelude.{◌≡◌, refl, ℕ, ℤ, pos, negsuc, Bool, true, false, ◌||◌, Option, Some, None, List, [], ◌∷◌, find, map, codes, if◌then◌else◌}
+use Rattle.std.specs.Prelude.{◌≡◌, refl, ℕ, ℤ, pos, negsuc, Bool, true, false, ◌||◌, Option, Some, None, List, [], ◌∷◌, find, codes, if◌then◌else◌}
 use Rattle.std.specs.Option.{option_map, option_map_or, option_and_then, unwrap_or}
 use Rattle.std.specs.Str.{bytes_eq}
 use Rattle.json_exact.specs.declared.json.Json.{Json, out-Json}
@@ -24,7 +24,8 @@ use Rattle.vl_spec.specs.declared.transforms.FoldTransform.{FoldTransform}
 use Rattle.vl_spec.specs.declared.transforms.Transform.{Transform}
 use Rattle.vl_spec.specs.declared.transforms.Transform.TheVariants as transform
 use Rattle.spec_schema.specs.Values.{is_whole}
-use Rattle.vl_building.specs.Parts.{found_at, object_at, objects_at, flag_at, text_at, needed_text, two_texts_at, needed_expression, needed_members}
+use Rattle.tree_readers.specs.Parts.{found_at, object_at, objects_at, flag_at, needed_text, two_texts_at, needed_members}
+use Rattle.vl_building.specs.Expressions.{needed_expression}
 use Rattle.vl_building.specs.Fields.{field_at, needed_field, fields_at, needed_fields}
 use Rattle.vl_building.specs.Numbers.{whole_at}
 use Rattle.vl_building.specs.Values.{scalar_at, one_or_several, needed_names}
@@ -33,7 +34,7 @@ use Rattle.vl_building.specs.Definitions.{bin_settings_of}
 use Rattle.vl_building.specs.Filters.{bound_in, needed_filter}
 
 -- `calculate`
-abbrev pub calculate_of : List Member → CalculateTransform
+unfoldable pub calculate_of : List Member → CalculateTransform
 calculate_of members = record {
   as_ = needed_text members (codes "as");
   calculate = needed_expression members (codes "calculate");
@@ -44,7 +45,7 @@ abbrev pub needed_bin : List Member → List ℕ → Bin
 needed_bin members name = option_map_or bin.Settings (object_at bin_settings_of members name) (bin.Flag true)
 
 -- `bin`
-abbrev pub bin_of : List Member → BinTransform
+unfoldable pub bin_of : List Member → BinTransform
 bin_of members = record {
   bin = needed_bin members (codes "bin");
   field = needed_field members (codes "field");
@@ -52,7 +53,7 @@ bin_of members = record {
 }
 
 -- `timeUnit`
-abbrev pub time_unit_of : List Member → TimeUnitTransform
+unfoldable pub time_unit_of : List Member → TimeUnitTransform
 time_unit_of members = record {
   time_unit = needed_time_unit members (codes "timeUnit");
   field = needed_field members (codes "field");
@@ -60,7 +61,7 @@ time_unit_of members = record {
 }
 
 -- an operation over the rows of a group
-abbrev pub operation_of : List Member → Operation
+unfoldable pub operation_of : List Member → Operation
 operation_of members = record {
   op = needed_operation members (codes "op");
   field = field_at members (codes "field");
@@ -72,21 +73,21 @@ abbrev pub needed_operations : List Member → List ℕ → List Operation
 needed_operations members name = unwrap_or (objects_at operation_of members name) []
 
 -- `aggregate` and `joinaggregate`, by the name of the member that decides
-abbrev pub aggregate_of : List ℕ → List Member → AggregateTransform
+unfoldable pub aggregate_of : List ℕ → List Member → AggregateTransform
 aggregate_of name members = record {
   aggregate = needed_operations members name;
   groupby = fields_at members (codes "groupby");
 }
 
 -- a field of an order
-abbrev pub sort_field_of : List Member → SortField
+unfoldable pub sort_field_of : List Member → SortField
 sort_field_of members = record {
   field = needed_field members (codes "field");
   order = named_at order_named members (codes "order");
 }
 
 -- `stack`
-abbrev pub stack_of : List Member → StackTransform
+unfoldable pub stack_of : List Member → StackTransform
 stack_of members = record {
   stack = needed_field members (codes "stack");
   groupby = fields_at members (codes "groupby");
@@ -96,7 +97,7 @@ stack_of members = record {
 }
 
 -- an operation over the rows about a row
-abbrev pub window_operation_of : List Member → WindowOperation
+unfoldable pub window_operation_of : List Member → WindowOperation
 window_operation_of members = record {
   op = needed_window_operation members (codes "op");
   field = field_at members (codes "field");
@@ -135,7 +136,7 @@ abbrev pub frame_at : List Member → List ℕ → Option Frame
 frame_at members name = option_and_then frame_in (found_at items_in members name)
 
 -- `window`
-abbrev pub window_of : List Member → WindowTransform
+unfoldable pub window_of : List Member → WindowTransform
 window_of members = record {
   window = needed_window_operations members (codes "window");
   groupby = fields_at members (codes "groupby");
@@ -145,7 +146,7 @@ window_of members = record {
 }
 
 -- the rows of which a lookup takes cells, those of this source
-abbrev pub lookup_from : Option (List ℕ) → List Member → LookupFrom
+unfoldable pub lookup_from : Option (List ℕ) → List Member → LookupFrom
 lookup_from source members = record {
   data_ = source;
   key = needed_field members (codes "key");
@@ -153,7 +154,7 @@ lookup_from source members = record {
 }
 
 -- `lookup`
-abbrev pub lookup_of : Option (List ℕ) → List Member → LookupTransform
+unfoldable pub lookup_of : Option (List ℕ) → List Member → LookupTransform
 lookup_of source members = record {
   lookup = needed_field members (codes "lookup");
   from = lookup_from source (needed_members members (codes "from"));
@@ -162,14 +163,14 @@ lookup_of source members = record {
 }
 
 -- `fold`
-abbrev pub fold_of : List Member → FoldTransform
+unfoldable pub fold_of : List Member → FoldTransform
 fold_of members = record {
   fold = needed_fields members (codes "fold");
   as_ = two_texts_at members (codes "as");
 }
 
 -- a member of which the first decides what a transform is
-abbrev pub is_transform_kind : List ℕ → Bool
+unfoldable pub is_transform_kind : List ℕ → Bool
 is_transform_kind name =
     bytes_eq name (codes "filter") || bytes_eq name (codes "calculate") || bytes_eq name (codes "bin")
     || bytes_eq name (codes "timeUnit") || bytes_eq name (codes "aggregate") || bytes_eq name (codes "joinaggregate")
@@ -181,7 +182,7 @@ abbrev pub transform_kind : List Member → List ℕ
 transform_kind members = option_map_or (λ (m : Member). m.name) (find (λ (m : Member). is_transform_kind m.name) members) []
 
 -- a transform by its first deciding member; one without is a filter that no row passes
-abbrev pub transform_by : List ℕ → Option (List ℕ) → List Member → Transform
+unfoldable pub transform_by : List ℕ → Option (List ℕ) → List Member → Transform
 transform_by kind source members =
     if bytes_eq kind (codes "calculate") then transform.Calculate (calculate_of members)
     else (if bytes_eq kind (codes "bin") then transform.Bin (bin_of members)
@@ -195,7 +196,7 @@ transform_by kind source members =
     else transform.Filter (needed_filter members (codes "filter"))))))))))
 
 -- a transform, a lookup being one in this source
-abbrev pub transform_of : Option (List ℕ) → List Member → Transform
+unfoldable pub transform_of : Option (List ℕ) → List Member → Transform
 transform_of source members = transform_by (transform_kind members) source members
 
 -- The rules at work.
@@ -206,6 +207,7 @@ flags [] = []
 flags (name ∷ names) = record { name = name; value = json.Flag false } ∷ flags names
 
 the_first_decides : transform_kind (flags (codes "as" ∷ codes "window" ∷ codes "fold" ∷ [])) ≡ codes "window"
+unfolding is_transform_kind
 the_first_decides = refl
 
 there_are_bins_in_a_transform : needed_bin (flags (codes "bin" ∷ [])) (codes "bin") ≡ bin.Flag true

@@ -1,18 +1,17 @@
 -- Values of several forms.
 use Rattle.std.specs.Prelude.{◌≡◌, refl, ℕ, Option, Some, None, List, [], ◌∷◌, map, codes}
-use Rattle.std.specs.Option.{option_map, option_and_then, unwrap_or}
+use Rattle.std.specs.Option.{unwrap_or}
 use Rattle.json_exact.specs.declared.json.Json.{Json, out-Json}
 use Rattle.json_exact.specs.declared.json.Json.TheVariants as json
 use Rattle.json_exact.specs.declared.json.Json.TheOpen as level
 use Rattle.json_exact.specs.declared.json.Member.{Member}
-use Rattle.json_exact.specs.Inside.{items_in, members_in}
 use Rattle.cell_value.specs.declared.cell.Cell.{Cell}
 use Rattle.cell_value.specs.declared.cell.Cell.TheVariants as cell
 use Rattle.vl_spec.specs.declared.orders.Texts.{Texts}
 use Rattle.vl_spec.specs.declared.orders.Texts.TheVariants as texts
 use Rattle.vl_spec.specs.declared.transforms.Names.{Names}
 use Rattle.vl_spec.specs.declared.transforms.Names.TheVariants as names
-use Rattle.vl_building.specs.Parts.{Opened, found_at, list_at, text_of}
+use Rattle.tree_readers.specs.Parts.{Opened, found_at, list_at, text_of}
 
 -- a scalar: null, a truth value, a number or a text
 abbrev pub scalar_in : Opened → Option Cell

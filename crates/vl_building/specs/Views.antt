@@ -20,7 +20,7 @@ use Rattle.vl_spec.specs.declared.views.Joining.TheVariants as joining
 use Rattle.vl_spec.specs.declared.views.Facet.{Facet}
 use Rattle.vl_spec.specs.declared.views.Facet.TheVariants as facet
 use Rattle.vl_spec.specs.declared.views.CrossFacet.{CrossFacet}
-use Rattle.vl_building.specs.Parts.{found_at, has_member, object_at, text_at, members_of, needed_members}
+use Rattle.tree_readers.specs.Parts.{found_at, has_member, object_at, text_at, members_of, needed_members}
 use Rattle.vl_building.specs.Inside.{Giving, given_by}
 use Rattle.vl_building.specs.Numbers.{space_at, count_at}
 use Rattle.vl_building.specs.Marks.{mark_at}
@@ -81,7 +81,7 @@ abbrev pub numbers_in : Naming → List Json → Place → List ℕ
 numbers_in naming items place = filter_map (param_number naming place) (enumerate_from 0 items)
 
 -- a member of which the first decides what a view is
-abbrev pub is_view_kind : List ℕ → Bool
+unfoldable pub is_view_kind : List ℕ → Bool
 is_view_kind name =
     bytes_eq name (codes "mark") || bytes_eq name (codes "layer") || bytes_eq name (codes "facet")
     || bytes_eq name (codes "hconcat") || bytes_eq name (codes "vconcat") || bytes_eq name (codes "concat")
@@ -95,35 +95,35 @@ abbrev pub view_word : List Member → List ℕ
 view_word members = option_map_or (λ (m : Member). m.name) (find (λ (m : Member). is_view_kind m.name) members) (other_word members)
 
 -- by rows and columns
-abbrev pub cross_of : List Member → CrossFacet
+unfoldable pub cross_of : List Member → CrossFacet
 cross_of members = record {
   row = object_at channel_of members (codes "row");
   column = object_at channel_of members (codes "column");
 }
 
 -- how rows are parted: by rows and columns only without `field`
-abbrev pub facet_of : List Member → Facet
+unfoldable pub facet_of : List Member → Facet
 facet_of members =
     if has_member members (codes "field") then facet.One (channel_of members)
     else (if has_member members (codes "row") || has_member members (codes "column") then facet.Cross (cross_of members)
     else facet.One (channel_of members))
 
 -- one mark
-abbrev pub unit_of : List Member → Unit
+unfoldable pub unit_of : List Member → Unit
 unit_of members = record {
   mark = mark_at members (codes "mark");
   encoding = object_at encoding_of members (codes "encoding");
 }
 
 -- views on each other
-abbrev pub layer_with : List Member → List View → Layer
+unfoldable pub layer_with : List Member → List View → Layer
 layer_with members views = roll-Layer (record {
   layer = views;
   encoding = object_at encoding_of members (codes "encoding");
 })
 
 -- a view for each part of the rows
-abbrev pub faceted_with : List Member → View → Faceted
+unfoldable pub faceted_with : List Member → View → Faceted
 faceted_with members view = roll-Faceted (record {
   facet = facet_of (needed_members members (codes "facet"));
   columns = count_at members (codes "columns");
@@ -132,7 +132,7 @@ faceted_with members view = roll-Faceted (record {
 })
 
 -- views beside each other
-abbrev pub joined_with : Joining → List Member → List View → Joined
+unfoldable pub joined_with : Joining → List Member → List View → Joined
 joined_with how members views = roll-Joined (record {
   joining = how;
   columns = count_at members (codes "columns");
@@ -145,7 +145,7 @@ abbrev pub AsView : Type 0
 AsView = Place → View × List View
 
 -- a view of this kind
-abbrev pub view_with : Naming → List Member → Place → ViewKind → View
+unfoldable pub view_with : Naming → List Member → Place → ViewKind → View
 view_with naming members place kind = roll-View (record {
   name = text_at members (codes "name");
   title = text_at members (codes "title");
@@ -159,7 +159,7 @@ view_with naming members place kind = roll-View (record {
 })
 
 -- a view without members
-abbrev pub no_view : View
+unfoldable pub no_view : View
 no_view = roll-View (record {
   name = None;
   title = None;
@@ -186,7 +186,7 @@ abbrev pub view_given : Option (View × List View) → View
 view_given given = option_map_or (λ (g : View × List View). g.0) given no_view
 
 -- what a view is, by the member that decides
-abbrev pub kind_by : List ℕ → List Member → (List ℕ → Option (View × List View)) → ViewKind
+unfoldable pub kind_by : List ℕ → List Member → (List ℕ → Option (View × List View)) → ViewKind
 kind_by word members inside =
     if bytes_eq word (codes "layer") then view_kind.Layer (layer_with members (views_given (inside (codes "layer"))))
     else (if bytes_eq word (codes "facet") then view_kind.Facet (faceted_with members (view_given (inside (codes "spec"))))
@@ -231,11 +231,11 @@ by_place : Naming
 by_place = record { source_at = λ place. Some place; param_at = λ place. None }
 
 the_first_decides : (value : Json) → view_word (member value (codes "layer") ∷ member value (codes "mark") ∷ []) ≡ codes "layer"
-unfolding member
+unfolding member is_view_kind
 the_first_decides value = refl
 
 a_spec_alone_makes_it_faceted : (value : Json) → view_word (member value (codes "spec") ∷ []) ≡ codes "facet"
-unfolding member
+unfolding member is_view_kind
 a_spec_alone_makes_it_faceted value = refl
 
 any_other_view_is_a_unit : view_word [] ≡ codes "mark"

@@ -1,84 +1,67 @@
 // Values of several forms.
 ghost use Rattle.std.specs.Prelude.{◌≡◌, IfOk};
 ghost use Rattle.json_exact.specs.declared.json.Json.{out-Json};
-ghost use Rattle.vl_building.specs.Parts.{found_at};
-ghost use Rattle.vl_building.specs.Values.{scalar_in, scalar_of, scalar_at, needed_scalar, needed_scalars, title_in, title_at, nullable_in, nullable_at, texts_in, one_or_several, both_names, names_in, needed_names};
+ghost use Rattle.vl_building.specs.Values.{scalar_in, scalar_of, needed_scalar, title_in, title_at, nullable_in, nullable_at, texts_in, both_names, names_in, needed_names};
 
-use crate::parts::{Item, Object, items_at, list_of};
+use crate::parts;
+use crate::parts::{Item, Object, Value, list_of};
 use crate::several::Part;
-use crate::values::{member_value, text_of};
 use cell_value::Cell;
 use json_exact::{Json, Member};
 use std::alloc::Global;
-use text_kit::{OutOfMemory, Seq, Text};
+use text_kit::{OutOfMemory, Text};
+use tree_readers::{member_value, text_of};
 use vl_spec::{Names, Texts};
 
 // A scalar.
-fn scalar_in(tree: &Json) -> Result<Option<Cell>, OutOfMemory>
-    ensures { IfOk result (λ cell. cell ≡ scalar_in (out-Json tree.now)) }
-{
-    match tree {
-        Json::Null => Ok(Some(Cell::Null)),
-        Json::Flag(flag) => Ok(Some(Cell::Flag(*flag))),
-        Json::Number(number) => Ok(Some(Cell::Number(*number))),
-        Json::Text(text) => Ok(Some(Cell::Text(text.copy()?))),
-        Json::Huge | Json::List(_) | Json::Object(_) => Ok(None),
+impl Value for Cell {
+    ghost read = { scalar_in };
+
+    fn of_value(_: Global, tree: &Json) -> Result<Option<Cell>, OutOfMemory> {
+        match tree {
+            Json::Null => Ok(Some(Cell::Null)),
+            Json::Flag(flag) => Ok(Some(Cell::Flag(*flag))),
+            Json::Number(number) => Ok(Some(Cell::Number(*number))),
+            Json::Text(text) => Ok(Some(Cell::Text(text.copy()?))),
+            Json::Huge | Json::List(_) | Json::Object(_) => Ok(None),
+        }
     }
 }
 
+// A scalar, null where an item is none.
 impl Item for Cell {
     ghost item = { scalar_of };
 
-    fn of_item(_: Global, tree: &Json) -> Result<Cell, OutOfMemory> {
-        match scalar_in(tree)? {
+    fn of_item(alloc: Global, tree: &Json) -> Result<Cell, OutOfMemory> {
+        match Cell::of_value(alloc, tree)? {
             Some(cell) => Ok(cell),
             None => Ok(Cell::Null),
         }
     }
 }
 
-/// The scalar under a name.
-pub fn scalar_at(members: &[Member], name: &str) -> Result<Option<Cell>, OutOfMemory>
-    ensures { IfOk result (λ cell. cell ≡ scalar_at members.now name.now) }
-{
-    match member_value(members, name) {
-        Some(tree) => scalar_in(tree),
-        None => Ok(None),
-    }
-}
-
 /// The scalar under a name, null where there is none.
-pub fn needed_scalar(members: &[Member], name: &str) -> Result<Cell, OutOfMemory>
+pub fn needed_scalar(alloc: Global, members: &[Member], name: &str) -> Result<Cell, OutOfMemory>
     ensures { IfOk result (λ cell. cell ≡ needed_scalar members.now name.now) }
 {
-    match scalar_at(members, name)? {
+    match parts::found_at(alloc, members, name)? {
         Some(cell) => Ok(cell),
         None => Ok(Cell::Null),
     }
 }
 
-/// The scalars of a list under a name, none where there is no list.
-pub fn needed_scalars(
-    alloc: Global,
-    members: &[Member],
-    name: &str,
-) -> Result<Seq<Cell>, OutOfMemory>
-    ensures { IfOk result (λ cells. cells ≡ needed_scalars members.now name.now) }
-{
-    match items_at(members, name) {
-        Some(items) => list_of(alloc, items.as_slice()),
-        None => Ok(Seq::new(alloc)),
-    }
-}
-
 // A title: null for none, or a text.
-fn title_in(tree: &Json) -> Result<Option<Option<Text>>, OutOfMemory>
-    ensures { IfOk result (λ title. title ≡ title_in (out-Json tree.now)) }
-{
-    match tree {
-        Json::Null => Ok(Some(None)),
-        Json::Text(text) => Ok(Some(Some(text.copy()?))),
-        Json::Flag(_) | Json::Number(_) | Json::Huge | Json::List(_) | Json::Object(_) => Ok(None),
+impl Value for Option<Text> {
+    ghost read = { title_in };
+
+    fn of_value(_: Global, tree: &Json) -> Result<Option<Option<Text>>, OutOfMemory> {
+        match tree {
+            Json::Null => Ok(Some(None)),
+            Json::Text(text) => Ok(Some(Some(text.copy()?))),
+            Json::Flag(_) | Json::Number(_) | Json::Huge | Json::List(_) | Json::Object(_) => Ok(
+                None,
+            ),
+        }
     }
 }
 
@@ -86,14 +69,11 @@ impl Part for Option<Option<Text>> {
     ghost part = { title_at };
 
     fn part_at(
-        _: Global,
+        alloc: Global,
         members: &[Member],
         name: &str,
     ) -> Result<Option<Option<Text>>, OutOfMemory> {
-        match member_value(members, name) {
-            Some(tree) => title_in(tree),
-            None => Ok(None),
-        }
+        parts::found_at(alloc, members, name)
     }
 }
 
@@ -108,42 +88,31 @@ fn nullable_in<T: Object>(alloc: Global, tree: &Json) -> Result<Option<Option<T>
     }
 }
 
-/// Null, or what an object is by its members, under a name.
-pub fn nullable_at<T: Object>(
-    alloc: Global,
-    members: &[Member],
-    name: &str,
-) -> Result<Option<Option<T>>, OutOfMemory>
-    ensures { IfOk result (λ value. value ≡ nullable_at T.built members.now name.now) }
-{
-    match member_value(members, name) {
-        Some(tree) => nullable_in(alloc, tree),
-        None => Ok(None),
+impl<T: Object> Part for Option<Option<T>> {
+    ghost part = { nullable_at T.built };
+
+    fn part_at(
+        alloc: Global,
+        members: &[Member],
+        name: &str,
+    ) -> Result<Option<Option<T>>, OutOfMemory> {
+        match member_value(members, name) {
+            Some(tree) => nullable_in(alloc, tree),
+            None => Ok(None),
+        }
     }
 }
 
 // One text, or a list of them.
-fn texts_in(alloc: Global, tree: &Json) -> Result<Option<Texts>, OutOfMemory>
-    ensures { IfOk result (λ texts. texts ≡ texts_in (out-Json tree.now)) }
-{
-    match tree {
-        Json::Text(text) => Ok(Some(Texts::One(text.copy()?))),
-        Json::List(items) => Ok(Some(Texts::Several(list_of(alloc, items.as_slice())?))),
-        Json::Null | Json::Flag(_) | Json::Number(_) | Json::Huge | Json::Object(_) => Ok(None),
-    }
-}
+impl Value for Texts {
+    ghost read = { texts_in };
 
-/// One text, or a list of them, under a name.
-pub fn one_or_several(
-    alloc: Global,
-    members: &[Member],
-    name: &str,
-) -> Result<Option<Texts>, OutOfMemory>
-    ensures { IfOk result (λ texts. texts ≡ one_or_several members.now name.now) }
-{
-    match member_value(members, name) {
-        Some(tree) => texts_in(alloc, tree),
-        None => Ok(None),
+    fn of_value(alloc: Global, tree: &Json) -> Result<Option<Texts>, OutOfMemory> {
+        match tree {
+            Json::Text(text) => Ok(Some(Texts::One(text.copy()?))),
+            Json::List(items) => Ok(Some(Texts::Several(list_of(alloc, items.as_slice())?))),
+            Json::Null | Json::Flag(_) | Json::Number(_) | Json::Huge | Json::Object(_) => Ok(None),
+        }
     }
 }
 
@@ -161,23 +130,15 @@ fn both_names(alloc: Global, items: &[Json]) -> Result<Option<Names>, OutOfMemor
 }
 
 // One name, or two.
-fn names_in(alloc: Global, tree: &Json) -> Result<Option<Names>, OutOfMemory>
-    ensures { IfOk result (λ names. names ≡ names_in (out-Json tree.now)) }
-{
-    match tree {
-        Json::Text(text) => Ok(Some(Names::One(text.copy()?))),
-        Json::List(items) => both_names(alloc, items.as_slice()),
-        Json::Null | Json::Flag(_) | Json::Number(_) | Json::Huge | Json::Object(_) => Ok(None),
-    }
-}
+impl Value for Names {
+    ghost read = { names_in };
 
-// The same under a name.
-fn names_at(alloc: Global, members: &[Member], name: &str) -> Result<Option<Names>, OutOfMemory>
-    ensures { IfOk result (λ names. names ≡ found_at names_in members.now name.now) }
-{
-    match member_value(members, name) {
-        Some(tree) => names_in(alloc, tree),
-        None => Ok(None),
+    fn of_value(alloc: Global, tree: &Json) -> Result<Option<Names>, OutOfMemory> {
+        match tree {
+            Json::Text(text) => Ok(Some(Names::One(text.copy()?))),
+            Json::List(items) => both_names(alloc, items.as_slice()),
+            Json::Null | Json::Flag(_) | Json::Number(_) | Json::Huge | Json::Object(_) => Ok(None),
+        }
     }
 }
 
@@ -185,7 +146,7 @@ fn names_at(alloc: Global, members: &[Member], name: &str) -> Result<Option<Name
 pub fn needed_names(alloc: Global, members: &[Member], name: &str) -> Result<Names, OutOfMemory>
     ensures { IfOk result (λ names. names ≡ needed_names members.now name.now) }
 {
-    match names_at(alloc, members, name)? {
+    match parts::found_at(alloc, members, name)? {
         Some(names) => Ok(names),
         None => Ok(Names::One(Text::new(alloc))),
     }

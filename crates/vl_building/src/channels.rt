@@ -1,36 +1,34 @@
 // Channels, and their conditions.
-ghost use Rattle.std.specs.Prelude.{◌≡◌, ◌++◌, [], None, Some, map, codes, IfOk, OnOk};
-ghost use Rattle.std.specs.Option.{option_to_list};
-ghost use Rattle.std.specs.List.{filter_map};
+ghost use Rattle.std.specs.Prelude.{◌≡◌, [], None, Some, map, codes, IfOk};
 ghost use Rattle.json_exact.specs.declared.json.Json.{out-Json};
 ghost use Rattle.vl_spec.specs.declared.channels.Conditions.TheVariants as conditions;
-ghost use Rattle.vl_building.specs.Parts.{members_of, object_at};
 ghost use Rattle.vl_building.specs.Inside.{member_gives};
-ghost use Rattle.vl_building.specs.Channels.{test_of, channel_with, condition_showing, several_in, as_condition, conditions_given, condition_with, condition_of, conditions_of, conditions_at, channel_of, shown_in, channel_coded, channel_in, encoding_of};
+ghost use Rattle.vl_building.specs.Channels.{test_of, channel_with, condition_showing, several_in, as_condition, condition_with, condition_of, conditions_of, conditions_at, channel_of, shown_in, channel_coded, channel_in, encoding_of};
 
-use crate::definitions::definition_of;
 use crate::filters::{needed_filter, param_test_of};
-use crate::parts;
-use crate::parts::{Object, has_member};
-use crate::several::Part;
-use crate::values::members_of;
+use crate::parts::{Object, OfMember, given_by, object_with, objects_of};
 use json_exact::{Json, Member};
 use std::alloc::Global;
 use text_kit::{Boxed, OutOfMemory, Seq};
+use tree_readers::has_member;
 use vl_spec::{Channel, ChannelKind, ChannelOf, Condition, Conditions, Encoding, Test};
 
 // When a condition holds.
-fn test_of(alloc: Global, members: &[Member]) -> Result<Test, OutOfMemory>
-    ensures { IfOk result (λ test. test ≡ test_of members.now) }
-{
-    if has_member(members, "test") {
-        Ok(Test::Filter(needed_filter(alloc, members, "test")?))
-    } else {
-        Ok(Test::Param(param_test_of(alloc, members)?))
+impl Object for Test {
+    ghost built = { test_of };
+
+    #[tactic(auto, unfolding(crate::specs::Channels::test_of))]
+    fn of_members(alloc: Global, members: &[Member]) -> Result<Test, OutOfMemory> {
+        if has_member(members, "test") {
+            Ok(Test::Filter(needed_filter(alloc, members, "test")?))
+        } else {
+            Ok(Test::Param(param_test_of(alloc, members)?))
+        }
     }
 }
 
 // A definition of a channel, its conditions being these.
+#[tactic(auto, unfolding(crate::specs::Channels::channel_with))]
 fn channel_with(
     alloc: Global,
     members: &[Member],
@@ -38,7 +36,7 @@ fn channel_with(
 ) -> Result<Channel, OutOfMemory>
     ensures { IfOk result (λ channel. channel ≡ channel_with members.now condition) }
 {
-    let definition = definition_of(alloc, members)?;
+    let (definition, condition) = object_with(alloc, members, condition)?;
     Ok(Channel {
         definition,
         condition,
@@ -46,6 +44,7 @@ fn channel_with(
 }
 
 // A condition that shows this.
+#[tactic(auto, unfolding(crate::specs::Channels::condition_showing))]
 fn condition_showing(
     alloc: Global,
     members: &[Member],
@@ -53,7 +52,7 @@ fn condition_showing(
 ) -> Result<Condition, OutOfMemory>
     ensures { IfOk result (λ condition. condition ≡ condition_showing members.now shows) }
 {
-    let test = test_of(alloc, members)?;
+    let (test, shows) = object_with(alloc, members, shows)?;
     Ok(Condition { test, shows })
 }
 
@@ -143,35 +142,12 @@ impl Object for Channel {
     }
 }
 
-impl Part for Option<Channel> {
-    ghost part = { object_at channel_of };
-
-    fn part_at(
-        alloc: Global,
-        members: &[Member],
-        name: &str,
-    ) -> Result<Option<Channel>, OutOfMemory> {
-        parts::object_at(alloc, members, name)
-    }
-}
-
-// The channels that items are.
-fn channels_of(alloc: Global, items: &[Json]) -> Result<Seq<Channel>, OutOfMemory>
-    ensures { IfOk result (λ channels. channels ≡ map (λ tree. channel_of (members_of tree)) items.now) }
-{
-    let mut channels = Seq::new(alloc);
-    for tree in items {
-        channels.push(Channel::of_members(alloc, members_of(tree))?)?;
-    }
-    Ok(channels)
-}
-
 // A list of definitions, for `detail` alone.
 fn several_in(alloc: Global, name: &str, items: &[Json]) -> Result<Option<ChannelKind>, OutOfMemory>
     ensures { IfOk result (λ shows. shows ≡ several_in name.now items.now) }
 {
     if name == "detail" {
-        Ok(Some(ChannelKind::Several(channels_of(alloc, items)?)))
+        Ok(Some(ChannelKind::Several(objects_of(alloc, items)?)))
     } else {
         Ok(None)
     }
@@ -206,54 +182,25 @@ fn channel_coded(
 }
 
 // The channel that a member is, if it is one.
-fn channel_in(alloc: Global, member: &Member) -> Result<Option<ChannelOf>, OutOfMemory>
-    ensures { IfOk result (λ channel. channel ≡ channel_in member.now) }
-{
-    match case_table::channel_of(member.name.as_str()) {
-        Some(code) => channel_coded(alloc, member, code),
-        None => Ok(None),
-    }
-}
+impl OfMember for ChannelOf {
+    ghost given = { channel_in };
 
-// Adds the channel that a member is.
-fn push_channel(alloc: Global, member: &Member, out: &mut Seq<ChannelOf>) -> Result<(), OutOfMemory>
-    ensures { OnOk result (out.new ≡ out.old ++ option_to_list (channel_in member.now)) }
-{
-    match channel_in(alloc, member)? {
-        Some(channel) => out.push(channel),
-        None => Ok(()),
+    #[tactic(auto, unfolding(crate::specs::Channels::channel_in))]
+    fn of_member(alloc: Global, member: &Member) -> Result<Option<ChannelOf>, OutOfMemory> {
+        match case_table::channel_of(member.name.as_str()) {
+            Some(code) => channel_coded(alloc, member, code),
+            None => Ok(None),
+        }
     }
 }
 
 impl Object for Encoding {
     ghost built = { encoding_of };
 
+    #[tactic(auto, unfolding(crate::specs::Channels::encoding_of))]
     fn of_members(alloc: Global, members: &[Member]) -> Result<Encoding, OutOfMemory> {
         Ok(Encoding {
-            channels: channels_among(alloc, members)?,
+            channels: given_by(alloc, members)?,
         })
-    }
-}
-
-// The channels that members are.
-fn channels_among(alloc: Global, members: &[Member]) -> Result<Seq<ChannelOf>, OutOfMemory>
-    ensures { IfOk result (λ channels. channels ≡ filter_map channel_in members.now) }
-{
-    let mut channels = Seq::new(alloc);
-    for member in members {
-        push_channel(alloc, member, &mut channels)?;
-    }
-    Ok(channels)
-}
-
-impl Part for Option<Encoding> {
-    ghost part = { object_at encoding_of };
-
-    fn part_at(
-        alloc: Global,
-        members: &[Member],
-        name: &str,
-    ) -> Result<Option<Encoding>, OutOfMemory> {
-        parts::object_at(alloc, members, name)
     }
 }

@@ -1,16 +1,15 @@
 // What a specification has of data and parameters.
 ghost use Rattle.std.specs.Prelude.{◌≡◌, map, IfOk};
 ghost use Rattle.json_exact.specs.Path.{member_value};
-ghost use Rattle.vl_building.specs.Parts.{object_at};
 ghost use Rattle.vl_building.specs.Sources.{parse_of, parse_at, format_of, data_at};
 
-use crate::names::{format_kind_at, parse_kind_of};
-use crate::parts::{Object, members_at};
-use crate::several::{Part, three_parts};
-use crate::{parts, values};
+use crate::names::{named_at, named_in};
+use crate::parts::Object;
+use crate::several::three_parts;
 use json_exact::{Json, Member};
 use std::alloc::Global;
 use text_kit::{OutOfMemory, Seq, Text};
+use tree_readers::members_at;
 use vl_spec::{Format, ParamOf, ParseKind};
 
 /// Data where it stands.
@@ -42,7 +41,7 @@ fn parse_of(member: &Member) -> Result<(Text, ParseKind), OutOfMemory>
     ensures { IfOk result (λ parse. parse ≡ parse_of member.now) }
 {
     let name = member.name.copy()?;
-    Ok((name, parse_kind_of(&member.value)))
+    Ok((name, named_in(&member.value).unwrap_or(ParseKind::Number)))
 }
 
 // The same of each member.
@@ -73,23 +72,12 @@ fn parse_at(
 impl Object for Format {
     ghost built = { format_of };
 
+    #[tactic(auto, unfolding(crate::specs::Sources::format_of))]
     fn of_members(alloc: Global, members: &[Member]) -> Result<Format, OutOfMemory> {
         Ok(Format {
-            type_: format_kind_at(members, "type"),
+            type_: named_at(members, "type"),
             parse: parse_at(alloc, members, "parse")?,
         })
-    }
-}
-
-impl Part for Option<Format> {
-    ghost part = { object_at format_of };
-
-    fn part_at(
-        alloc: Global,
-        members: &[Member],
-        name: &str,
-    ) -> Result<Option<Format>, OutOfMemory> {
-        parts::object_at(alloc, members, name)
     }
 }
 
@@ -97,13 +85,14 @@ impl Part for Option<Format> {
 fn value_at(alloc: Global, members: &[Member], name: &str) -> Result<Option<Json>, OutOfMemory>
     ensures { IfOk result (λ tree. tree ≡ member_value members.now name.now) }
 {
-    match values::member_value(members, name) {
+    match tree_readers::member_value(members, name) {
         Some(tree) => Ok(Some(tree.copy(alloc)?)),
         None => Ok(None),
     }
 }
 
 /// Data of these members at a place.
+#[tactic(auto, unfolding(crate::specs::Sources::data_at))]
 pub fn data_at(alloc: Global, place: Seq<usize>, members: &[Member]) -> Result<DataAt, OutOfMemory>
     ensures { IfOk result (λ at. at ≡ data_at place members.now) }
 {

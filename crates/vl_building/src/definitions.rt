@@ -1,28 +1,25 @@
 // Definitions of channels, apart from their conditions.
 ghost use Rattle.std.specs.Prelude.{◌≡◌, IfOk};
-ghost use Rattle.json_exact.specs.declared.json.Json.{out-Json};
-ghost use Rattle.vl_building.specs.Parts.{object_at};
-ghost use Rattle.vl_building.specs.Guides.{header_of};
-ghost use Rattle.vl_building.specs.Definitions.{bin_settings_of, bin_in, bin_at, sort_named, field_sort_of, sort_in, sort_at, stacking_named, stacking_in, stacking_at, datum_definition_of, field_definition_of, is_channel_kind, channel_kind, definition_by, definition_of};
+ghost use Rattle.vl_building.specs.Definitions.{bin_settings_of, bin_in, sort_named, field_sort_of, sort_in, sort_at, stacking_in, datum_definition_of, field_definition_of, is_channel_kind, channel_kind, definition_by, definition_of};
 
 use crate::cells::needed_scalar;
 use crate::fields::field_at;
-use crate::names::{field_type_at, offset_named, order_at};
+use crate::names::{ByName, named_at};
 use crate::numbers::{bin_step_at, count_at, space_at};
 use crate::parts;
-use crate::parts::list_of;
+use crate::parts::{Object, Plain, Value, list_of, plain_at};
 use crate::several::{Part, four_parts, six_parts};
 use crate::tables::{operation_at, time_unit_at};
-use crate::values::member_value;
 use json_exact::{Json, Member};
 use std::alloc::Global;
 use text_kit::OutOfMemory;
 use vl_spec::{
-    Bin, BinSettings, DatumDefinition, Definition, FieldDefinition, FieldSort, Header, Order, Sort,
+    Bin, BinSettings, DatumDefinition, Definition, FieldDefinition, FieldSort, Offset, Order, Sort,
     Stacking,
 };
 
 /// In which way a field is put into bins.
+#[tactic(auto, unfolding(crate::specs::Definitions::bin_settings_of))]
 pub fn bin_settings_of(members: &[Member]) -> BinSettings
     ensures { result ≡ bin_settings_of members.now }
 {
@@ -33,65 +30,63 @@ pub fn bin_settings_of(members: &[Member]) -> BinSettings
 }
 
 // How a field is put into bins.
-fn bin_in(tree: &Json) -> Option<Bin>
-    ensures { result ≡ bin_in (out-Json tree.now) }
-{
-    match tree {
-        Json::Flag(flag) => Some(Bin::Flag(*flag)),
-        Json::Object(members) => Some(Bin::Settings(bin_settings_of(members.as_slice()))),
-        Json::Null | Json::Number(_) | Json::Huge | Json::Text(_) | Json::List(_) => None,
+impl Plain for Bin {
+    ghost plain = { bin_in };
+
+    fn of_plain(tree: &Json) -> Option<Bin> {
+        match tree {
+            Json::Flag(flag) => Some(Bin::Flag(*flag)),
+            Json::Object(members) => Some(Bin::Settings(bin_settings_of(members.as_slice()))),
+            Json::Null | Json::Number(_) | Json::Huge | Json::Text(_) | Json::List(_) => None,
+        }
     }
 }
 
-// How a field is put into bins, under a name.
-fn bin_at(members: &[Member], name: &str) -> Option<Bin>
-    ensures { result ≡ bin_at members.now name.now }
-{
-    bin_in(member_value(members, name)?)
-}
-
 // An order that is a text.
+#[tactic(auto, unfolding(crate::specs::Definitions::sort_named))]
 fn sort_named(name: &str) -> Option<Sort>
     ensures { result ≡ sort_named name.now }
 {
-    if name == "ascending" {
-        Some(Sort::Cells(Order::Ascending))
-    } else if name == "descending" {
-        Some(Sort::Cells(Order::Descending))
-    } else if name == "x" {
-        Some(Sort::X(Order::Ascending))
-    } else if name == "-x" {
-        Some(Sort::X(Order::Descending))
-    } else if name == "y" {
-        Some(Sort::Y(Order::Ascending))
-    } else if name == "-y" {
-        Some(Sort::Y(Order::Descending))
-    } else {
-        None
+    match name {
+        "ascending" => Some(Sort::Cells(Order::Ascending)),
+        "descending" => Some(Sort::Cells(Order::Descending)),
+        "x" => Some(Sort::X(Order::Ascending)),
+        "-x" => Some(Sort::X(Order::Descending)),
+        "y" => Some(Sort::Y(Order::Ascending)),
+        "-y" => Some(Sort::Y(Order::Descending)),
+        _ => None,
     }
 }
 
 // An order by an aggregate of a field.
+#[tactic(auto, unfolding(crate::specs::Definitions::field_sort_of))]
 fn field_sort_of(alloc: Global, members: &[Member]) -> Result<FieldSort, OutOfMemory>
     ensures { IfOk result (λ sort. sort ≡ field_sort_of members.now) }
 {
+    let op = operation_at(members, "op");
+    let order = named_at(members, "order");
     Ok(FieldSort {
         field: field_at(alloc, members, "field")?,
-        op: operation_at(members, "op"),
-        order: order_at(members, "order"),
+        op,
+        order,
     })
 }
 
 // How the cells of a channel stand.
-fn sort_in(alloc: Global, tree: &Json) -> Result<Option<Sort>, OutOfMemory>
-    ensures { IfOk result (λ sort. sort ≡ sort_in (out-Json tree.now)) }
-{
-    match tree {
-        Json::Null => Ok(Some(Sort::Null)),
-        Json::Text(text) => Ok(sort_named(text.as_str())),
-        Json::List(items) => Ok(Some(Sort::Listed(list_of(alloc, items.as_slice())?))),
-        Json::Object(members) => Ok(Some(Sort::Field(field_sort_of(alloc, members.as_slice())?))),
-        Json::Flag(_) | Json::Number(_) | Json::Huge => Ok(None),
+impl Value for Sort {
+    ghost read = { sort_in };
+
+    fn of_value(alloc: Global, tree: &Json) -> Result<Option<Sort>, OutOfMemory> {
+        match tree {
+            Json::Null => Ok(Some(Sort::Null)),
+            Json::Text(text) => Ok(sort_named(text.as_str())),
+            Json::List(items) => Ok(Some(Sort::Listed(list_of(alloc, items.as_slice())?))),
+            Json::Object(members) => Ok(Some(Sort::Field(field_sort_of(
+                alloc,
+                members.as_slice(),
+            )?))),
+            Json::Flag(_) | Json::Number(_) | Json::Huge => Ok(None),
+        }
     }
 }
 
@@ -99,57 +94,37 @@ impl Part for Option<Sort> {
     ghost part = { sort_at };
 
     fn part_at(alloc: Global, members: &[Member], name: &str) -> Result<Option<Sort>, OutOfMemory> {
-        match member_value(members, name) {
-            Some(tree) => sort_in(alloc, tree),
-            None => Ok(None),
+        parts::found_at(alloc, members, name)
+    }
+}
+
+// How a channel is stacked.
+impl Plain for Stacking {
+    ghost plain = { stacking_in };
+
+    fn of_plain(tree: &Json) -> Option<Stacking> {
+        match tree {
+            Json::Null => Some(Stacking::Null),
+            Json::Flag(flag) => Some(Stacking::Flag(*flag)),
+            Json::Text(text) => Some(Stacking::Offset(Offset::by_name(text.as_str())?)),
+            Json::Number(_) | Json::Huge | Json::List(_) | Json::Object(_) => None,
         }
     }
 }
 
-// A stack that begins somewhere.
-fn stacking_named(name: &str) -> Option<Stacking>
-    ensures { result ≡ stacking_named name.now }
-{
-    Some(Stacking::Offset(offset_named(name)?))
-}
-
-// How a channel is stacked.
-fn stacking_in(tree: &Json) -> Option<Stacking>
-    ensures { result ≡ stacking_in (out-Json tree.now) }
-{
-    match tree {
-        Json::Null => Some(Stacking::Null),
-        Json::Flag(flag) => Some(Stacking::Flag(*flag)),
-        Json::Text(text) => stacking_named(text.as_str()),
-        Json::Number(_) | Json::Huge | Json::List(_) | Json::Object(_) => None,
-    }
-}
-
-// The same under a name.
-fn stacking_at(members: &[Member], name: &str) -> Option<Stacking>
-    ensures { result ≡ stacking_at members.now name.now }
-{
-    stacking_in(member_value(members, name)?)
-}
-
-// The headers of panels under a name.
-fn header_at(alloc: Global, members: &[Member], name: &str) -> Result<Option<Header>, OutOfMemory>
-    ensures { IfOk result (λ header. header ≡ object_at header_of members.now name.now) }
-{
-    parts::object_at(alloc, members, name)
-}
-
 // A cell that is written, on a scale.
+#[tactic(auto, unfolding(crate::specs::Definitions::datum_definition_of))]
 fn datum_definition_of(alloc: Global, members: &[Member]) -> Result<DatumDefinition, OutOfMemory>
     ensures { IfOk result (λ definition. definition ≡ datum_definition_of members.now) }
 {
-    let datum = needed_scalar(members, "datum")?;
+    let type_ = named_at(members, "type");
+    let datum = needed_scalar(alloc, members, "datum")?;
     let (title, legend, axis, scale) = four_parts(
         alloc, members, "title", "legend", "axis", "scale",
     )?;
     Ok(DatumDefinition {
         datum,
-        type_: field_type_at(members, "type"),
+        type_,
         scale,
         axis,
         legend,
@@ -158,43 +133,50 @@ fn datum_definition_of(alloc: Global, members: &[Member]) -> Result<DatumDefinit
 }
 
 // The cells of a field, or what is made of it.
+#[tactic(auto, unfolding(crate::specs::Definitions::field_definition_of))]
 fn field_definition_of(alloc: Global, members: &[Member]) -> Result<FieldDefinition, OutOfMemory>
     ensures { IfOk result (λ definition. definition ≡ field_definition_of members.now) }
 {
-    let header = header_at(alloc, members, "header")?;
+    let type_ = named_at(members, "type");
+    let aggregate = operation_at(members, "aggregate");
+    let bin = plain_at(members, "bin");
+    let time_unit = time_unit_at(members, "timeUnit");
+    let stack = plain_at(members, "stack");
+    let columns = count_at(members, "columns");
+    let spacing = space_at(members, "spacing");
+    let header = parts::object_at(alloc, members, "header")?;
     let field = field_at(alloc, members, "field")?;
     let (title, format, legend, axis, sort, scale) = six_parts(
         alloc, members, "title", "format", "legend", "axis", "sort", "scale",
     )?;
     Ok(FieldDefinition {
         field,
-        type_: field_type_at(members, "type"),
-        aggregate: operation_at(members, "aggregate"),
-        bin: bin_at(members, "bin"),
-        time_unit: time_unit_at(members, "timeUnit"),
+        type_,
+        aggregate,
+        bin,
+        time_unit,
         title,
         sort,
         scale,
-        stack: stacking_at(members, "stack"),
+        stack,
         axis,
         legend,
         header,
         format,
-        columns: count_at(members, "columns"),
-        spacing: space_at(members, "spacing"),
+        columns,
+        spacing,
     })
 }
 
 // Whether it is a member of which the first decides what a definition is.
+#[tactic(auto, unfolding(crate::specs::Definitions::is_channel_kind))]
 fn is_channel_kind(name: &str) -> bool
     ensures { result ≡ is_channel_kind name.now }
 {
-    name == "value"
-        || name == "datum"
-        || name == "field"
-        || name == "aggregate"
-        || name == "bin"
-        || name == "timeUnit"
+    match name {
+        "value" | "datum" | "field" | "aggregate" | "bin" | "timeUnit" => true,
+        _ => false,
+    }
 }
 
 // The first of them, or no name.
@@ -210,21 +192,23 @@ fn channel_kind(members: &[Member]) -> &str
 }
 
 // A definition by its first deciding member.
+#[tactic(auto, unfolding(crate::specs::Definitions::definition_by))]
 fn definition_by(alloc: Global, kind: &str, members: &[Member]) -> Result<Definition, OutOfMemory>
     ensures { IfOk result (λ definition. definition ≡ definition_by kind.now members.now) }
 {
-    if kind == "value" {
-        Ok(Definition::Value(needed_scalar(members, "value")?))
-    } else if kind == "datum" {
-        Ok(Definition::Datum(datum_definition_of(alloc, members)?))
-    } else {
-        Ok(Definition::Field(field_definition_of(alloc, members)?))
+    match kind {
+        "value" => Ok(Definition::Value(needed_scalar(alloc, members, "value")?)),
+        "datum" => Ok(Definition::Datum(datum_definition_of(alloc, members)?)),
+        _ => Ok(Definition::Field(field_definition_of(alloc, members)?)),
     }
 }
 
-/// What a channel shows, by its members.
-pub fn definition_of(alloc: Global, members: &[Member]) -> Result<Definition, OutOfMemory>
-    ensures { IfOk result (λ definition. definition ≡ definition_of members.now) }
-{
-    definition_by(alloc, channel_kind(members), members)
+// What a channel shows, by its members.
+impl Object for Definition {
+    ghost built = { definition_of };
+
+    #[tactic(auto, unfolding(crate::specs::Definitions::definition_of))]
+    fn of_members(alloc: Global, members: &[Member]) -> Result<Definition, OutOfMemory> {
+        definition_by(alloc, channel_kind(members), members)
+    }
 }

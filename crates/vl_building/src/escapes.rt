@@ -1,7 +1,7 @@
 // The text of a field without its escapes.
 ghost use Rattle.std.specs.Prelude.{◌≡◌, ◌++◌, IfOk, OnOk, encode_utf8};
 ghost use Rattle.vl_building.specs.Fields.{field_name};
-ghost use Rattle.vl_building.specs.inner.Escapes.{waiting, stepped, waits_behind};
+ghost use Rattle.vl_building.specs.inner.Escapes.{waiting, stepped};
 
 use std::alloc::Global;
 use text_kit::{OutOfMemory, Text};

@@ -3,11 +3,10 @@ ghost use Rattle.std.specs.Prelude.{◌≡◌, map, IfOk};
 ghost use Rattle.vl_building.specs.Fields.{field_name, field_at, needed_field, field_of, fields_at, needed_fields};
 
 use crate::escapes::field_name;
-use crate::parts::{items_at, word_at};
-use crate::values::text_in;
 use json_exact::{Json, Member};
 use std::alloc::Global;
 use text_kit::{OutOfMemory, Seq, Text};
+use tree_readers::{items_at, text_in, word_at};
 
 /// The field under a name.
 pub fn field_at(alloc: Global, members: &[Member], name: &str) -> Result<Option<Text>, OutOfMemory>

@@ -1,31 +1,33 @@
 // Filters.
-ghost use Rattle.std.specs.Prelude.{◌≡◌, true, map, IfOk};
-ghost use Rattle.std.specs.Option.{option_and_then, unwrap_or};
+ghost use Rattle.std.specs.Prelude.{◌≡◌, map, IfOk};
+ghost use Rattle.std.specs.Option.{option_and_then};
 ghost use Rattle.json_exact.specs.Inside.{items_in};
-ghost use Rattle.vl_building.specs.Parts.{found_at, flag_at};
+ghost use Rattle.tree_readers.specs.Parts.{found_at};
 ghost use Rattle.json_exact.specs.declared.json.Json.{out-Json};
 ghost use Rattle.vl_building.specs.Inside.{member_gives};
-ghost use Rattle.vl_building.specs.Filters.{param_test_of, bound_in, range_from, range_in, needed_range, later_comparison, comparison_of, field_test_of, as_filter, no_filter, text_filter, filters_given, filter_given, object_filter, filter_of, filters_of, needed_filter};
+ghost use Rattle.vl_building.specs.Filters.{param_test_of, bound_in, range_from, range_in, later_comparison, comparison_of, field_test_of, as_filter, text_filter, filters_given, object_filter, filter_of, filters_of, needed_filter};
 
-use crate::cells::{needed_scalar, needed_scalars};
+use crate::cells::needed_scalar;
 use crate::fields::needed_field;
-use crate::parts;
-use crate::parts::{expression_in, has_member, items_at, needed_text};
+use crate::parts::{expression_in, needed_list};
 use crate::tables::time_unit_at;
 use expr_syntax::Expr;
 use fixed_num::Num;
 use json_exact::{Json, Member};
 use std::alloc::Global;
 use text_kit::{Boxed, OutOfMemory, Seq};
+use tree_readers::{has_member, items_at, needed_text};
 use vl_spec::{Comparison, FieldTest, Filter, ParamTest};
 
 /// A test by a parameter.
+#[tactic(auto, unfolding(crate::specs::Filters::param_test_of))]
 pub fn param_test_of(alloc: Global, members: &[Member]) -> Result<ParamTest, OutOfMemory>
     ensures { IfOk result (λ test. test ≡ param_test_of members.now) }
 {
+    let empty = tree_readers::flag_at(members, "empty");
     Ok(ParamTest {
         param: needed_text(alloc, members, "param")?,
-        empty: parts::flag_at(members, "empty"),
+        empty,
     })
 }
 
@@ -66,72 +68,57 @@ fn range_at(members: &[Member], name: &str) -> Option<Comparison>
     range_in(items_at(members, name)?.as_slice())
 }
 
-// The two bounds under a name; none where they are ill-formed.
-fn needed_range(members: &[Member], name: &str) -> Comparison
-    ensures { result ≡ needed_range members.now name.now }
-{
-    match range_at(members, name) {
-        Some(range) => range,
-        None => Comparison::Range(None, None),
-    }
-}
-
-// The truth value under a name, true where there is none.
-fn needed_flag(members: &[Member], name: &str) -> bool
-    ensures { result ≡ unwrap_or (flag_at members.now name.now) true }
-{
-    match parts::flag_at(members, name) {
-        Some(flag) => flag,
-        None => true,
-    }
-}
-
 // A comparison by one of these members.
+#[tactic(auto, unfolding(crate::specs::Filters::later_comparison))]
 fn later_comparison(alloc: Global, members: &[Member]) -> Result<Comparison, OutOfMemory>
     ensures { IfOk result (λ comparison. comparison ≡ later_comparison members.now) }
 {
     if has_member(members, "gte") {
-        Ok(Comparison::MoreSame(needed_scalar(members, "gte")?))
+        Ok(Comparison::MoreSame(needed_scalar(alloc, members, "gte")?))
     } else if has_member(members, "range") {
-        Ok(needed_range(members, "range"))
+        Ok(range_at(members, "range").unwrap_or(Comparison::Range(None, None)))
     } else if has_member(members, "oneOf") {
-        Ok(Comparison::OneOf(needed_scalars(alloc, members, "oneOf")?))
+        Ok(Comparison::OneOf(needed_list(alloc, members, "oneOf")?))
     } else {
-        Ok(Comparison::Valid(needed_flag(members, "valid")))
+        Ok(Comparison::Valid(tree_readers::flag_at(members, "valid").unwrap_or(true)))
     }
 }
 
 // A comparison, by the first of its members that is there.
+#[tactic(auto, unfolding(crate::specs::Filters::comparison_of))]
 fn comparison_of(alloc: Global, members: &[Member]) -> Result<Comparison, OutOfMemory>
     ensures { IfOk result (λ comparison. comparison ≡ comparison_of members.now) }
 {
     if has_member(members, "equal") {
-        Ok(Comparison::Equal(needed_scalar(members, "equal")?))
+        Ok(Comparison::Equal(needed_scalar(alloc, members, "equal")?))
     } else if has_member(members, "lt") {
-        Ok(Comparison::Less(needed_scalar(members, "lt")?))
+        Ok(Comparison::Less(needed_scalar(alloc, members, "lt")?))
     } else if has_member(members, "lte") {
-        Ok(Comparison::LessSame(needed_scalar(members, "lte")?))
+        Ok(Comparison::LessSame(needed_scalar(alloc, members, "lte")?))
     } else if has_member(members, "gt") {
-        Ok(Comparison::More(needed_scalar(members, "gt")?))
+        Ok(Comparison::More(needed_scalar(alloc, members, "gt")?))
     } else {
         later_comparison(alloc, members)
     }
 }
 
 // A test of a field.
+#[tactic(auto, unfolding(crate::specs::Filters::field_test_of))]
 fn field_test_of(alloc: Global, members: &[Member]) -> Result<FieldTest, OutOfMemory>
     ensures { IfOk result (λ test. test ≡ field_test_of members.now) }
 {
+    let time_unit = time_unit_at(members, "timeUnit");
     let field = needed_field(alloc, members, "field")?;
     let comparison = comparison_of(alloc, members)?;
     Ok(FieldTest {
         field,
-        time_unit: time_unit_at(members, "timeUnit"),
+        time_unit,
         comparison,
     })
 }
 
 // A filter that is a text.
+#[tactic(auto, unfolding(crate::specs::Filters::text_filter))]
 fn text_filter(alloc: Global, text: &str) -> Result<Filter, OutOfMemory>
     ensures { IfOk result (λ filter. filter ≡ text_filter text.now) }
 {
@@ -157,6 +144,7 @@ pub fn filter_of(alloc: Global, tree: &Json) -> Result<Filter, OutOfMemory>
 
 // A filter that is an object, by the first of these members that is there.
 #[cycle(filters)]
+#[tactic(auto, unfolding(crate::specs::Filters::object_filter))]
 fn object_filter(alloc: Global, members: &[Member]) -> Result<Filter, OutOfMemory>
     ensures { IfOk result (λ filter. filter ≡ object_filter members.now (member_gives as_filter members.now)) }
 {

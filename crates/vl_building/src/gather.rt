@@ -1,15 +1,15 @@
 // The visits that find data and parameters.
 ghost use Rattle.std.specs.Prelude.{◌≡◌, ◌++◌, map, reverse, IfOk, OnOk};
-ghost use Rattle.vl_building.specs.Gather.{place_of, param_at, params_in, data_by, params_by, data_seen, params_seen, items_of, data_of, params_of};
+ghost use Rattle.vl_building.specs.Gather.{place_of, param_at, params_in, data_by, params_by, data_seen, params_seen, items_of, gathered};
 
 use crate::data::{DataAt, ParamAt, data_at};
 use crate::marks::param_of;
 use crate::places::child;
-use crate::values::members_of;
 use json_exact::Json;
 use spec_walk::{Visitor, walk};
 use std::alloc::Global;
 use text_kit::{OutOfMemory, Seq};
+use tree_readers::members_of;
 use vl_schema::{DATA, PARAMETERS, TOP, vl_schema};
 
 /// What is noted of a value on the way down to others.
@@ -19,6 +19,24 @@ pub struct Around {
     pub number: usize,
     /// Its shape.
     pub shape: u16,
+}
+
+/// What a walk through a specification finds.
+pub trait Found: Sized {
+    ghost use Rattle.std.specs.Prelude.{List};
+    ghost use Rattle.json_exact.specs.declared.json.Json.{Json};
+    ghost use Rattle.vl_building.specs.declared.gather.Around.{Around};
+
+    ghost seen: { List Around → Json → List Self };
+
+    /// Adds what the visit of the innermost value of a trail finds.
+    fn push_seen(
+        alloc: Global,
+        trail: &[Around],
+        tree: &Json,
+        out: &mut Seq<Self>,
+    ) -> Result<(), OutOfMemory>
+        ensures { OnOk result (out.new ≡ out.old ++ seen (reverse trail.now) tree.now) };
 }
 
 // The numbers of some values.
@@ -123,60 +141,61 @@ fn push_params(
     }
 }
 
-// Adds the data that the visit of the innermost value of a trail finds.
-fn push_data_seen(
-    alloc: Global,
-    trail: &[Around],
-    tree: &Json,
-    out: &mut Seq<DataAt>,
-) -> Result<(), OutOfMemory>
-    ensures { OnOk result (out.new ≡ out.old ++ data_seen (reverse trail.now) tree.now) }
-{
-    match trail {
-        [.., here] => push_data(alloc, here.shape, trail, tree, out),
-        [] => Ok(()),
+impl Found for DataAt {
+    ghost seen = { data_seen };
+
+    fn push_seen(
+        alloc: Global,
+        trail: &[Around],
+        tree: &Json,
+        out: &mut Seq<DataAt>,
+    ) -> Result<(), OutOfMemory> {
+        match trail {
+            [.., here] => push_data(alloc, here.shape, trail, tree, out),
+            [] => Ok(()),
+        }
     }
 }
 
-// Adds the parameters that it finds.
-fn push_params_seen(
-    alloc: Global,
-    trail: &[Around],
-    tree: &Json,
-    out: &mut Seq<ParamAt>,
-) -> Result<(), OutOfMemory>
-    ensures { OnOk result (out.new ≡ out.old ++ params_seen (reverse trail.now) tree.now) }
-{
-    match trail {
-        [.., here] => push_params(alloc, here.shape, trail, tree, out),
-        [] => Ok(()),
+impl Found for ParamAt {
+    ghost seen = { params_seen };
+
+    fn push_seen(
+        alloc: Global,
+        trail: &[Around],
+        tree: &Json,
+        out: &mut Seq<ParamAt>,
+    ) -> Result<(), OutOfMemory> {
+        match trail {
+            [.., here] => push_params(alloc, here.shape, trail, tree, out),
+            [] => Ok(()),
+        }
     }
 }
 
-// The values round the next one, from the top on, and the data so far.
+// The values round the next one, from the top on, and what was gathered so far.
 #[derive(Drop)]
-struct DataGathering {
+struct Gathering<T> {
     trail: Seq<Around>,
-    data_: Seq<DataAt>,
+    parts: Seq<T>,
 }
 
-impl Visitor for DataGathering {
+impl<T: Found> Visitor for Gathering<T> {
     ghost use Rattle.std.specs.Prelude.{reverse};
-    ghost use Rattle.vl_building.specs.Gather.{noted as note_of, data_seen};
-    ghost use Rattle.vl_building.specs.declared.data.DataAt.{DataAt};
+    ghost use Rattle.vl_building.specs.Gather.{noted as note_of};
     ghost use Rattle.vl_building.specs.declared.gather.Around.{Around};
 
     ghost Note = { Around };
 
-    ghost Part = { DataAt };
+    ghost Part = { T };
 
     ghost noted = { note_of };
 
-    ghost visit = { data_seen };
+    ghost visit = { T.seen };
 
     ghost trail = { λ g. reverse g.trail };
 
-    ghost gathered = { λ g. g.data_ };
+    ghost gathered = { λ g. g.parts };
 
     fn enter(
         &mut self,
@@ -186,7 +205,7 @@ impl Visitor for DataGathering {
         tree: &Json,
     ) -> Result<(), OutOfMemory> {
         self.trail.push(Around { number, shape })?;
-        push_data_seen(alloc, self.trail.as_slice(), tree, &mut self.data_)
+        T::push_seen(alloc, self.trail.as_slice(), tree, &mut self.parts)
     }
 
     fn leave(&mut self) {
@@ -194,71 +213,16 @@ impl Visitor for DataGathering {
     }
 }
 
-// The values round the next one, from the top on, and the parameters so far.
-#[derive(Drop)]
-struct ParamGathering {
-    trail: Seq<Around>,
-    params: Seq<ParamAt>,
-}
-
-impl Visitor for ParamGathering {
-    ghost use Rattle.std.specs.Prelude.{reverse};
-    ghost use Rattle.vl_building.specs.Gather.{noted as note_of, params_seen};
-    ghost use Rattle.vl_building.specs.declared.data.ParamAt.{ParamAt};
-    ghost use Rattle.vl_building.specs.declared.gather.Around.{Around};
-
-    ghost Note = { Around };
-
-    ghost Part = { ParamAt };
-
-    ghost noted = { note_of };
-
-    ghost visit = { params_seen };
-
-    ghost trail = { λ g. reverse g.trail };
-
-    ghost gathered = { λ g. g.params };
-
-    fn enter(
-        &mut self,
-        alloc: Global,
-        number: usize,
-        shape: u16,
-        tree: &Json,
-    ) -> Result<(), OutOfMemory> {
-        self.trail.push(Around { number, shape })?;
-        push_params_seen(alloc, self.trail.as_slice(), tree, &mut self.params)
-    }
-
-    fn leave(&mut self) {
-        let _ = self.trail.pop();
-    }
-}
-
-/// The data of a specification, in the order of the text.
-pub fn data_of(alloc: Global, tree: &Json) -> Result<Seq<DataAt>, OutOfMemory>
-    ensures { IfOk result (λ all. all ≡ data_of tree.now) }
+/// The data of a specification, or its parameters, in the order of the text.
+pub fn gathered<T: Found + Drop>(alloc: Global, tree: &Json) -> Result<Seq<T>, OutOfMemory>
+    ensures { IfOk result (λ parts. parts ≡ gathered T.seen tree.now) }
 {
     let schema = vl_schema(alloc)?;
-    let mut gathering = DataGathering {
+    let mut gathering = Gathering {
         trail: Seq::new(alloc),
-        data_: Seq::new(alloc),
+        parts: Seq::new(alloc),
     };
     walk(alloc, &schema, tree, 0, TOP, &mut gathering)?;
-    let DataGathering { trail: _, data_ } = gathering;
-    Ok(data_)
-}
-
-/// Its parameters, in the order of the text.
-pub fn params_of(alloc: Global, tree: &Json) -> Result<Seq<ParamAt>, OutOfMemory>
-    ensures { IfOk result (λ params. params ≡ params_of tree.now) }
-{
-    let schema = vl_schema(alloc)?;
-    let mut gathering = ParamGathering {
-        trail: Seq::new(alloc),
-        params: Seq::new(alloc),
-    };
-    walk(alloc, &schema, tree, 0, TOP, &mut gathering)?;
-    let ParamGathering { trail: _, params } = gathering;
-    Ok(params)
+    let Gathering { trail: _, parts } = gathering;
+    Ok(parts)
 }

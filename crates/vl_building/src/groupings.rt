@@ -1,61 +1,39 @@
 // Transforms over several rows.
 ghost use Rattle.std.specs.Prelude.{◌≡◌, IfOk};
-ghost use Rattle.vl_building.specs.Parts.{members_of};
-ghost use Rattle.vl_building.specs.Transforms.{operation_of, needed_operations, aggregate_of, sort_field_of, window_operation_of, needed_window_operations, frame_number, frame_end, frame_from, frame_end_of, frame_in, frame_at, window_of, lookup_from, lookup_of};
+ghost use Rattle.vl_building.specs.Transforms.{operation_of, aggregate_of, sort_field_of, window_operation_of, frame_number, frame_end, frame_from, frame_end_of, frame_in, frame_at, window_of, lookup_from, lookup_of};
 
-use crate::cells::{one_or_several, scalar_at};
 use crate::fields::{field_at, fields_at, needed_field, needed_fields};
 use crate::filters::bound_in;
-use crate::names::order_at;
+use crate::names::named_at;
 use crate::numbers::{is_whole, whole_at};
-use crate::parts::{Item, flag_at, items_at, list_at, list_of, needed_members, needed_text};
-use crate::tables::{needed_operation, needed_window_operation};
-use crate::values::members_of;
+use crate::parts;
+use crate::parts::{Object, needed_objects, objects_at};
+use crate::tables::{operation_at, window_operation_at};
 use fixed_num::Num;
 use json_exact::{Json, Member};
 use std::alloc::Global;
-use text_kit::{OutOfMemory, Seq, Text};
+use text_kit::{Copies, OutOfMemory, Text};
+use tree_readers::{flag_at, items_at, needed_members, needed_text};
 use vl_spec::{
     AggregateTransform, Frame, LookupFrom, LookupTransform, Operation, SortField, WindowOperation,
     WindowTransform,
 };
 
 // An operation over the rows of a group.
-fn operation_of(alloc: Global, members: &[Member]) -> Result<Operation, OutOfMemory>
-    ensures { IfOk result (λ operation. operation ≡ operation_of members.now) }
-{
-    let field = field_at(alloc, members, "field")?;
-    let as_ = needed_text(alloc, members, "as")?;
-    Ok(Operation {
-        op: needed_operation(members, "op"),
-        field,
-        as_,
-    })
-}
+impl Object for Operation {
+    ghost built = { operation_of };
 
-impl Item for Operation {
-    ghost item = { λ tree. operation_of (members_of tree) };
-
-    fn of_item(alloc: Global, tree: &Json) -> Result<Operation, OutOfMemory> {
-        operation_of(alloc, members_of(tree))
-    }
-}
-
-// The operations under a name, none where there is no list.
-fn needed_operations(
-    alloc: Global,
-    members: &[Member],
-    name: &str,
-) -> Result<Seq<Operation>, OutOfMemory>
-    ensures { IfOk result (λ operations. operations ≡ needed_operations members.now name.now) }
-{
-    match items_at(members, name) {
-        Some(items) => list_of(alloc, items.as_slice()),
-        None => Ok(Seq::new(alloc)),
+    #[tactic(auto, unfolding(crate::specs::Transforms::operation_of))]
+    fn of_members(alloc: Global, members: &[Member]) -> Result<Operation, OutOfMemory> {
+        let op = operation_at(members, "op").unwrap_or(0);
+        let field = field_at(alloc, members, "field")?;
+        let as_ = needed_text(alloc, members, "as")?;
+        Ok(Operation { op, field, as_ })
     }
 }
 
 /// What is computed of each group of rows, by the name of the member that says it.
+#[tactic(auto, unfolding(crate::specs::Transforms::aggregate_of))]
 pub fn aggregate_of(
     alloc: Global,
     name: &str,
@@ -64,61 +42,40 @@ pub fn aggregate_of(
     ensures { IfOk result (λ aggregate. aggregate ≡ aggregate_of name.now members.now) }
 {
     let groupby = fields_at(alloc, members, "groupby")?;
-    let aggregate = needed_operations(alloc, members, name)?;
+    let aggregate = needed_objects(alloc, members, name)?;
     Ok(AggregateTransform { aggregate, groupby })
 }
 
 // A field of an order.
-fn sort_field_of(alloc: Global, members: &[Member]) -> Result<SortField, OutOfMemory>
-    ensures { IfOk result (λ sort. sort ≡ sort_field_of members.now) }
-{
-    Ok(SortField {
-        field: needed_field(alloc, members, "field")?,
-        order: order_at(members, "order"),
-    })
-}
+impl Object for SortField {
+    ghost built = { sort_field_of };
 
-impl Item for SortField {
-    ghost item = { λ tree. sort_field_of (members_of tree) };
-
-    fn of_item(alloc: Global, tree: &Json) -> Result<SortField, OutOfMemory> {
-        sort_field_of(alloc, members_of(tree))
+    #[tactic(auto, unfolding(crate::specs::Transforms::sort_field_of))]
+    fn of_members(alloc: Global, members: &[Member]) -> Result<SortField, OutOfMemory> {
+        let order = named_at(members, "order");
+        Ok(SortField {
+            field: needed_field(alloc, members, "field")?,
+            order,
+        })
     }
 }
 
 // An operation over the rows about a row.
-fn window_operation_of(alloc: Global, members: &[Member]) -> Result<WindowOperation, OutOfMemory>
-    ensures { IfOk result (λ operation. operation ≡ window_operation_of members.now) }
-{
-    let field = field_at(alloc, members, "field")?;
-    let as_ = needed_text(alloc, members, "as")?;
-    Ok(WindowOperation {
-        op: needed_window_operation(members, "op"),
-        field,
-        param: whole_at(members, "param"),
-        as_,
-    })
-}
+impl Object for WindowOperation {
+    ghost built = { window_operation_of };
 
-impl Item for WindowOperation {
-    ghost item = { λ tree. window_operation_of (members_of tree) };
-
-    fn of_item(alloc: Global, tree: &Json) -> Result<WindowOperation, OutOfMemory> {
-        window_operation_of(alloc, members_of(tree))
-    }
-}
-
-// Those under a name, none where there is no list.
-fn needed_window_operations(
-    alloc: Global,
-    members: &[Member],
-    name: &str,
-) -> Result<Seq<WindowOperation>, OutOfMemory>
-    ensures { IfOk result (λ operations. operations ≡ needed_window_operations members.now name.now) }
-{
-    match items_at(members, name) {
-        Some(items) => list_of(alloc, items.as_slice()),
-        None => Ok(Seq::new(alloc)),
+    #[tactic(auto, unfolding(crate::specs::Transforms::window_operation_of))]
+    fn of_members(alloc: Global, members: &[Member]) -> Result<WindowOperation, OutOfMemory> {
+        let op = window_operation_at(members, "op").unwrap_or(0);
+        let param = whole_at(members, "param");
+        let field = field_at(alloc, members, "field")?;
+        let as_ = needed_text(alloc, members, "as")?;
+        Ok(WindowOperation {
+            op,
+            field,
+            param,
+            as_,
+        })
     }
 }
 
@@ -177,32 +134,26 @@ fn frame_at(members: &[Member], name: &str) -> Option<Frame>
 }
 
 /// `window`
+#[tactic(auto, unfolding(crate::specs::Transforms::window_of))]
 pub fn window_of(alloc: Global, members: &[Member]) -> Result<WindowTransform, OutOfMemory>
     ensures { IfOk result (λ window. window ≡ window_of members.now) }
 {
+    let frame = frame_at(members, "frame");
+    let ignore_peers = flag_at(members, "ignorePeers");
     let groupby = fields_at(alloc, members, "groupby")?;
-    let sort = list_at(alloc, members, "sort")?;
-    let window = needed_window_operations(alloc, members, "window")?;
+    let sort = objects_at(alloc, members, "sort")?;
+    let window = needed_objects(alloc, members, "window")?;
     Ok(WindowTransform {
         window,
         groupby,
         sort,
-        frame: frame_at(members, "frame"),
-        ignore_peers: flag_at(members, "ignorePeers"),
+        frame,
+        ignore_peers,
     })
 }
 
-// A copy of a name, if there is one.
-fn copied_name(name: &Option<Text>) -> Result<Option<Text>, OutOfMemory>
-    ensures { IfOk result (λ copy. copy ≡ name.now) }
-{
-    match name {
-        Some(name) => Ok(Some(name.copy()?)),
-        None => Ok(None),
-    }
-}
-
 // The rows of which a lookup takes cells, those of this source.
+#[tactic(auto, unfolding(crate::specs::Transforms::lookup_from))]
 fn lookup_from(
     alloc: Global,
     source: &Option<Text>,
@@ -210,13 +161,14 @@ fn lookup_from(
 ) -> Result<LookupFrom, OutOfMemory>
     ensures { IfOk result (λ from. from ≡ lookup_from source.now members.now) }
 {
-    let data_ = copied_name(source)?;
+    let data_ = Copies::copied(source, alloc)?;
     let key = needed_field(alloc, members, "key")?;
     let fields = needed_fields(alloc, members, "fields")?;
     Ok(LookupFrom { data_, key, fields })
 }
 
 /// `lookup`, in this source.
+#[tactic(auto, unfolding(crate::specs::Transforms::lookup_of))]
 pub fn lookup_of(
     alloc: Global,
     source: &Option<Text>,
@@ -225,9 +177,9 @@ pub fn lookup_of(
     ensures { IfOk result (λ lookup. lookup ≡ lookup_of source.now members.now) }
 {
     let lookup = needed_field(alloc, members, "lookup")?;
-    let default = scalar_at(members, "default")?;
-    let as_ = one_or_several(alloc, members, "as")?;
     let from = lookup_from(alloc, source, needed_members(members, "from"))?;
+    let as_ = parts::found_at(alloc, members, "as")?;
+    let default = parts::found_at(alloc, members, "default")?;
     Ok(LookupTransform {
         lookup,
         from,

@@ -5,80 +5,64 @@ ghost use Rattle.cell_value.specs.declared.cell.Cell.TheVariants as cell;
 ghost use Rattle.vl_spec.specs.Bounds.{most_look};
 ghost use Rattle.vl_building.specs.Numbers.{between};
 ghost use Rattle.json_exact.specs.declared.json.Json.{out-Json};
-ghost use Rattle.vl_building.specs.Parts.{object_at};
-ghost use Rattle.vl_building.specs.Values.{nullable_at};
-ghost use Rattle.vl_building.specs.Guides.{axis_of, legend_of, header_of, param_domain_of, domain_in, domain_at, ranged_in, range_item, range_in, range_at, scale_of};
+ghost use Rattle.vl_building.specs.Guides.{axis_of, legend_of, header_of, param_domain_of, domain_in, ranged_in, range_item, range_in, range_at, scale_of};
 
-use crate::names::{scheme_at, side_at};
+use crate::names::named_at;
 use crate::numbers::{angle_at, share_at, tick_count_at};
-use crate::parts::{Object, flag_at, items_at, list_of, needed_text};
-use crate::several::{Part, three_parts, two_parts};
+use crate::parts::{Object, Value, list_of};
+use crate::several::{three_parts, two_parts};
 use crate::tables::{channel_at, scale_kind_at};
-use crate::values::member_value;
-use crate::{cells, numbers, parts};
+use crate::{numbers, parts};
 use cell_value::Cell;
 use fixed_num::Num;
 use json_exact::{Json, Member};
 use std::alloc::Global;
 use text_kit::{OutOfMemory, Seq};
+use tree_readers::{flag_at, items_at, needed_text};
 use vl_spec::{Axis, Domain, Header, Legend, MOST_LOOK, ParamDomain, Scale};
 
 impl Object for Axis {
     ghost built = { axis_of };
 
+    #[tactic(auto, unfolding(crate::specs::Guides::axis_of))]
     fn of_members(alloc: Global, members: &[Member]) -> Result<Axis, OutOfMemory> {
+        let labels = flag_at(members, "labels");
+        let ticks = flag_at(members, "ticks");
+        let domain = flag_at(members, "domain");
+        let grid = flag_at(members, "grid");
+        let label_angle = angle_at(members, "labelAngle");
+        let tick_count = tick_count_at(members, "tickCount");
+        let orient = named_at(members, "orient");
         let (title, format, values) = three_parts(alloc, members, "title", "format", "values")?;
         Ok(Axis {
             title,
-            labels: flag_at(members, "labels"),
-            ticks: flag_at(members, "ticks"),
-            domain: flag_at(members, "domain"),
-            grid: flag_at(members, "grid"),
-            label_angle: angle_at(members, "labelAngle"),
-            tick_count: tick_count_at(members, "tickCount"),
+            labels,
+            ticks,
+            domain,
+            grid,
+            label_angle,
+            tick_count,
             values,
-            orient: side_at(members, "orient"),
+            orient,
             format,
         })
-    }
-}
-
-impl Part for Option<Option<Axis>> {
-    ghost part = { nullable_at axis_of };
-
-    fn part_at(
-        alloc: Global,
-        members: &[Member],
-        name: &str,
-    ) -> Result<Option<Option<Axis>>, OutOfMemory> {
-        cells::nullable_at(alloc, members, name)
     }
 }
 
 impl Object for Legend {
     ghost built = { legend_of };
 
+    #[tactic(auto, unfolding(crate::specs::Guides::legend_of))]
     fn of_members(alloc: Global, members: &[Member]) -> Result<Legend, OutOfMemory> {
         let (title, format) = two_parts(alloc, members, "title", "format")?;
         Ok(Legend { title, format })
     }
 }
 
-impl Part for Option<Option<Legend>> {
-    ghost part = { nullable_at legend_of };
-
-    fn part_at(
-        alloc: Global,
-        members: &[Member],
-        name: &str,
-    ) -> Result<Option<Option<Legend>>, OutOfMemory> {
-        cells::nullable_at(alloc, members, name)
-    }
-}
-
 impl Object for Header {
     ghost built = { header_of };
 
+    #[tactic(auto, unfolding(crate::specs::Guides::header_of))]
     fn of_members(_: Global, members: &[Member]) -> Result<Header, OutOfMemory> {
         Ok(Header {
             labels: flag_at(members, "labels"),
@@ -89,35 +73,29 @@ impl Object for Header {
 impl Object for ParamDomain {
     ghost built = { param_domain_of };
 
+    #[tactic(auto, unfolding(crate::specs::Guides::param_domain_of))]
     fn of_members(alloc: Global, members: &[Member]) -> Result<ParamDomain, OutOfMemory> {
+        let encoding = channel_at(members, "encoding");
         Ok(ParamDomain {
             param: needed_text(alloc, members, "param")?,
-            encoding: channel_at(members, "encoding"),
+            encoding,
         })
     }
 }
 
 // A domain: a list of cells, or what a selection gives.
-fn domain_in(alloc: Global, tree: &Json) -> Result<Option<Domain>, OutOfMemory>
-    ensures { IfOk result (λ domain. domain ≡ domain_in (out-Json tree.now)) }
-{
-    match tree {
-        Json::List(items) => Ok(Some(Domain::Cells(list_of(alloc, items.as_slice())?))),
-        Json::Object(members) => Ok(Some(Domain::Param(ParamDomain::of_members(
-            alloc,
-            members.as_slice(),
-        )?))),
-        Json::Null | Json::Flag(_) | Json::Number(_) | Json::Huge | Json::Text(_) => Ok(None),
-    }
-}
+impl Value for Domain {
+    ghost read = { domain_in };
 
-// The domain under a name.
-fn domain_at(alloc: Global, members: &[Member], name: &str) -> Result<Option<Domain>, OutOfMemory>
-    ensures { IfOk result (λ domain. domain ≡ domain_at members.now name.now) }
-{
-    match member_value(members, name) {
-        Some(tree) => domain_in(alloc, tree),
-        None => Ok(None),
+    fn of_value(alloc: Global, tree: &Json) -> Result<Option<Domain>, OutOfMemory> {
+        match tree {
+            Json::List(items) => Ok(Some(Domain::Cells(list_of(alloc, items.as_slice())?))),
+            Json::Object(members) => Ok(Some(Domain::Param(ParamDomain::of_members(
+                alloc,
+                members.as_slice(),
+            )?))),
+            Json::Null | Json::Flag(_) | Json::Number(_) | Json::Huge | Json::Text(_) => Ok(None),
+        }
     }
 }
 
@@ -186,32 +164,29 @@ fn range_at(alloc: Global, members: &[Member], name: &str) -> Result<Option<Seq<
 impl Object for Scale {
     ghost built = { scale_of };
 
+    #[tactic(auto, unfolding(crate::specs::Guides::scale_of))]
     fn of_members(alloc: Global, members: &[Member]) -> Result<Scale, OutOfMemory> {
+        let type_ = scale_kind_at(members, "type");
+        let scheme = named_at(members, "scheme");
+        let zero = flag_at(members, "zero");
+        let nice = flag_at(members, "nice");
+        let padding = share_at(members, "padding");
+        let padding_inner = share_at(members, "paddingInner");
+        let padding_outer = share_at(members, "paddingOuter");
+        let reverse = flag_at(members, "reverse");
         let range = range_at(alloc, members, "range")?;
-        let domain = domain_at(alloc, members, "domain")?;
+        let domain = parts::found_at(alloc, members, "domain")?;
         Ok(Scale {
-            type_: scale_kind_at(members, "type"),
+            type_,
             domain,
             range,
-            scheme: scheme_at(members, "scheme"),
-            zero: flag_at(members, "zero"),
-            nice: flag_at(members, "nice"),
-            padding: share_at(members, "padding"),
-            padding_inner: share_at(members, "paddingInner"),
-            padding_outer: share_at(members, "paddingOuter"),
-            reverse: flag_at(members, "reverse"),
+            scheme,
+            zero,
+            nice,
+            padding,
+            padding_inner,
+            padding_outer,
+            reverse,
         })
-    }
-}
-
-impl Part for Option<Scale> {
-    ghost part = { object_at scale_of };
-
-    fn part_at(
-        alloc: Global,
-        members: &[Member],
-        name: &str,
-    ) -> Result<Option<Scale>, OutOfMemory> {
-        parts::object_at(alloc, members, name)
     }
 }

@@ -1,4 +1,4 @@
-// Datasets and data by the names of their sources, and data and parameters by their places.
+// Datasets and data by the names of their sources, and data and parameters by their places: the first of those that a key finds.
 ghost use Rattle.std.specs.Prelude.{◌≡◌, ℕ, List, cond, Some, bytes_eq, IfOk, OnOk};
 ghost use Rattle.vl_building.specs.Sources.{is_named, gives_named};
 ghost use Rattle.vl_building.specs.Spec.{is_data_at, is_param_at};
@@ -33,88 +33,6 @@ fn put_name(alloc: Global, index: &mut Keyed, number: usize, name: &str) -> Resu
     put(index, key.into_vec(), number)
 }
 
-// Puts the number of data under the name of its source.
-fn put_data(
-    alloc: Global,
-    index: &mut Keyed,
-    number: usize,
-    named: &NamedData,
-) -> Result<(), OutOfMemory>
-    ensures { OnOk result ((q : List ℕ) → number_at index.new q ≡ cond (is_named q named.now) (Some number) (number_at index.old q)) }
-{
-    match &named.source {
-        Some(name) => put_name(alloc, index, number, name.as_str()),
-        None => Ok(()),
-    }
-}
-
-/// Data by the names of their sources: the first of those with one name.
-pub fn by_names(alloc: Global, all: &[NamedData]) -> Result<Keyed, OutOfMemory>
-    ensures { IfOk result (λ index. IsIndex is_named index all.now) }
-{
-    let mut index = no_numbers(alloc);
-    let mut left = all.len();
-    while left > 0 {
-        left -= 1;
-        put_data(alloc, &mut index, left, &all[left])?;
-    }
-    Ok(index)
-}
-
-// Puts the number of data that gives rows under the name of its source.
-fn put_giver(
-    alloc: Global,
-    index: &mut Keyed,
-    number: usize,
-    named: &NamedData,
-) -> Result<(), OutOfMemory>
-    ensures { OnOk result ((q : List ℕ) → number_at index.new q ≡ cond (gives_named q named.now) (Some number) (number_at index.old q)) }
-{
-    if gives(&named.data_) {
-        put_data(alloc, index, number, named)
-    } else {
-        Ok(())
-    }
-}
-
-/// The same of those that give rows.
-pub fn by_givers(alloc: Global, all: &[NamedData]) -> Result<Keyed, OutOfMemory>
-    ensures { IfOk result (λ index. IsIndex gives_named index all.now) }
-{
-    let mut index = no_numbers(alloc);
-    let mut left = all.len();
-    while left > 0 {
-        left -= 1;
-        put_giver(alloc, &mut index, left, &all[left])?;
-    }
-    Ok(index)
-}
-
-// Puts the number of a dataset under its name.
-fn put_dataset(
-    alloc: Global,
-    index: &mut Keyed,
-    number: usize,
-    dataset: &Member,
-) -> Result<(), OutOfMemory>
-    ensures { OnOk result ((q : List ℕ) → number_at index.new q ≡ cond (is_dataset q dataset.now) (Some number) (number_at index.old q)) }
-{
-    put_name(alloc, index, number, dataset.name.as_str())
-}
-
-/// Datasets by their names.
-pub fn by_datasets(alloc: Global, datasets: &[Member]) -> Result<Keyed, OutOfMemory>
-    ensures { IfOk result (λ index. IsIndex is_dataset index datasets.now) }
-{
-    let mut index = no_numbers(alloc);
-    let mut left = datasets.len();
-    while left > 0 {
-        left -= 1;
-        put_dataset(alloc, &mut index, left, &datasets[left])?;
-    }
-    Ok(index)
-}
-
 // Puts a number under a place.
 fn put_place(
     alloc: Global,
@@ -128,52 +46,118 @@ fn put_place(
     put(index, key.into_vec(), number)
 }
 
-// Puts the number of data under its place.
-fn put_data_place(
-    alloc: Global,
-    index: &mut Keyed,
-    number: usize,
-    named: &NamedData,
-) -> Result<(), OutOfMemory>
-    ensures { OnOk result ((q : List ℕ) → number_at index.new q ≡ cond (is_data_at q named.now) (Some number) (number_at index.old q)) }
-{
-    put_place(alloc, index, number, named.data_.place.as_slice())
+/// How keys find the elements of a list.
+pub trait Finding<T> {
+    ghost use Rattle.std.specs.Prelude.{Bool, List, ℕ};
+
+    ghost finds: { List ℕ → T → Bool };
+
+    /// Puts the number of an element under the keys that find it.
+    fn put_number(
+        alloc: Global,
+        index: &mut Keyed,
+        number: usize,
+        item: &T,
+    ) -> Result<(), OutOfMemory>
+        ensures { OnOk result ((q : List ℕ) → number_at index.new q ≡ cond (finds q item.now) (Some number) (number_at index.old q)) };
 }
 
-/// Data by their places.
-pub fn data_by_places(alloc: Global, all: &[NamedData]) -> Result<Keyed, OutOfMemory>
-    ensures { IfOk result (λ index. IsIndex is_data_at index all.now) }
+/// The numbers of elements by their keys: the first of those that a key finds.
+pub fn indexed<T, F: Finding<T>>(alloc: Global, all: &[T]) -> Result<Keyed, OutOfMemory>
+    ensures { IfOk result (λ index. IsIndex F.finds index all.now) }
 {
     let mut index = no_numbers(alloc);
     let mut left = all.len();
     while left > 0 {
         left -= 1;
-        put_data_place(alloc, &mut index, left, &all[left])?;
+        F::put_number(alloc, &mut index, left, &all[left])?;
     }
     Ok(index)
 }
 
-// Puts the number of a parameter under its place.
-fn put_param_place(
-    alloc: Global,
-    index: &mut Keyed,
-    number: usize,
-    param: &ParamAt,
-) -> Result<(), OutOfMemory>
-    ensures { OnOk result ((q : List ℕ) → number_at index.new q ≡ cond (is_param_at q param.now) (Some number) (number_at index.old q)) }
-{
-    put_place(alloc, index, number, param.place.as_slice())
+/// Data by the names of their sources.
+pub struct SourceNames;
+
+impl Finding<NamedData> for SourceNames {
+    ghost finds = { is_named };
+
+    fn put_number(
+        alloc: Global,
+        index: &mut Keyed,
+        number: usize,
+        item: &NamedData,
+    ) -> Result<(), OutOfMemory> {
+        match &item.source {
+            Some(name) => put_name(alloc, index, number, name.as_str()),
+            None => Ok(()),
+        }
+    }
+}
+
+/// Data that give rows, by the names of their sources.
+pub struct GiverNames;
+
+impl Finding<NamedData> for GiverNames {
+    ghost finds = { gives_named };
+
+    fn put_number(
+        alloc: Global,
+        index: &mut Keyed,
+        number: usize,
+        item: &NamedData,
+    ) -> Result<(), OutOfMemory> {
+        if gives(&item.data_) {
+            SourceNames::put_number(alloc, index, number, item)
+        } else {
+            Ok(())
+        }
+    }
+}
+
+/// Datasets by their names.
+pub struct DatasetNames;
+
+impl Finding<Member> for DatasetNames {
+    ghost finds = { is_dataset };
+
+    fn put_number(
+        alloc: Global,
+        index: &mut Keyed,
+        number: usize,
+        item: &Member,
+    ) -> Result<(), OutOfMemory> {
+        put_name(alloc, index, number, item.name.as_str())
+    }
+}
+
+/// Data by their places.
+pub struct DataPlaces;
+
+impl Finding<NamedData> for DataPlaces {
+    ghost finds = { is_data_at };
+
+    fn put_number(
+        alloc: Global,
+        index: &mut Keyed,
+        number: usize,
+        item: &NamedData,
+    ) -> Result<(), OutOfMemory> {
+        put_place(alloc, index, number, item.data_.place.as_slice())
+    }
 }
 
 /// Parameters by their places.
-pub fn params_by_places(alloc: Global, params: &[ParamAt]) -> Result<Keyed, OutOfMemory>
-    ensures { IfOk result (λ index. IsIndex is_param_at index params.now) }
-{
-    let mut index = no_numbers(alloc);
-    let mut left = params.len();
-    while left > 0 {
-        left -= 1;
-        put_param_place(alloc, &mut index, left, &params[left])?;
+pub struct ParamPlaces;
+
+impl Finding<ParamAt> for ParamPlaces {
+    ghost finds = { is_param_at };
+
+    fn put_number(
+        alloc: Global,
+        index: &mut Keyed,
+        number: usize,
+        item: &ParamAt,
+    ) -> Result<(), OutOfMemory> {
+        put_place(alloc, index, number, item.place.as_slice())
     }
-    Ok(index)
 }

@@ -27,7 +27,6 @@ mod spec;
 mod tables;
 mod taken;
 mod transforms;
-mod values;
 mod views;
 
 pub use spec::spec_of;

@@ -1,26 +1,20 @@
 // Marks, parameters and selections.
 ghost use Rattle.std.specs.Prelude.{◌≡◌, IfOk};
-ghost use Rattle.json_exact.specs.declared.json.Json.{out-Json};
-ghost use Rattle.vl_building.specs.Parts.{found_at};
-ghost use Rattle.vl_building.specs.Marks.{is_sign, sign_size_at, mark_definition_of, mark_named, mark_in, mark_at, clear_named, clear_in, toggle_named, toggle_in, select_definition_of, select_named, select_in, needed_select, selection_of, needed_cell, param_kind_of, param_of};
+ghost use Rattle.vl_building.specs.Marks.{is_sign, sign_size_at, mark_definition_of, mark_named, mark_in, mark_at, clear_in, toggle_in, select_definition_of, select_named, select_in, selection_of, param_kind_of, param_of};
 
 use crate::fields::fields_at;
-use crate::names::{
-    align_at, baseline_at, interpolate_at, mark_type_named, needed_mark_type, needed_select_type,
-    select_event_at, select_type_named,
-};
+use crate::names::{ByName, named_at, select_event_at};
 use crate::numbers::{count_at, look_at, share_at, shift_at};
-use crate::parts::{
-    cell_at, flag_at, has_member, list_at, needed_expression, needed_text, text_at,
-};
+use crate::parts;
+use crate::parts::{Plain, Value, list_at, needed_expression, plain_at};
 use crate::several::Part;
 use crate::tables::channels_at;
-use crate::values::member_value;
 use cell_value::Cell;
 use fixed_num::Num;
 use json_exact::{Json, Member};
 use std::alloc::Global;
 use text_kit::OutOfMemory;
+use tree_readers::{cell_at, flag_at, has_member, needed_text, text_at};
 use vl_spec::{
     Clear, Mark, MarkDefinition, MarkType, ParamKind, ParamOf, Select, SelectDefinition,
     SelectType, Selection, Toggle,
@@ -54,25 +48,37 @@ fn sign_size_at(type_: MarkType, members: &[Member], name: &str) -> Option<Num>
 }
 
 // The type and the look of a mark.
+#[tactic(auto, unfolding(crate::specs::Marks::mark_definition_of))]
 fn mark_definition_of(members: &[Member]) -> Result<MarkDefinition, OutOfMemory>
     ensures { IfOk result (λ mark. mark ≡ mark_definition_of members.now) }
 {
+    let type_ = named_at(members, "type").unwrap_or(MarkType::Bar);
+    let opacity = share_at(members, "opacity");
+    let filled = flag_at(members, "filled");
+    let point = flag_at(members, "point");
+    let size = sign_size_at(type_, members, "size");
+    let stroke_width = look_at(members, "strokeWidth");
+    let align = named_at(members, "align");
+    let baseline = named_at(members, "baseline");
+    let dx = shift_at(members, "dx");
+    let dy = shift_at(members, "dy");
+    let font_size = count_at(members, "fontSize");
+    let interpolate = named_at(members, "interpolate");
     let color = text_at(members, "color")?;
-    let type_ = needed_mark_type(members, "type");
     Ok(MarkDefinition {
         type_,
         color,
-        opacity: share_at(members, "opacity"),
-        filled: flag_at(members, "filled"),
-        point: flag_at(members, "point"),
-        size: sign_size_at(type_, members, "size"),
-        stroke_width: look_at(members, "strokeWidth"),
-        align: align_at(members, "align"),
-        baseline: baseline_at(members, "baseline"),
-        dx: shift_at(members, "dx"),
-        dy: shift_at(members, "dy"),
-        font_size: count_at(members, "fontSize"),
-        interpolate: interpolate_at(members, "interpolate"),
+        opacity,
+        filled,
+        point,
+        size,
+        stroke_width,
+        align,
+        baseline,
+        dx,
+        dy,
+        font_size,
+        interpolate,
     })
 }
 
@@ -80,115 +86,98 @@ fn mark_definition_of(members: &[Member]) -> Result<MarkDefinition, OutOfMemory>
 fn mark_named(name: &str) -> Option<Mark>
     ensures { result ≡ mark_named name.now }
 {
-    Some(Mark::Type(mark_type_named(name)?))
+    Some(Mark::Type(MarkType::by_name(name)?))
 }
 
 // A mark: the name of its type, or an object.
-fn mark_in(tree: &Json) -> Result<Option<Mark>, OutOfMemory>
-    ensures { IfOk result (λ mark. mark ≡ mark_in (out-Json tree.now)) }
-{
-    match tree {
-        Json::Text(text) => Ok(mark_named(text.as_str())),
-        Json::Object(members) => Ok(Some(Mark::Definition(mark_definition_of(
-            members.as_slice(),
-        )?))),
-        Json::Null | Json::Flag(_) | Json::Number(_) | Json::Huge | Json::List(_) => Ok(None),
+impl Value for Mark {
+    ghost read = { mark_in };
+
+    fn of_value(_: Global, tree: &Json) -> Result<Option<Mark>, OutOfMemory> {
+        match tree {
+            Json::Text(text) => Ok(mark_named(text.as_str())),
+            Json::Object(members) => Ok(Some(Mark::Definition(mark_definition_of(
+                members.as_slice(),
+            )?))),
+            Json::Null | Json::Flag(_) | Json::Number(_) | Json::Huge | Json::List(_) => Ok(None),
+        }
     }
 }
 
 impl Part for Option<Mark> {
     ghost part = { mark_at };
 
-    fn part_at(_: Global, members: &[Member], name: &str) -> Result<Option<Mark>, OutOfMemory> {
-        match member_value(members, name) {
-            Some(tree) => mark_in(tree),
-            None => Ok(None),
-        }
-    }
-}
-
-// The event that clears a selection, by its name.
-fn clear_named(name: &str) -> Option<Clear>
-    ensures { result ≡ clear_named name.now }
-{
-    if name == "dblclick" {
-        Some(Clear::DoubleClick)
-    } else {
-        None
+    fn part_at(alloc: Global, members: &[Member], name: &str) -> Result<Option<Mark>, OutOfMemory> {
+        parts::found_at(alloc, members, name)
     }
 }
 
 // The event that clears a selection.
-fn clear_in(tree: &Json) -> Option<Clear>
-    ensures { result ≡ clear_in (out-Json tree.now) }
-{
-    match tree {
-        Json::Flag(true) => Some(Clear::True),
-        Json::Text(text) => clear_named(text.as_str()),
-        Json::Null
-        | Json::Flag(false)
-        | Json::Number(_)
-        | Json::Huge
-        | Json::List(_)
-        | Json::Object(_) => None,
-    }
-}
+impl Plain for Clear {
+    ghost plain = { clear_in };
 
-// The same under a name.
-fn clear_at(members: &[Member], name: &str) -> Option<Clear>
-    ensures { result ≡ found_at clear_in members.now name.now }
-{
-    clear_in(member_value(members, name)?)
-}
-
-// The event that toggles one, by its name.
-fn toggle_named(name: &str) -> Option<Toggle>
-    ensures { result ≡ toggle_named name.now }
-{
-    if name == "event.shiftKey" {
-        Some(Toggle::ShiftKey)
-    } else {
-        None
+    fn of_plain(tree: &Json) -> Option<Clear> {
+        match tree {
+            Json::Flag(true) => Some(Clear::True),
+            Json::Text(text) => {
+                if text.as_str() == "dblclick" {
+                    Some(Clear::DoubleClick)
+                } else {
+                    None
+                }
+            }
+            Json::Null
+            | Json::Flag(false)
+            | Json::Number(_)
+            | Json::Huge
+            | Json::List(_)
+            | Json::Object(_) => None,
+        }
     }
 }
 
 // The event that toggles one.
-fn toggle_in(tree: &Json) -> Option<Toggle>
-    ensures { result ≡ toggle_in (out-Json tree.now) }
-{
-    match tree {
-        Json::Flag(true) => Some(Toggle::True),
-        Json::Text(text) => toggle_named(text.as_str()),
-        Json::Null
-        | Json::Flag(false)
-        | Json::Number(_)
-        | Json::Huge
-        | Json::List(_)
-        | Json::Object(_) => None,
+impl Plain for Toggle {
+    ghost plain = { toggle_in };
+
+    fn of_plain(tree: &Json) -> Option<Toggle> {
+        match tree {
+            Json::Flag(true) => Some(Toggle::True),
+            Json::Text(text) => {
+                if text.as_str() == "event.shiftKey" {
+                    Some(Toggle::ShiftKey)
+                } else {
+                    None
+                }
+            }
+            Json::Null
+            | Json::Flag(false)
+            | Json::Number(_)
+            | Json::Huge
+            | Json::List(_)
+            | Json::Object(_) => None,
+        }
     }
 }
 
-// The same under a name.
-fn toggle_at(members: &[Member], name: &str) -> Option<Toggle>
-    ensures { result ≡ found_at toggle_in members.now name.now }
-{
-    toggle_in(member_value(members, name)?)
-}
-
 // The type of a selection, what it keeps and when it changes.
+#[tactic(auto, unfolding(crate::specs::Marks::select_definition_of))]
 fn select_definition_of(alloc: Global, members: &[Member]) -> Result<SelectDefinition, OutOfMemory>
     ensures { IfOk result (λ select. select ≡ select_definition_of members.now) }
 {
+    let type_ = named_at(members, "type").unwrap_or(SelectType::Point);
+    let on = select_event_at(members, type_, "on");
+    let clear = plain_at(members, "clear");
+    let toggle = plain_at(members, "toggle");
     let encodings = channels_at(alloc, members, "encodings")?;
     let fields = fields_at(alloc, members, "fields")?;
-    let type_ = needed_select_type(members, "type");
     Ok(SelectDefinition {
         type_,
         fields,
         encodings,
-        on: select_event_at(members, type_, "on"),
-        clear: clear_at(members, "clear"),
-        toggle: toggle_at(members, "toggle"),
+        on,
+        clear,
+        toggle,
     })
 }
 
@@ -196,63 +185,40 @@ fn select_definition_of(alloc: Global, members: &[Member]) -> Result<SelectDefin
 fn select_named(name: &str) -> Option<Select>
     ensures { result ≡ select_named name.now }
 {
-    Some(Select::Type(select_type_named(name)?))
+    Some(Select::Type(SelectType::by_name(name)?))
 }
 
 // What a selection keeps: the name of its type, or an object.
-fn select_in(alloc: Global, tree: &Json) -> Result<Option<Select>, OutOfMemory>
-    ensures { IfOk result (λ select. select ≡ select_in (out-Json tree.now)) }
-{
-    match tree {
-        Json::Text(text) => Ok(select_named(text.as_str())),
-        Json::Object(members) => Ok(Some(Select::Definition(select_definition_of(
-            alloc,
-            members.as_slice(),
-        )?))),
-        Json::Null | Json::Flag(_) | Json::Number(_) | Json::Huge | Json::List(_) => Ok(None),
-    }
-}
+impl Value for Select {
+    ghost read = { select_in };
 
-// The same under a name.
-fn select_at(alloc: Global, members: &[Member], name: &str) -> Result<Option<Select>, OutOfMemory>
-    ensures { IfOk result (λ select. select ≡ found_at select_in members.now name.now) }
-{
-    match member_value(members, name) {
-        Some(tree) => select_in(alloc, tree),
-        None => Ok(None),
-    }
-}
-
-// The same, of points where there is none.
-fn needed_select(alloc: Global, members: &[Member], name: &str) -> Result<Select, OutOfMemory>
-    ensures { IfOk result (λ select. select ≡ needed_select members.now name.now) }
-{
-    match select_at(alloc, members, name)? {
-        Some(select) => Ok(select),
-        None => Ok(Select::Type(SelectType::Point)),
+    fn of_value(alloc: Global, tree: &Json) -> Result<Option<Select>, OutOfMemory> {
+        match tree {
+            Json::Text(text) => Ok(select_named(text.as_str())),
+            Json::Object(members) => Ok(Some(Select::Definition(select_definition_of(
+                alloc,
+                members.as_slice(),
+            )?))),
+            Json::Null | Json::Flag(_) | Json::Number(_) | Json::Huge | Json::List(_) => Ok(None),
+        }
     }
 }
 
 // A selection.
+#[tactic(auto, unfolding(crate::specs::Marks::selection_of))]
 fn selection_of(alloc: Global, members: &[Member]) -> Result<Selection, OutOfMemory>
     ensures { IfOk result (λ selection. selection ≡ selection_of members.now) }
 {
     let views = list_at(alloc, members, "views")?;
-    let select = needed_select(alloc, members, "select")?;
-    Ok(Selection { views, select })
-}
-
-// The cell under a name, null where there is none.
-fn needed_cell(members: &[Member], name: &str) -> Result<Cell, OutOfMemory>
-    ensures { IfOk result (λ cell. cell ≡ needed_cell members.now name.now) }
-{
-    match cell_at(members, name)? {
-        Some(cell) => Ok(cell),
-        None => Ok(Cell::Null),
-    }
+    let select = parts::found_at(alloc, members, "select")?;
+    Ok(Selection {
+        views,
+        select: select.unwrap_or(Select::Type(SelectType::Point)),
+    })
 }
 
 // What a parameter is, by the first of these members that is there.
+#[tactic(auto, unfolding(crate::specs::Marks::param_kind_of))]
 fn param_kind_of(alloc: Global, members: &[Member]) -> Result<ParamKind, OutOfMemory>
     ensures { IfOk result (λ kind. kind ≡ param_kind_of members.now) }
 {
@@ -261,11 +227,12 @@ fn param_kind_of(alloc: Global, members: &[Member]) -> Result<ParamKind, OutOfMe
     } else if has_member(members, "expr") {
         Ok(ParamKind::Expr(needed_expression(alloc, members, "expr")?))
     } else {
-        Ok(ParamKind::Value(needed_cell(members, "value")?))
+        Ok(ParamKind::Value(cell_at(members, "value")?.unwrap_or(Cell::Null)))
     }
 }
 
 /// A parameter.
+#[tactic(auto, unfolding(crate::specs::Marks::param_of))]
 pub fn param_of(alloc: Global, members: &[Member]) -> Result<ParamOf, OutOfMemory>
     ensures { IfOk result (λ param. param ≡ param_of members.now) }
 {

@@ -1,224 +1,177 @@
 // What names stand for.
 ghost use Rattle.std.specs.Prelude.{◌≡◌};
-ghost use Rattle.vl_building.specs.Names.{named_at, order_named, offset_named, format_kind_named, parse_kind_named, mark_type_named, align_named, baseline_named, interpolate_named, select_type_named, select_event_named, field_type_named, scheme_named, sharing_named, side_named, autosize_named};
 ghost use Rattle.vl_spec.specs.declared.params.SelectType.TheVariants as select_type;
-ghost use Rattle.vl_building.specs.Names.{named_in, parse_kind_of, needed_mark_type, needed_select_type};
+ghost use Rattle.vl_building.specs.Names.{named_at, named_in, order_named, offset_named, format_kind_named, parse_kind_named, mark_type_named, align_named, baseline_named, interpolate_named, select_type_named, select_event_named, field_type_named, scheme_named, sharing_named, side_named, autosize_named};
 
-use crate::parts::word_at;
-use crate::values::text_in;
 use json_exact::{Json, Member};
+use tree_readers::{text_in, word_at};
 use vl_spec::{
     Align, Autosize, Baseline, FieldType, FormatKind, Interpolate, MarkType, Offset, Order,
     ParseKind, Scheme, SelectEvent, SelectType, Sharing, Side,
 };
 
-// A direction by its name.
-fn order_named(name: &str) -> Option<Order>
-    ensures { result ≡ order_named name.now }
+/// What names stand for.
+pub trait ByName: Sized {
+    ghost use Rattle.std.specs.Prelude.{List, Option, ℕ};
+
+    ghost named: { List ℕ → Option Self };
+
+    /// What a name stands for.
+    fn by_name(name: &str) -> Option<Self>
+        ensures { result ≡ named name.now };
+}
+
+/// What the name under a name stands for.
+pub fn named_at<T: ByName>(members: &[Member], name: &str) -> Option<T>
+    ensures { result ≡ named_at T.named members.now name.now }
 {
-    if name == "ascending" {
-        Some(Order::Ascending)
-    } else if name == "descending" {
-        Some(Order::Descending)
-    } else {
-        None
+    T::by_name(word_at(members, name)?.as_str())
+}
+
+/// What a value that is a name stands for.
+pub fn named_in<T: ByName>(tree: &Json) -> Option<T>
+    ensures { result ≡ named_in T.named tree.now }
+{
+    T::by_name(text_in(tree)?.as_str())
+}
+
+impl ByName for Order {
+    ghost named = { order_named };
+
+    #[tactic(auto, unfolding(crate::specs::Names::order_named))]
+    fn by_name(name: &str) -> Option<Order> {
+        match name {
+            "ascending" => Some(Order::Ascending),
+            "descending" => Some(Order::Descending),
+            _ => None,
+        }
     }
 }
 
-/// The direction under a name.
-pub fn order_at(members: &[Member], name: &str) -> Option<Order>
-    ensures { result ≡ named_at order_named members.now name.now }
-{
-    order_named(word_at(members, name)?.as_str())
-}
+impl ByName for Offset {
+    ghost named = { offset_named };
 
-/// A beginning of stacks by its name.
-pub fn offset_named(name: &str) -> Option<Offset>
-    ensures { result ≡ offset_named name.now }
-{
-    if name == "zero" {
-        Some(Offset::Zero)
-    } else if name == "normalize" {
-        Some(Offset::Normalize)
-    } else if name == "center" {
-        Some(Offset::Center)
-    } else {
-        None
+    #[tactic(auto, unfolding(crate::specs::Names::offset_named))]
+    fn by_name(name: &str) -> Option<Offset> {
+        match name {
+            "zero" => Some(Offset::Zero),
+            "normalize" => Some(Offset::Normalize),
+            "center" => Some(Offset::Center),
+            _ => None,
+        }
     }
 }
 
-/// The beginning of stacks under a name.
-pub fn offset_at(members: &[Member], name: &str) -> Option<Offset>
-    ensures { result ≡ named_at offset_named members.now name.now }
-{
-    offset_named(word_at(members, name)?.as_str())
-}
+impl ByName for FormatKind {
+    ghost named = { format_kind_named };
 
-// A type of data files by its name.
-fn format_kind_named(name: &str) -> Option<FormatKind>
-    ensures { result ≡ format_kind_named name.now }
-{
-    if name == "json" {
-        Some(FormatKind::Json)
-    } else if name == "csv" {
-        Some(FormatKind::Csv)
-    } else {
-        None
+    #[tactic(auto, unfolding(crate::specs::Names::format_kind_named))]
+    fn by_name(name: &str) -> Option<FormatKind> {
+        match name {
+            "json" => Some(FormatKind::Json),
+            "csv" => Some(FormatKind::Csv),
+            _ => None,
+        }
     }
 }
 
-/// The type of a data file under a name.
-pub fn format_kind_at(members: &[Member], name: &str) -> Option<FormatKind>
-    ensures { result ≡ named_at format_kind_named members.now name.now }
-{
-    format_kind_named(word_at(members, name)?.as_str())
-}
+impl ByName for ParseKind {
+    ghost named = { parse_kind_named };
 
-// A reading of texts by its name.
-fn parse_kind_named(name: &str) -> Option<ParseKind>
-    ensures { result ≡ parse_kind_named name.now }
-{
-    if name == "number" {
-        Some(ParseKind::Number)
-    } else if name == "boolean" {
-        Some(ParseKind::Boolean)
-    } else if name == "string" {
-        Some(ParseKind::String)
-    } else if name == "date" {
-        Some(ParseKind::Date)
-    } else {
-        None
+    #[tactic(auto, unfolding(crate::specs::Names::parse_kind_named))]
+    fn by_name(name: &str) -> Option<ParseKind> {
+        match name {
+            "number" => Some(ParseKind::Number),
+            "boolean" => Some(ParseKind::Boolean),
+            "string" => Some(ParseKind::String),
+            "date" => Some(ParseKind::Date),
+            _ => None,
+        }
     }
 }
 
-/// A type of marks by its name.
-pub fn mark_type_named(name: &str) -> Option<MarkType>
-    ensures { result ≡ mark_type_named name.now }
-{
-    if name == "bar" {
-        Some(MarkType::Bar)
-    } else if name == "rect" {
-        Some(MarkType::Rect)
-    } else if name == "point" {
-        Some(MarkType::Point)
-    } else if name == "circle" {
-        Some(MarkType::Circle)
-    } else if name == "square" {
-        Some(MarkType::Square)
-    } else if name == "line" {
-        Some(MarkType::Line)
-    } else if name == "area" {
-        Some(MarkType::Area)
-    } else if name == "tick" {
-        Some(MarkType::Tick)
-    } else if name == "rule" {
-        Some(MarkType::Rule)
-    } else if name == "text" {
-        Some(MarkType::Text)
-    } else {
-        None
+impl ByName for MarkType {
+    ghost named = { mark_type_named };
+
+    #[tactic(auto, unfolding(crate::specs::Names::mark_type_named))]
+    fn by_name(name: &str) -> Option<MarkType> {
+        match name {
+            "bar" => Some(MarkType::Bar),
+            "rect" => Some(MarkType::Rect),
+            "point" => Some(MarkType::Point),
+            "circle" => Some(MarkType::Circle),
+            "square" => Some(MarkType::Square),
+            "line" => Some(MarkType::Line),
+            "area" => Some(MarkType::Area),
+            "tick" => Some(MarkType::Tick),
+            "rule" => Some(MarkType::Rule),
+            "text" => Some(MarkType::Text),
+            _ => None,
+        }
     }
 }
 
-/// The type of a mark under a name.
-pub fn mark_type_at(members: &[Member], name: &str) -> Option<MarkType>
-    ensures { result ≡ named_at mark_type_named members.now name.now }
-{
-    mark_type_named(word_at(members, name)?.as_str())
-}
+impl ByName for Align {
+    ghost named = { align_named };
 
-// An anchor of texts by its name.
-fn align_named(name: &str) -> Option<Align>
-    ensures { result ≡ align_named name.now }
-{
-    if name == "left" {
-        Some(Align::Left)
-    } else if name == "center" {
-        Some(Align::Center)
-    } else if name == "right" {
-        Some(Align::Right)
-    } else {
-        None
+    #[tactic(auto, unfolding(crate::specs::Names::align_named))]
+    fn by_name(name: &str) -> Option<Align> {
+        match name {
+            "left" => Some(Align::Left),
+            "center" => Some(Align::Center),
+            "right" => Some(Align::Right),
+            _ => None,
+        }
     }
 }
 
-/// The anchor of a text under a name.
-pub fn align_at(members: &[Member], name: &str) -> Option<Align>
-    ensures { result ≡ named_at align_named members.now name.now }
-{
-    align_named(word_at(members, name)?.as_str())
-}
+impl ByName for Baseline {
+    ghost named = { baseline_named };
 
-// A baseline of texts by its name.
-fn baseline_named(name: &str) -> Option<Baseline>
-    ensures { result ≡ baseline_named name.now }
-{
-    if name == "top" {
-        Some(Baseline::Top)
-    } else if name == "middle" {
-        Some(Baseline::Middle)
-    } else if name == "bottom" {
-        Some(Baseline::Bottom)
-    } else if name == "alphabetic" {
-        Some(Baseline::Alphabetic)
-    } else {
-        None
+    #[tactic(auto, unfolding(crate::specs::Names::baseline_named))]
+    fn by_name(name: &str) -> Option<Baseline> {
+        match name {
+            "top" => Some(Baseline::Top),
+            "middle" => Some(Baseline::Middle),
+            "bottom" => Some(Baseline::Bottom),
+            "alphabetic" => Some(Baseline::Alphabetic),
+            _ => None,
+        }
     }
 }
 
-/// The baseline of a text under a name.
-pub fn baseline_at(members: &[Member], name: &str) -> Option<Baseline>
-    ensures { result ≡ named_at baseline_named members.now name.now }
-{
-    baseline_named(word_at(members, name)?.as_str())
-}
+impl ByName for Interpolate {
+    ghost named = { interpolate_named };
 
-// A way to join points by its name.
-fn interpolate_named(name: &str) -> Option<Interpolate>
-    ensures { result ≡ interpolate_named name.now }
-{
-    if name == "linear" {
-        Some(Interpolate::Linear)
-    } else {
-        None
+    #[tactic(auto, unfolding(crate::specs::Names::interpolate_named))]
+    fn by_name(name: &str) -> Option<Interpolate> {
+        match name {
+            "linear" => Some(Interpolate::Linear),
+            _ => None,
+        }
     }
 }
 
-/// The way to join points under a name.
-pub fn interpolate_at(members: &[Member], name: &str) -> Option<Interpolate>
-    ensures { result ≡ named_at interpolate_named members.now name.now }
-{
-    interpolate_named(word_at(members, name)?.as_str())
-}
+impl ByName for SelectType {
+    ghost named = { select_type_named };
 
-/// A type of selections by its name.
-pub fn select_type_named(name: &str) -> Option<SelectType>
-    ensures { result ≡ select_type_named name.now }
-{
-    if name == "point" {
-        Some(SelectType::Point)
-    } else if name == "interval" {
-        Some(SelectType::Interval)
-    } else {
-        None
+    #[tactic(auto, unfolding(crate::specs::Names::select_type_named))]
+    fn by_name(name: &str) -> Option<SelectType> {
+        match name {
+            "point" => Some(SelectType::Point),
+            "interval" => Some(SelectType::Interval),
+            _ => None,
+        }
     }
-}
-
-/// The type of a selection under a name.
-pub fn select_type_at(members: &[Member], name: &str) -> Option<SelectType>
-    ensures { result ≡ named_at select_type_named members.now name.now }
-{
-    select_type_named(word_at(members, name)?.as_str())
 }
 
 // The event that sets selections of points, by its name.
 fn point_event_named(name: &str) -> Option<SelectEvent>
     ensures { result ≡ select_event_named select_type.Point name.now }
 {
-    if name == "click" {
-        Some(SelectEvent::Click)
-    } else {
-        None
+    match name {
+        "click" => Some(SelectEvent::Click),
+        _ => None,
     }
 }
 
@@ -226,10 +179,9 @@ fn point_event_named(name: &str) -> Option<SelectEvent>
 fn interval_event_named(name: &str) -> Option<SelectEvent>
     ensures { result ≡ select_event_named select_type.Interval name.now }
 {
-    if name == "[mousedown, mouseup] > mousemove" {
-        Some(SelectEvent::Drag)
-    } else {
-        None
+    match name {
+        "[mousedown, mouseup] > mousemove" => Some(SelectEvent::Drag),
+        _ => None,
     }
 }
 
@@ -250,138 +202,70 @@ pub fn select_event_at(members: &[Member], type_: SelectType, name: &str) -> Opt
     select_event_named(type_, word_at(members, name)?.as_str())
 }
 
-// A kind of cells by its name.
-fn field_type_named(name: &str) -> Option<FieldType>
-    ensures { result ≡ field_type_named name.now }
-{
-    if name == "quantitative" {
-        Some(FieldType::Quantitative)
-    } else if name == "temporal" {
-        Some(FieldType::Temporal)
-    } else if name == "ordinal" {
-        Some(FieldType::Ordinal)
-    } else if name == "nominal" {
-        Some(FieldType::Nominal)
-    } else {
-        None
+impl ByName for FieldType {
+    ghost named = { field_type_named };
+
+    #[tactic(auto, unfolding(crate::specs::Names::field_type_named))]
+    fn by_name(name: &str) -> Option<FieldType> {
+        match name {
+            "quantitative" => Some(FieldType::Quantitative),
+            "temporal" => Some(FieldType::Temporal),
+            "ordinal" => Some(FieldType::Ordinal),
+            "nominal" => Some(FieldType::Nominal),
+            _ => None,
+        }
     }
 }
 
-/// The kind of cells under a name.
-pub fn field_type_at(members: &[Member], name: &str) -> Option<FieldType>
-    ensures { result ≡ named_at field_type_named members.now name.now }
-{
-    field_type_named(word_at(members, name)?.as_str())
-}
+impl ByName for Scheme {
+    ghost named = { scheme_named };
 
-// A colour scheme by its name.
-fn scheme_named(name: &str) -> Option<Scheme>
-    ensures { result ≡ scheme_named name.now }
-{
-    if name == "tableau10" {
-        Some(Scheme::Tableau10)
-    } else if name == "blues" {
-        Some(Scheme::Blues)
-    } else {
-        None
+    #[tactic(auto, unfolding(crate::specs::Names::scheme_named))]
+    fn by_name(name: &str) -> Option<Scheme> {
+        match name {
+            "tableau10" => Some(Scheme::Tableau10),
+            "blues" => Some(Scheme::Blues),
+            _ => None,
+        }
     }
 }
 
-/// The colour scheme under a name.
-pub fn scheme_at(members: &[Member], name: &str) -> Option<Scheme>
-    ensures { result ≡ named_at scheme_named members.now name.now }
-{
-    scheme_named(word_at(members, name)?.as_str())
-}
+impl ByName for Sharing {
+    ghost named = { sharing_named };
 
-/// Whether views share a scale, by its name.
-pub fn sharing_named(name: &str) -> Option<Sharing>
-    ensures { result ≡ sharing_named name.now }
-{
-    if name == "shared" {
-        Some(Sharing::Shared)
-    } else if name == "independent" {
-        Some(Sharing::Independent)
-    } else {
-        None
+    #[tactic(auto, unfolding(crate::specs::Names::sharing_named))]
+    fn by_name(name: &str) -> Option<Sharing> {
+        match name {
+            "shared" => Some(Sharing::Shared),
+            "independent" => Some(Sharing::Independent),
+            _ => None,
+        }
     }
 }
 
-// A side of a plot by its name.
-fn side_named(name: &str) -> Option<Side>
-    ensures { result ≡ side_named name.now }
-{
-    if name == "left" {
-        Some(Side::Left)
-    } else if name == "right" {
-        Some(Side::Right)
-    } else if name == "top" {
-        Some(Side::Top)
-    } else if name == "bottom" {
-        Some(Side::Bottom)
-    } else {
-        None
+impl ByName for Side {
+    ghost named = { side_named };
+
+    #[tactic(auto, unfolding(crate::specs::Names::side_named))]
+    fn by_name(name: &str) -> Option<Side> {
+        match name {
+            "left" => Some(Side::Left),
+            "right" => Some(Side::Right),
+            "top" => Some(Side::Top),
+            "bottom" => Some(Side::Bottom),
+            _ => None,
+        }
     }
 }
 
-/// The side of a plot under a name.
-pub fn side_at(members: &[Member], name: &str) -> Option<Side>
-    ensures { result ≡ named_at side_named members.now name.now }
-{
-    side_named(word_at(members, name)?.as_str())
-}
+impl ByName for Autosize {
+    ghost named = { autosize_named };
 
-// How a picture's size is found.
-fn autosize_named(name: &str) -> Option<Autosize>
-    ensures { result ≡ autosize_named name.now }
-{
-    if name == "pad" {
-        Some(Autosize::Pad)
-    } else {
-        None
-    }
-}
-
-/// How a picture's size is found, under a name.
-pub fn autosize_at(members: &[Member], name: &str) -> Option<Autosize>
-    ensures { result ≡ named_at autosize_named members.now name.now }
-{
-    autosize_named(word_at(members, name)?.as_str())
-}
-
-// The reading of texts that a value names.
-fn parse_kind_in(tree: &Json) -> Option<ParseKind>
-    ensures { result ≡ named_in parse_kind_named tree.now }
-{
-    parse_kind_named(text_in(tree)?.as_str())
-}
-
-/// The reading of texts that a value names, as numbers where it names none.
-pub fn parse_kind_of(tree: &Json) -> ParseKind
-    ensures { result ≡ parse_kind_of tree.now }
-{
-    match parse_kind_in(tree) {
-        Some(kind) => kind,
-        None => ParseKind::Number,
-    }
-}
-
-/// The type of a mark under a name, a bar where there is none.
-pub fn needed_mark_type(members: &[Member], name: &str) -> MarkType
-    ensures { result ≡ needed_mark_type members.now name.now }
-{
-    match mark_type_at(members, name) {
-        Some(type_) => type_,
-        None => MarkType::Bar,
-    }
-}
-
-/// The type of a selection under a name, that of points where there is none.
-pub fn needed_select_type(members: &[Member], name: &str) -> SelectType
-    ensures { result ≡ needed_select_type members.now name.now }
-{
-    match select_type_at(members, name) {
-        Some(type_) => type_,
-        None => SelectType::Point,
+    #[tactic(auto, unfolding(crate::specs::Names::autosize_named))]
+    fn by_name(name: &str) -> Option<Autosize> {
+        match name {
+            "pad" => Some(Autosize::Pad),
+            _ => None,
+        }
     }
 }

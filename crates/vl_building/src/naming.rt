@@ -6,13 +6,13 @@ ghost use Rattle.vl_building.specs.Gather.{data_of};
 ghost use Rattle.vl_building.specs.inner.Named.{shown, source_numbered};
 
 use crate::data::{DataAt, ParamAt};
-use crate::gather;
-use crate::index::{data_by_places, params_by_places};
+use crate::gather::gathered;
+use crate::index::{DataPlaces, ParamPlaces, indexed};
 use crate::keyed::{Keyed, number_at};
 use crate::sources::named;
 use json_exact::Json;
 use std::alloc::Global;
-use text_kit::{OutOfMemory, Seq, Text};
+use text_kit::{Copies, OutOfMemory, Seq, Text};
 
 /// Data with the name of its source.
 #[derive(Drop)]
@@ -34,32 +34,26 @@ pub struct Named {
     pub params: Keyed,
 }
 
-/// A copy of a name, if there is one.
-pub fn copied_name(name: &Option<Text>) -> Result<Option<Text>, OutOfMemory>
-    ensures { IfOk result (λ copy. copy ≡ name.now) }
-{
-    match name {
-        Some(name) => Ok(Some(name.copy()?)),
-        None => Ok(None),
-    }
-}
-
 // The name of the source of data of this number.
-fn source_numbered(all: &[NamedData], number: usize) -> Result<Option<Text>, OutOfMemory>
+fn source_numbered(
+    alloc: Global,
+    all: &[NamedData],
+    number: usize,
+) -> Result<Option<Text>, OutOfMemory>
     ensures { IfOk result (λ name. name ≡ source_numbered all.now number) }
 {
     match all.get(number) {
-        Some(named) => copied_name(&named.source),
+        Some(named) => Copies::copied(&named.source, alloc),
         None => Ok(None),
     }
 }
 
 /// The name of the source of the data at a place.
-pub fn source_at(named: &Named, place: &[usize]) -> Result<Option<Text>, OutOfMemory>
+pub fn source_at(alloc: Global, named: &Named, place: &[usize]) -> Result<Option<Text>, OutOfMemory>
     ensures { IfOk result (λ name. name ≡ (shown named.now).source_at place.now) }
 {
     match number_at(&named.data_, place) {
-        Some(number) => source_numbered(named.all.as_slice(), number),
+        Some(number) => source_numbered(alloc, named.all.as_slice(), number),
         None => Ok(None),
     }
 }
@@ -76,8 +70,8 @@ fn named_by(alloc: Global, all: Seq<NamedData>, params: &[ParamAt]) -> Result<Na
     ensures all { IfOk result (λ named. named.all ≡ all) }
     ensures naming { IfOk result (λ named. shown named ≡ naming_of all params.now) }
 {
-    let params = params_by_places(alloc, params)?;
-    let data_ = data_by_places(alloc, all.as_slice())?;
+    let params = indexed::<ParamAt, ParamPlaces>(alloc, params)?;
+    let data_ = indexed::<NamedData, DataPlaces>(alloc, all.as_slice())?;
     Ok(Named { all, data_, params })
 }
 
@@ -86,6 +80,6 @@ pub fn naming_in(alloc: Global, tree: &Json, params: &[ParamAt]) -> Result<Named
     ensures all { IfOk result (λ named. named.all ≡ named_from 0 (data_of tree.now)) }
     ensures naming { IfOk result (λ named. shown named ≡ naming_of (named_from 0 (data_of tree.now)) params.now) }
 {
-    let all = named(alloc, gather::data_of(alloc, tree)?)?;
+    let all = named(alloc, gathered(alloc, tree)?)?;
     named_by(alloc, all, params)
 }

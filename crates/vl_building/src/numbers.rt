@@ -4,9 +4,9 @@ ghost use Rattle.fixed_num.specs.Ranges.{is_within};
 ghost use Rattle.spec_schema.specs.Values.{is_whole, is_whole_between};
 ghost use Rattle.vl_building.specs.Numbers.{between, whole_between, number_between, count_between, space_at, share_at, count_at, tick_count_at, look_at, shift_at, bin_step_at, size_step_at, plain_size_at, whole_at, is_angle, angle, angle_at};
 
-use crate::parts::number_at;
 use fixed_num::Num;
 use json_exact::Member;
+use tree_readers::number_at;
 use vl_spec::{
     LEAST_COUNT, LEAST_SHIFT, MOST_COUNT, MOST_LOOK, MOST_NUMBER, MOST_SHARE, MOST_SHIFT,
     MOST_SIZE, MOST_SPACE, MOST_STEP, MOST_TICKS, OVER_ZERO,

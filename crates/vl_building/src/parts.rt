@@ -1,20 +1,17 @@
-// What stands under the names of members.
-ghost use Rattle.std.specs.Prelude.{◌≡◌, Some, None, map, IfOk, codes, if◌then◌else◌};
-ghost use Rattle.std.specs.Option.{option_copied};
-ghost use Rattle.json_exact.specs.Inside.{items_in, members_in};
-ghost use Rattle.json_exact.specs.Path.{member_value};
-ghost use Rattle.vl_building.specs.Parts.{found_at, has_member, list_at, needed_members, object_at, text_of, flag_at, number_at, text_at, cell_at, needed_text, two_texts, two_texts_at, plain_expression, expression_in, expression_at, needed_expression};
+// What values, items, objects and members are.
+ghost use Rattle.std.specs.Prelude.{◌≡◌, ◌++◌, [], Some, None, map, IfOk, OnOk, if◌then◌else◌};
+ghost use Rattle.std.specs.Option.{option_to_list, unwrap_or};
+ghost use Rattle.std.specs.List.{filter_map};
+ghost use Rattle.json_exact.specs.declared.json.Json.{out-Json};
+ghost use Rattle.tree_readers.specs.Parts.{found_at, members_of, list_at, objects_at, object_at, text_of};
+ghost use Rattle.vl_building.specs.Expressions.{plain_expression, expression_in, expression_at, needed_expression};
 
-use crate::values::{
-    cell_in, flag_in, items_in, member_value, members_in, number_in, text_in, text_of,
-};
-use cell_value::Cell;
 use expr_reading::expression_of;
 use expr_syntax::{Expr, has_domain_length};
-use fixed_num::Num;
 use json_exact::{Json, Member};
 use std::alloc::Global;
 use text_kit::{OutOfMemory, Seq, Text};
+use tree_readers::{items_at, member_value, members_at, word_at};
 
 /// What items of lists are.
 pub trait Item: Sized {
@@ -39,6 +36,42 @@ pub trait Object: Sized {
         ensures { IfOk result (λ value. value ≡ built members.now) };
 }
 
+/// What values may be.
+pub trait Value: Sized {
+    ghost use Rattle.std.specs.Prelude.{Option};
+    ghost use Rattle.tree_readers.specs.Parts.{Opened};
+
+    ghost read: { Opened → Option Self };
+
+    /// What a value is, if it is one of these.
+    fn of_value(alloc: Global, tree: &Json) -> Result<Option<Self>, OutOfMemory>
+        ensures { IfOk result (λ value. value ≡ read (out-Json tree.now)) };
+}
+
+/// What values may be that take no memory.
+pub trait Plain: Sized {
+    ghost use Rattle.std.specs.Prelude.{Option};
+    ghost use Rattle.tree_readers.specs.Parts.{Opened};
+
+    ghost plain: { Opened → Option Self };
+
+    /// What a value is, if it is one of these.
+    fn of_plain(tree: &Json) -> Option<Self>
+        ensures { result ≡ plain (out-Json tree.now) };
+}
+
+/// What members of objects may be.
+pub trait OfMember: Sized {
+    ghost use Rattle.std.specs.Prelude.{Option};
+    ghost use Rattle.json_exact.specs.declared.json.Member.{Member};
+
+    ghost given: { Member → Option Self };
+
+    /// What a member is, if it is one of these.
+    fn of_member(alloc: Global, member: &Member) -> Result<Option<Self>, OutOfMemory>
+        ensures { IfOk result (λ value. value ≡ given member.now) };
+}
+
 /// What each item is.
 pub fn list_of<T: Item + Drop>(alloc: Global, items: &[Json]) -> Result<Seq<T>, OutOfMemory>
     ensures { IfOk result (λ list. list ≡ map T.item items.now) }
@@ -50,42 +83,55 @@ pub fn list_of<T: Item + Drop>(alloc: Global, items: &[Json]) -> Result<Seq<T>, 
     Ok(list)
 }
 
-/// The items of the list under a name.
-pub fn items_at<'a>(members: &'a [Member], name: &str) -> Option<&'a Seq<Json>>
-    ensures { option_copied result ≡ found_at items_in members.now name.now }
+/// What each item is by its members.
+pub fn objects_of<T: Object + Drop>(alloc: Global, items: &[Json]) -> Result<Seq<T>, OutOfMemory>
+    ensures { IfOk result (λ list. list ≡ map (λ tree. T.built (members_of tree)) items.now) }
 {
-    items_in(member_value(members, name)?)
+    let mut list = Seq::new(alloc);
+    for tree in items {
+        list.push(T::of_members(alloc, tree_readers::members_of(tree))?)?;
+    }
+    Ok(list)
 }
 
-/// The members of the object under a name.
-pub fn members_at<'a>(members: &'a [Member], name: &str) -> Option<&'a Seq<Member>>
-    ensures { option_copied result ≡ found_at members_in members.now name.now }
+// Adds what a member is.
+fn push_given<T: OfMember + Drop>(
+    alloc: Global,
+    member: &Member,
+    out: &mut Seq<T>,
+) -> Result<(), OutOfMemory>
+    ensures { OnOk result (out.new ≡ out.old ++ option_to_list (T.given member.now)) }
 {
-    members_in(member_value(members, name)?)
-}
-
-/// The members of the object under a name, none where there is none.
-pub fn needed_members<'a>(members: &'a [Member], name: &str) -> &'a [Member]
-    ensures { result.now ≡ needed_members members.now name.now }
-{
-    match members_at(members, name) {
-        Some(members) => members.as_slice(),
-        None => &[],
+    match T::of_member(alloc, member)? {
+        Some(value) => out.push(value),
+        None => Ok(()),
     }
 }
 
-/// The text under a name, as it stands there.
-pub fn word_at<'a>(members: &'a [Member], name: &str) -> Option<&'a Text>
-    ensures { option_copied result ≡ text_at members.now name.now }
+/// What members are, of those that are one of these.
+pub fn given_by<T: OfMember + Drop>(
+    alloc: Global,
+    members: &[Member],
+) -> Result<Seq<T>, OutOfMemory>
+    ensures { IfOk result (λ values. values ≡ filter_map T.given members.now) }
 {
-    text_in(member_value(members, name)?)
+    let mut out = Seq::new(alloc);
+    for member in members {
+        push_given(alloc, member, &mut out)?;
+    }
+    Ok(out)
 }
 
-/// Whether there is a member of this name.
-pub fn has_member(members: &[Member], name: &str) -> bool
-    ensures { result ≡ has_member members.now name.now }
+/// What an object of these members is, and a value.
+pub fn object_with<A: Object, T: Drop>(
+    alloc: Global,
+    members: &[Member],
+    value: T,
+) -> Result<(A, T), OutOfMemory>
+    ensures { IfOk result (λ both. both ≡ (A.built members.now, value)) }
 {
-    member_value(members, name).is_some()
+    let object = A::of_members(alloc, members)?;
+    Ok((object, value))
 }
 
 /// What each item of the list under a name is.
@@ -102,6 +148,69 @@ pub fn list_at<T: Item + Drop>(
     }
 }
 
+/// What each item of the list under a name is, none where there is no list.
+pub fn needed_list<T: Item + Drop>(
+    alloc: Global,
+    members: &[Member],
+    name: &str,
+) -> Result<Seq<T>, OutOfMemory>
+    ensures { IfOk result (λ list. list ≡ unwrap_or (list_at T.item members.now name.now) []) }
+{
+    match items_at(members, name) {
+        Some(items) => list_of(alloc, items.as_slice()),
+        None => Ok(Seq::new(alloc)),
+    }
+}
+
+/// What each item of the list under a name is by its members.
+pub fn objects_at<T: Object + Drop>(
+    alloc: Global,
+    members: &[Member],
+    name: &str,
+) -> Result<Option<Seq<T>>, OutOfMemory>
+    ensures { IfOk result (λ list. list ≡ objects_at T.built members.now name.now) }
+{
+    match items_at(members, name) {
+        Some(items) => Ok(Some(objects_of(alloc, items.as_slice())?)),
+        None => Ok(None),
+    }
+}
+
+/// The same, none where there is no list.
+pub fn needed_objects<T: Object + Drop>(
+    alloc: Global,
+    members: &[Member],
+    name: &str,
+) -> Result<Seq<T>, OutOfMemory>
+    ensures { IfOk result (λ list. list ≡ unwrap_or (objects_at T.built members.now name.now) []) }
+{
+    match items_at(members, name) {
+        Some(items) => objects_of(alloc, items.as_slice()),
+        None => Ok(Seq::new(alloc)),
+    }
+}
+
+/// What the value under a name is, if it is one of these.
+pub fn found_at<T: Value>(
+    alloc: Global,
+    members: &[Member],
+    name: &str,
+) -> Result<Option<T>, OutOfMemory>
+    ensures { IfOk result (λ value. value ≡ found_at T.read members.now name.now) }
+{
+    match member_value(members, name) {
+        Some(tree) => T::of_value(alloc, tree),
+        None => Ok(None),
+    }
+}
+
+/// The same of what takes no memory.
+pub fn plain_at<T: Plain>(members: &[Member], name: &str) -> Option<T>
+    ensures { result ≡ found_at T.plain members.now name.now }
+{
+    T::of_plain(member_value(members, name)?)
+}
+
 /// What the object under a name is.
 pub fn object_at<T: Object>(
     alloc: Global,
@@ -116,72 +225,11 @@ pub fn object_at<T: Object>(
     }
 }
 
-/// The truth value under a name.
-pub fn flag_at(members: &[Member], name: &str) -> Option<bool>
-    ensures { result ≡ flag_at members.now name.now }
-{
-    flag_in(member_value(members, name)?)
-}
-
-/// The number under a name.
-pub fn number_at(members: &[Member], name: &str) -> Option<Num>
-    ensures { result ≡ number_at members.now name.now }
-{
-    number_in(member_value(members, name)?)
-}
-
-/// The text under a name.
-pub fn text_at(members: &[Member], name: &str) -> Result<Option<Text>, OutOfMemory>
-    ensures { IfOk result (λ text. text ≡ text_at members.now name.now) }
-{
-    match word_at(members, name) {
-        Some(text) => Ok(Some(text.copy()?)),
-        None => Ok(None),
-    }
-}
-
-/// The text under a name, empty where there is none.
-pub fn needed_text(alloc: Global, members: &[Member], name: &str) -> Result<Text, OutOfMemory>
-    ensures { IfOk result (λ text. text ≡ needed_text members.now name.now) }
-{
-    match word_at(members, name) {
-        Some(text) => text.copy(),
-        None => Ok(Text::new(alloc)),
-    }
-}
-
 impl Item for Text {
     ghost item = { text_of };
 
     fn of_item(alloc: Global, tree: &Json) -> Result<Text, OutOfMemory> {
-        text_of(alloc, tree)
-    }
-}
-
-// The two texts of a list.
-fn two_texts(alloc: Global, items: &[Json]) -> Result<Option<(Text, Text)>, OutOfMemory>
-    ensures { IfOk result (λ texts. texts ≡ two_texts items.now) }
-{
-    match items {
-        [a, b] => {
-            let first = text_of(alloc, a)?;
-            Ok(Some((first, text_of(alloc, b)?)))
-        }
-        _ => Ok(None),
-    }
-}
-
-/// The two texts of the list under a name.
-pub fn two_texts_at(
-    alloc: Global,
-    members: &[Member],
-    name: &str,
-) -> Result<Option<(Text, Text)>, OutOfMemory>
-    ensures { IfOk result (λ texts. texts ≡ two_texts_at members.now name.now) }
-{
-    match items_at(members, name) {
-        Some(items) => two_texts(alloc, items.as_slice()),
-        None => Ok(None),
+        tree_readers::text_of(alloc, tree)
     }
 }
 
@@ -227,15 +275,5 @@ pub fn needed_expression(alloc: Global, members: &[Member], name: &str) -> Resul
     match expression_at(alloc, members, name)? {
         Some(e) => Ok(e),
         None => Ok(Expr::Null),
-    }
-}
-
-/// The cell under a name.
-pub fn cell_at(members: &[Member], name: &str) -> Result<Option<Cell>, OutOfMemory>
-    ensures { IfOk result (λ cell. cell ≡ cell_at members.now name.now) }
-{
-    match member_value(members, name) {
-        Some(tree) => cell_in(tree),
-        None => Ok(None),
     }
 }

@@ -6,12 +6,11 @@ ghost use Rattle.vl_building.specs.Views.{child, member_number, member_place, so
 ghost use Rattle.vl_building.specs.inner.Named.{shown};
 
 use crate::naming::{Named, param_at, source_at};
-use crate::parts::{items_at, needed_members};
 use crate::transforms;
-use crate::values::members_of;
 use json_exact::{Json, Member};
 use std::alloc::Global;
 use text_kit::{OutOfMemory, Seq, Text};
+use tree_readers::{items_at, members_of, needed_members};
 use vl_spec::Transform;
 
 /// Where a child stands: its number behind the place of its parent.
@@ -60,7 +59,7 @@ pub fn source_of(
     ensures { IfOk result (λ name. name ≡ source_of (shown named.now) place.now members.now) }
 {
     match member_place(alloc, place, members, "data")? {
-        Some(here) => source_at(named, here.as_slice()),
+        Some(here) => source_at(alloc, named, here.as_slice()),
         None => Ok(None),
     }
 }

@@ -1,9 +1,9 @@
 // What stands under several names at once.
 ghost use Rattle.std.specs.Prelude.{◌≡◌, IfOk};
-ghost use Rattle.vl_building.specs.Parts.{list_at, text_at};
+ghost use Rattle.tree_readers.specs.Parts.{list_at, object_at, text_at};
 
 use crate::parts;
-use crate::parts::Item;
+use crate::parts::{Item, Object};
 use json_exact::Member;
 use std::alloc::Global;
 use text_kit::{OutOfMemory, Seq, Text};
@@ -24,7 +24,7 @@ impl Part for Option<Text> {
     ghost part = { text_at };
 
     fn part_at(_: Global, members: &[Member], name: &str) -> Result<Option<Text>, OutOfMemory> {
-        parts::text_at(members, name)
+        tree_readers::text_at(members, name)
     }
 }
 
@@ -37,6 +37,14 @@ impl<T: Item + Drop> Part for Option<Seq<T>> {
         name: &str,
     ) -> Result<Option<Seq<T>>, OutOfMemory> {
         parts::list_at(alloc, members, name)
+    }
+}
+
+impl<T: Object> Part for Option<T> {
+    ghost part = { object_at T.built };
+
+    fn part_at(alloc: Global, members: &[Member], name: &str) -> Result<Option<T>, OutOfMemory> {
+        parts::object_at(alloc, members, name)
     }
 }
 

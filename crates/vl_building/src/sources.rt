@@ -6,9 +6,9 @@ ghost use Rattle.vl_building.specs.inner.Index.{at_number};
 ghost use Rattle.vl_building.specs.inner.Finding.{rows_numbered, first_numbered, found_by, Finds};
 
 use crate::data::DataAt;
-use crate::index::{by_datasets, by_givers, by_names, name_numbers};
+use crate::index::{DatasetNames, GiverNames, SourceNames, indexed, name_numbers};
 use crate::keyed::{Keyed, number_at};
-use crate::naming::{NamedData, copied_name};
+use crate::naming::NamedData;
 use json_exact::{Json, Member};
 use std::alloc::Global;
 use text_kit::{Copies, OutOfMemory, Seq, Text};
@@ -45,7 +45,7 @@ fn name_behind(alloc: Global, number: usize, at: &DataAt) -> Result<Option<Text>
     if is_unnamed(at) {
         Ok(Some(source_name(alloc, number)?))
     } else {
-        copied_name(&at.name)
+        Copies::copied(&at.name, alloc)
     }
 }
 
@@ -63,6 +63,18 @@ fn count_behind(number: usize, at: &DataAt) -> Result<usize, OutOfMemory>
     }
 }
 
+// The name of the source of data, and how many unnamed ones stand before the next.
+fn next_source(
+    alloc: Global,
+    number: usize,
+    at: &DataAt,
+) -> Result<(Option<Text>, usize), OutOfMemory>
+    ensures { IfOk result (λ next. next ≡ (name_behind number at.now, count_behind number at.now)) }
+{
+    let count = count_behind(number, at)?;
+    Ok((name_behind(alloc, number, at)?, count))
+}
+
 // Adds data with the name of its source. The number is that of the unnamed ones before the next.
 fn push_named(
     alloc: Global,
@@ -73,8 +85,7 @@ fn push_named(
     ensures added { OnOk result (out.new ≡ out.old ++ named_behind number at ∷ []) }
     ensures count { IfOk result (λ count. count ≡ count_behind number at) }
 {
-    let source = name_behind(alloc, number, &at)?;
-    let count = count_behind(number, &at)?;
+    let (source, count) = next_source(alloc, number, &at)?;
     out.push(NamedData { source, data_: at })?;
     Ok(count)
 }
@@ -137,7 +148,7 @@ fn of_data(alloc: Global, name: &Text, at: &DataAt) -> Result<SourceOf, OutOfMem
     ensures { IfOk result (λ source. source ≡ of_data name.now at.now) }
 {
     let (name, format) = name_and_format(alloc, name, &at.format)?;
-    let url = copied_name(&at.url)?;
+    let url = Copies::copied(&at.url, alloc)?;
     let values = copied_rows(alloc, &at.values)?;
     Ok(SourceOf {
         name,
@@ -162,9 +173,9 @@ pub struct Finders {
 fn finders_of(alloc: Global, datasets: &[Member], all: &[NamedData]) -> Result<Finders, OutOfMemory>
     ensures { IfOk result (λ finders. Finds datasets.now all.now finders) }
 {
-    let names = by_names(alloc, all)?;
-    let givers = by_givers(alloc, all)?;
-    let datasets = by_datasets(alloc, datasets)?;
+    let names = indexed::<NamedData, SourceNames>(alloc, all)?;
+    let givers = indexed::<NamedData, GiverNames>(alloc, all)?;
+    let datasets = indexed::<Member, DatasetNames>(alloc, datasets)?;
     Ok(Finders {
         datasets,
         names,

@@ -5,18 +5,17 @@ ghost use Rattle.vl_building.specs.inner.Named.{shown};
 ghost use Rattle.vl_building.specs.inner.Kept.{spec_by};
 
 use crate::data::ParamAt;
-use crate::gather::params_of;
-use crate::names::autosize_at;
+use crate::gather::gathered;
+use crate::names::named_at;
 use crate::naming::{Named, NamedData, naming_in};
 use crate::numbers::space_at;
-use crate::parts::{needed_members, text_at};
 use crate::sizes::config_at;
 use crate::sources::sources_of;
-use crate::values::members_of;
 use crate::views::view_of;
 use json_exact::{Json, Member};
 use std::alloc::Global;
 use text_kit::{OutOfMemory, Seq, Text};
+use tree_readers::{members_of, needed_members, text_at};
 use vl_spec::{ConfigView, ParamOf, SourceOf, View, VlSpec};
 
 // Adds a parameter without its place.
@@ -79,6 +78,7 @@ fn with_view<A: Drop, B: Drop>(
 }
 
 // The specification of these parameters, where this goes by places.
+#[tactic(auto, unfolding(crate::specs::Spec::spec_with))]
 fn spec_by(
     alloc: Global,
     tree: &Json,
@@ -88,14 +88,16 @@ fn spec_by(
     ensures { IfOk result (λ s. s ≡ spec_by tree.now named.now params) }
 {
     let members = members_of(tree);
+    let padding = space_at(members, "padding");
+    let autosize = named_at(members, "autosize");
     let params = bare_params(alloc, params)?;
     let (params, schema, config) = with_head(alloc, members, params)?;
     let (params, sources) = with_sources(alloc, members, named.all.as_slice(), params)?;
     let (params, sources, view) = with_view(alloc, tree, named, params, sources)?;
     Ok(VlSpec {
         schema,
-        padding: space_at(members, "padding"),
-        autosize: autosize_at(members, "autosize"),
+        padding,
+        autosize,
         config,
         sources,
         params,
@@ -108,7 +110,7 @@ fn spec_by(
 pub fn spec_of(alloc: Global, tree: &Json) -> Result<VlSpec, OutOfMemory>
     ensures { IfOk result (λ s. s ≡ spec_of tree.now) }
 {
-    let params = params_of(alloc, tree)?;
+    let params = gathered(alloc, tree)?;
     let named = naming_in(alloc, tree, params.as_slice())?;
     spec_by(alloc, tree, &named, params)
 }

@@ -1,14 +1,19 @@
 // The codes that names stand for.
-ghost use Rattle.std.specs.Prelude.{◌≡◌, ◌++◌, ℕ, IfOk, OnOk};
+ghost use Rattle.std.specs.Prelude.{◌≡◌, ◌++◌, IfOk, OnOk};
 ghost use Rattle.std.specs.Option.{option_to_list};
 ghost use Rattle.std.specs.List.{filter_map};
-ghost use Rattle.vl_building.specs.Names.{named_at, named_in, below, operation_named, window_operation_named, time_unit_named, scale_kind_named, channel_named, channels_at, needed_operation, needed_window_operation, needed_time_unit};
+ghost use Rattle.vl_building.specs.Names.{named_at, named_in, below, operation_named, window_operation_named, time_unit_named, scale_kind_named, channel_named, channels_at};
 
-use crate::parts::{items_at, word_at};
-use crate::values::text_in;
 use json_exact::{Json, Member};
 use std::alloc::Global;
 use text_kit::{OutOfMemory, Seq};
+use tree_readers::{items_at, text_in, word_at};
+
+// How many operations are those of aggregates; those that windows have besides come after them.
+const AGGREGATES: u16 = 12;
+
+// How many kinds of scales are types; the kind that is none comes after them.
+const SCALE_TYPES: u16 = 5;
 
 // A code below a limit.
 fn below(limit: u16, code: u16) -> Option<u16>
@@ -21,7 +26,7 @@ fn below(limit: u16, code: u16) -> Option<u16>
 fn operation_named(name: &str) -> Option<u16>
     ensures { result ≡ operation_named name.now }
 {
-    below(12, case_table::operation_of(name)?)
+    below(AGGREGATES, case_table::operation_of(name)?)
 }
 
 /// The code of the operation of aggregates under a name.
@@ -31,31 +36,11 @@ pub fn operation_at(members: &[Member], name: &str) -> Option<u16>
     operation_named(word_at(members, name)?.as_str())
 }
 
-/// The same, 0 where there is none.
-pub fn needed_operation(members: &[Member], name: &str) -> u16
-    ensures { result ≡ needed_operation members.now name.now }
-{
-    match operation_at(members, name) {
-        Some(code) => code,
-        None => 0,
-    }
-}
-
-// The code of the operation of windows under a name.
-fn window_operation_at(members: &[Member], name: &str) -> Option<u16>
+/// The code of the operation of windows under a name.
+pub fn window_operation_at(members: &[Member], name: &str) -> Option<u16>
     ensures { result ≡ named_at window_operation_named members.now name.now }
 {
     case_table::operation_of(word_at(members, name)?.as_str())
-}
-
-/// The same, 0 where there is none.
-pub fn needed_window_operation(members: &[Member], name: &str) -> u16
-    ensures { result ≡ needed_window_operation members.now name.now }
-{
-    match window_operation_at(members, name) {
-        Some(code) => code,
-        None => 0,
-    }
 }
 
 /// The code of the unit of time under a name.
@@ -65,21 +50,11 @@ pub fn time_unit_at(members: &[Member], name: &str) -> Option<u16>
     case_table::time_unit_of(word_at(members, name)?.as_str())
 }
 
-/// The same, 0 where there is none.
-pub fn needed_time_unit(members: &[Member], name: &str) -> u16
-    ensures { result ≡ needed_time_unit members.now name.now }
-{
-    match time_unit_at(members, name) {
-        Some(code) => code,
-        None => 0,
-    }
-}
-
 // The code of a type of scales by its name.
 fn scale_kind_named(name: &str) -> Option<u16>
     ensures { result ≡ scale_kind_named name.now }
 {
-    below(5, case_table::scale_kind_of(name)?)
+    below(SCALE_TYPES, case_table::scale_kind_of(name)?)
 }
 
 /// The code of the type of a scale under a name.

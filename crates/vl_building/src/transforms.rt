@@ -7,18 +7,20 @@ use crate::definitions::bin_settings_of;
 use crate::fields::{fields_at, needed_field, needed_fields};
 use crate::filters::needed_filter;
 use crate::groupings::{aggregate_of, lookup_of, window_of};
-use crate::names::offset_at;
-use crate::parts::{list_at, members_at, needed_expression, needed_text, two_texts_at};
-use crate::tables::needed_time_unit;
+use crate::names::named_at;
+use crate::parts::{needed_expression, objects_at};
+use crate::tables::time_unit_at;
 use json_exact::Member;
 use std::alloc::Global;
 use text_kit::{OutOfMemory, Text};
+use tree_readers::{members_at, needed_text, two_texts_at};
 use vl_spec::{
     Bin, BinTransform, CalculateTransform, FoldTransform, StackTransform, TimeUnitTransform,
     Transform,
 };
 
 // `calculate`
+#[tactic(auto, unfolding(crate::specs::Transforms::calculate_of))]
 fn calculate_of(alloc: Global, members: &[Member]) -> Result<CalculateTransform, OutOfMemory>
     ensures { IfOk result (λ calculate. calculate ≡ calculate_of members.now) }
 {
@@ -38,49 +40,52 @@ fn needed_bin(members: &[Member], name: &str) -> Bin
 }
 
 // `bin`
+#[tactic(auto, unfolding(crate::specs::Transforms::bin_of))]
 fn bin_of(alloc: Global, members: &[Member]) -> Result<BinTransform, OutOfMemory>
     ensures { IfOk result (λ bin. bin ≡ bin_of members.now) }
 {
+    let bin = needed_bin(members, "bin");
     let field = needed_field(alloc, members, "field")?;
     let as_ = needed_names(alloc, members, "as")?;
-    Ok(BinTransform {
-        bin: needed_bin(members, "bin"),
-        field,
-        as_,
-    })
+    Ok(BinTransform { bin, field, as_ })
 }
 
 // `timeUnit`
+#[tactic(auto, unfolding(crate::specs::Transforms::time_unit_of))]
 fn time_unit_of(alloc: Global, members: &[Member]) -> Result<TimeUnitTransform, OutOfMemory>
     ensures { IfOk result (λ unit. unit ≡ time_unit_of members.now) }
 {
+    let time_unit = time_unit_at(members, "timeUnit").unwrap_or(0);
     let field = needed_field(alloc, members, "field")?;
     let as_ = needed_text(alloc, members, "as")?;
     Ok(TimeUnitTransform {
-        time_unit: needed_time_unit(members, "timeUnit"),
+        time_unit,
         field,
         as_,
     })
 }
 
 // `stack`
+#[tactic(auto, unfolding(crate::specs::Transforms::stack_of))]
 fn stack_of(alloc: Global, members: &[Member]) -> Result<StackTransform, OutOfMemory>
     ensures { IfOk result (λ stack. stack ≡ stack_of members.now) }
 {
-    let stack = needed_field(alloc, members, "stack")?;
+    let offset = named_at(members, "offset");
     let groupby = fields_at(alloc, members, "groupby")?;
+    let sort = objects_at(alloc, members, "sort")?;
+    let stack = needed_field(alloc, members, "stack")?;
     let as_ = needed_names(alloc, members, "as")?;
-    let sort = list_at(alloc, members, "sort")?;
     Ok(StackTransform {
         stack,
         groupby,
         sort,
-        offset: offset_at(members, "offset"),
+        offset,
         as_,
     })
 }
 
 // `fold`
+#[tactic(auto, unfolding(crate::specs::Transforms::fold_of))]
 fn fold_of(alloc: Global, members: &[Member]) -> Result<FoldTransform, OutOfMemory>
     ensures { IfOk result (λ fold. fold ≡ fold_of members.now) }
 {
@@ -90,19 +95,23 @@ fn fold_of(alloc: Global, members: &[Member]) -> Result<FoldTransform, OutOfMemo
 }
 
 // Whether it is a member of which the first decides what a transform is.
+#[tactic(auto, unfolding(crate::specs::Transforms::is_transform_kind))]
 fn is_transform_kind(name: &str) -> bool
     ensures { result ≡ is_transform_kind name.now }
 {
-    name == "filter"
-        || name == "calculate"
-        || name == "bin"
-        || name == "timeUnit"
-        || name == "aggregate"
-        || name == "joinaggregate"
-        || name == "stack"
-        || name == "window"
-        || name == "lookup"
-        || name == "fold"
+    match name {
+        "filter"
+        | "calculate"
+        | "bin"
+        | "timeUnit"
+        | "aggregate"
+        | "joinaggregate"
+        | "stack"
+        | "window"
+        | "lookup"
+        | "fold" => true,
+        _ => false,
+    }
 }
 
 // The first of them, or no name.
@@ -118,6 +127,7 @@ fn transform_kind(members: &[Member]) -> &str
 }
 
 // A transform by its first deciding member; one without is a filter that no row passes.
+#[tactic(auto, unfolding(crate::specs::Transforms::transform_by))]
 fn transform_by(
     alloc: Global,
     kind: &str,
@@ -126,30 +136,26 @@ fn transform_by(
 ) -> Result<Transform, OutOfMemory>
     ensures { IfOk result (λ transform. transform ≡ transform_by kind.now source.now members.now) }
 {
-    if kind == "calculate" {
-        Ok(Transform::Calculate(calculate_of(alloc, members)?))
-    } else if kind == "bin" {
-        Ok(Transform::Bin(bin_of(alloc, members)?))
-    } else if kind == "timeUnit" {
-        Ok(Transform::TimeUnit(time_unit_of(alloc, members)?))
-    } else if kind == "aggregate" {
-        Ok(Transform::Aggregate(aggregate_of(alloc, "aggregate", members)?))
-    } else if kind == "joinaggregate" {
-        Ok(Transform::JoinAggregate(aggregate_of(alloc, "joinaggregate", members)?))
-    } else if kind == "stack" {
-        Ok(Transform::Stack(stack_of(alloc, members)?))
-    } else if kind == "window" {
-        Ok(Transform::Window(window_of(alloc, members)?))
-    } else if kind == "lookup" {
-        Ok(Transform::Lookup(lookup_of(alloc, source, members)?))
-    } else if kind == "fold" {
-        Ok(Transform::Fold(fold_of(alloc, members)?))
-    } else {
-        Ok(Transform::Filter(needed_filter(alloc, members, "filter")?))
+    match kind {
+        "calculate" => Ok(Transform::Calculate(calculate_of(alloc, members)?)),
+        "bin" => Ok(Transform::Bin(bin_of(alloc, members)?)),
+        "timeUnit" => Ok(Transform::TimeUnit(time_unit_of(alloc, members)?)),
+        "aggregate" => Ok(Transform::Aggregate(aggregate_of(alloc, "aggregate", members)?)),
+        "joinaggregate" => Ok(Transform::JoinAggregate(aggregate_of(
+            alloc,
+            "joinaggregate",
+            members,
+        )?)),
+        "stack" => Ok(Transform::Stack(stack_of(alloc, members)?)),
+        "window" => Ok(Transform::Window(window_of(alloc, members)?)),
+        "lookup" => Ok(Transform::Lookup(lookup_of(alloc, source, members)?)),
+        "fold" => Ok(Transform::Fold(fold_of(alloc, members)?)),
+        _ => Ok(Transform::Filter(needed_filter(alloc, members, "filter")?)),
     }
 }
 
 /// The transform of these members, a lookup being one in this source.
+#[tactic(auto, unfolding(crate::specs::Transforms::transform_of))]
 pub fn transform_of(
     alloc: Global,
     source: &Option<Text>,

@@ -1,7 +1,7 @@
 // Views.
 ghost use Rattle.std.specs.Prelude.{◌≡◌, map, codes, IfOk};
 ghost use Rattle.vl_spec.specs.declared.views.Facet.TheVariants as facet;
-ghost use Rattle.vl_building.specs.Parts.{object_at};
+ghost use Rattle.tree_readers.specs.Parts.{object_at};
 ghost use Rattle.vl_building.specs.Inside.{member_gives};
 ghost use Rattle.vl_building.specs.Channels.{channel_of, encoding_of};
 ghost use Rattle.vl_building.specs.Views.{child, is_view_kind, other_word, view_word, cross_of, facet_of, unit_of, layer_with, faceted_with, joined_with, as_view, views_given, view_given, kind_by, object_view, views_in, view_of, views_of, no_view};
@@ -10,29 +10,28 @@ ghost use Rattle.vl_building.specs.inner.Heads.{head_of, view_of_head, views_ins
 
 use crate::naming::Named;
 use crate::numbers::{count_at, space_at};
-use crate::parts::{Object, has_member, needed_members};
+use crate::parts::{Object, object_with, plain_at};
 use crate::places::{numbers_at, source_of, transforms_at};
 use crate::several::{three_parts, two_parts};
-use crate::sizes::size_at;
 use crate::{parts, places};
 use json_exact::{Json, Member};
 use std::alloc::Global;
 use text_kit::{Boxed, OutOfMemory, Seq, Text};
+use tree_readers::{has_member, needed_members};
 use vl_spec::{
-    Channel, CrossFacet, Encoding, Facet, Faceted, Joined, Joining, Layer, Resolve, Transform,
-    Unit, View, ViewKind,
+    Channel, CrossFacet, Encoding, Facet, Faceted, Joined, Joining, Layer, Resolve, Size,
+    Transform, Unit, View, ViewKind,
 };
 
 // Whether it is a member of which the first decides what a view is.
+#[tactic(auto, unfolding(crate::specs::Views::is_view_kind))]
 fn is_view_kind(name: &str) -> bool
     ensures { result ≡ is_view_kind name.now }
 {
-    name == "mark"
-        || name == "layer"
-        || name == "facet"
-        || name == "hconcat"
-        || name == "vconcat"
-        || name == "concat"
+    match name {
+        "mark" | "layer" | "facet" | "hconcat" | "vconcat" | "concat" => true,
+        _ => false,
+    }
 }
 
 // What decides where no such member stands: a `spec`, or else `mark`.
@@ -61,6 +60,7 @@ fn view_word(members: &[Member]) -> &str
 impl Object for CrossFacet {
     ghost built = { cross_of };
 
+    #[tactic(auto, unfolding(crate::specs::Views::cross_of))]
     fn of_members(alloc: Global, members: &[Member]) -> Result<CrossFacet, OutOfMemory> {
         let (row, column) = two_parts(alloc, members, "row", "column")?;
         Ok(CrossFacet { row, column })
@@ -75,36 +75,28 @@ fn one_facet(alloc: Global, members: &[Member]) -> Result<Facet, OutOfMemory>
 }
 
 // How rows are parted: by rows and columns only without `field`.
-fn facet_of(alloc: Global, members: &[Member]) -> Result<Facet, OutOfMemory>
-    ensures { IfOk result (λ facet. facet ≡ facet_of members.now) }
-{
-    if has_member(members, "field") {
-        one_facet(alloc, members)
-    } else if has_member(members, "row") || has_member(members, "column") {
-        Ok(Facet::Cross(CrossFacet::of_members(alloc, members)?))
-    } else {
-        one_facet(alloc, members)
+impl Object for Facet {
+    ghost built = { facet_of };
+
+    #[tactic(auto, unfolding(crate::specs::Views::facet_of))]
+    fn of_members(alloc: Global, members: &[Member]) -> Result<Facet, OutOfMemory> {
+        if has_member(members, "field") {
+            one_facet(alloc, members)
+        } else if has_member(members, "row") || has_member(members, "column") {
+            Ok(Facet::Cross(CrossFacet::of_members(alloc, members)?))
+        } else {
+            one_facet(alloc, members)
+        }
     }
 }
 
 // One mark.
+#[tactic(auto, unfolding(crate::specs::Views::unit_of))]
 fn unit_of(alloc: Global, members: &[Member]) -> Result<Unit, OutOfMemory>
     ensures { IfOk result (λ unit. unit ≡ unit_of members.now) }
 {
     let (mark, encoding) = two_parts(alloc, members, "mark", "encoding")?;
     Ok(Unit { mark, encoding })
-}
-
-// How rows are parted, and a value.
-fn facet_with<T: Drop>(
-    alloc: Global,
-    members: &[Member],
-    value: T,
-) -> Result<(Facet, T), OutOfMemory>
-    ensures { IfOk result (λ both. both ≡ (facet_of members.now, value)) }
-{
-    let facet = facet_of(alloc, members)?;
-    Ok((facet, value))
 }
 
 // The channels of a layer, and a value.
@@ -134,9 +126,14 @@ pub struct Head {
     pub params: Seq<usize>,
     /// What is done to its rows.
     pub transform: Option<Seq<Transform>>,
+    /// Its width.
+    pub width: Option<Size>,
+    /// Its height.
+    pub height: Option<Size>,
 }
 
 // What a view has of its own.
+#[tactic(auto, unfolding(crate::specs::inner::Heads::head_of))]
 fn head_of(
     alloc: Global,
     named: &Named,
@@ -145,10 +142,12 @@ fn head_of(
 ) -> Result<Head, OutOfMemory>
     ensures { IfOk result (λ head. head ≡ head_of (shown named.now) members.now place.now) }
 {
-    let (name, title, resolve) = three_parts(alloc, members, "name", "title", "resolve")?;
+    let width = plain_at(members, "width");
+    let height = plain_at(members, "height");
     let data_ = source_of(alloc, named, place, members)?;
     let params = numbers_at(alloc, named, place, members, "params")?;
     let transform = transforms_at(alloc, named, place, members, "transform")?;
+    let (name, title, resolve) = three_parts(alloc, members, "name", "title", "resolve")?;
     Ok(Head {
         name,
         title,
@@ -156,6 +155,8 @@ fn head_of(
         resolve,
         params,
         transform,
+        width,
+        height,
     })
 }
 
@@ -174,8 +175,8 @@ fn head_with<T: Drop>(
 }
 
 // A view of this kind.
-fn view_with(members: &[Member], head: Head, kind: ViewKind) -> View
-    ensures { result ≡ view_of_head members.now head kind }
+fn view_with(head: Head, kind: ViewKind) -> View
+    ensures { result ≡ view_of_head head kind }
 {
     let Head {
         name,
@@ -184,6 +185,8 @@ fn view_with(members: &[Member], head: Head, kind: ViewKind) -> View
         resolve,
         params,
         transform,
+        width,
+        height,
     } = head;
     View {
         name,
@@ -191,14 +194,15 @@ fn view_with(members: &[Member], head: Head, kind: ViewKind) -> View
         data_,
         transform,
         params,
-        width: size_at(members, "width"),
-        height: size_at(members, "height"),
+        width,
+        height,
         resolve,
         kind,
     }
 }
 
 // A view without members.
+#[tactic(auto, unfolding(crate::specs::Views::no_view))]
 fn no_view(alloc: Global) -> View
     ensures { result ≡ no_view }
 {
@@ -220,6 +224,7 @@ fn no_view(alloc: Global) -> View
 
 /// The view that a value at a place is; one that is no object is a view without members.
 #[cycle(views)]
+#[tactic(auto, unfolding(crate::specs::Views::view_with, crate::specs::Views::kind_by, crate::specs::Views::unit_of, crate::specs::Views::no_view))]
 pub fn view_of(
     alloc: Global,
     named: &Named,
@@ -237,6 +242,7 @@ pub fn view_of(
 
 // The view of these members.
 #[cycle(views)]
+#[tactic(auto, unfolding(crate::specs::Views::view_with, crate::specs::inner::Heads::head_of))]
 fn object_view(
     alloc: Global,
     named: &Named,
@@ -248,11 +254,12 @@ fn object_view(
 {
     let kind = kind_by(alloc, named, view_word(members), members, place)?;
     let (head, kind) = head_with(alloc, named, members, place, kind)?;
-    Ok(view_with(members, head, kind))
+    Ok(view_with(head, kind))
 }
 
 // What a view is, by the member that decides.
 #[cycle(views)]
+#[tactic(auto, unfolding(crate::specs::Views::kind_by))]
 fn kind_by(
     alloc: Global,
     named: &Named,
@@ -262,23 +269,40 @@ fn kind_by(
 ) -> Result<ViewKind, OutOfMemory>
     ensures { IfOk result (λ kind. kind ≡ kind_by word.now members.now (views_inside (shown named.now) members.now place.now)) }
 {
-    if word == "layer" {
-        Ok(ViewKind::Layer(layer_of(alloc, named, members, place)?))
-    } else if word == "facet" {
-        Ok(ViewKind::Facet(faceted_of(alloc, named, members, place)?))
-    } else if word == "hconcat" {
-        Ok(ViewKind::Joined(joined_of(alloc, named, Joining::Row, "hconcat", members, place)?))
-    } else if word == "vconcat" {
-        Ok(ViewKind::Joined(joined_of(alloc, named, Joining::Column, "vconcat", members, place)?))
-    } else if word == "concat" {
-        Ok(ViewKind::Joined(joined_of(alloc, named, Joining::Grid, "concat", members, place)?))
-    } else {
-        Ok(ViewKind::Unit(unit_of(alloc, members)?))
+    match word {
+        "layer" => Ok(ViewKind::Layer(layer_of(alloc, named, members, place)?)),
+        "facet" => Ok(ViewKind::Facet(faceted_of(alloc, named, members, place)?)),
+        "hconcat" => Ok(ViewKind::Joined(joined_of(
+            alloc,
+            named,
+            Joining::Row,
+            "hconcat",
+            members,
+            place,
+        )?)),
+        "vconcat" => Ok(ViewKind::Joined(joined_of(
+            alloc,
+            named,
+            Joining::Column,
+            "vconcat",
+            members,
+            place,
+        )?)),
+        "concat" => Ok(ViewKind::Joined(joined_of(
+            alloc,
+            named,
+            Joining::Grid,
+            "concat",
+            members,
+            place,
+        )?)),
+        _ => Ok(ViewKind::Unit(unit_of(alloc, members)?)),
     }
 }
 
 // Views on each other.
 #[cycle(views)]
+#[tactic(auto, unfolding(crate::specs::Views::layer_with))]
 fn layer_of(
     alloc: Global,
     named: &Named,
@@ -295,6 +319,7 @@ fn layer_of(
 
 // A view for each part of the rows.
 #[cycle(views)]
+#[tactic(auto, unfolding(crate::specs::Views::faceted_with))]
 fn faceted_of(
     alloc: Global,
     named: &Named,
@@ -304,18 +329,21 @@ fn faceted_of(
     ensures { IfOk result (λ faceted. faceted
         ≡ faceted_with members.now (view_given (views_inside (shown named.now) members.now place.now (codes "spec")))) }
 {
+    let columns = count_at(members, "columns");
+    let spacing = space_at(members, "spacing");
     let view = view_at(alloc, named, members, place)?;
-    let (facet, view) = facet_with(alloc, needed_members(members, "facet"), view)?;
+    let (facet, view) = object_with(alloc, needed_members(members, "facet"), view)?;
     Ok(Faceted {
         facet,
-        columns: count_at(members, "columns"),
-        spacing: space_at(members, "spacing"),
+        columns,
+        spacing,
         spec: view,
     })
 }
 
 // Views beside each other.
 #[cycle(views)]
+#[tactic(auto, unfolding(crate::specs::Views::joined_with))]
 fn joined_of(
     alloc: Global,
     named: &Named,
@@ -327,11 +355,14 @@ fn joined_of(
     ensures { IfOk result (λ joined. joined
         ≡ joined_with joining members.now (views_given (views_inside (shown named.now) members.now place.now name.now))) }
 {
+    let columns = count_at(members, "columns");
+    let spacing = space_at(members, "spacing");
+    let views = views_at(alloc, named, members, place, name)?;
     Ok(Joined {
         joining,
-        columns: count_at(members, "columns"),
-        spacing: space_at(members, "spacing"),
-        views: views_at(alloc, named, members, place, name)?,
+        columns,
+        spacing,
+        views,
     })
 }
 

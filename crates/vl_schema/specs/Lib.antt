@@ -16,3 +16,4 @@ pub mod Sizes
 pub mod Schema
 pub mod Codes
 pub mod Examples
+pub mod inner

@@ -1,139 +1,87 @@
 //! The members of objects: channels.
-ghost use Rattle.std.specs.Prelude.{◌≡◌, ◌++◌, IfOk, OnOk};
-ghost use Rattle.vl_schema.specs.Channels.{field_members, written_channel, datum_channel, field_channel, encoding};
-ghost use Rattle.vl_schema.specs.Channels.{layer_encoding, channels_of, all_channels};
+ghost use Rattle.std.specs.Prelude.{◌≡◌, ◌++◌, OnOk};
+ghost use Rattle.vl_schema.specs.Channels.{all_channels};
+ghost use Rattle.vl_schema.specs.inner.Tables.{x_channels, y_channels, other_channels};
 
 use crate::codes::{
-    BIN, CHANNEL, CHANNEL_KINDS, COUNT, DETAIL, ENCODING, FACET_CHANNEL, FIELD_TYPE, FREE, HEADER,
-    LABEL_FORMAT, LAYER_ENCODING, LEGEND, OPERATION, SCALAR, SCALE, SORT, SPACE, STACK, TEXT,
-    TIME_UNIT, TITLE, X_CHANNEL, Y_CHANNEL,
+    AXIS, BIN, CHANNEL, CHANNEL_KINDS, CONDITIONS, COUNT, DETAIL, ENCODING, FACET_CHANNEL,
+    FIELD_TYPE, FREE, HEADER, LABEL_FORMAT, LAYER_ENCODING, LEGEND, OPERATION, SCALAR, SCALE, SORT,
+    SPACE, STACK, TEXT, TIME_UNIT, TITLE, X_AXIS, X_CHANNEL, X_CONDITIONS, Y_AXIS, Y_CHANNEL,
+    Y_CONDITIONS,
 };
-use spec_schema::{Layout, Rule, When, layout_by, layout_of_rules, push_rules, table};
+use crate::tables::{Table, push_layouts};
+use spec_schema::{Layout, When, table};
 use std::alloc::Global;
 use text_kit::{OutOfMemory, Seq};
 
-/// Adds the members of a definition over a field, with those of its axis and its conditions.
-#[tactic(auto, unfolding(crate::specs::Channels::field_members))]
-pub fn push_field_members(
-    alloc: Global,
-    out: &mut Seq<Rule>,
-    axes: u16,
-    tests: u16,
-) -> Result<(), OutOfMemory>
-    ensures { OnOk result (out.new ≡ out.old ++ field_members axes tests) }
-{
-    push_rules(
-        alloc,
-        out,
-        &table![
-        may "field" TEXT, may "type" FIELD_TYPE, may "aggregate" OPERATION, may "bin" BIN, may "timeUnit" TIME_UNIT,
-        may "title" TITLE, may "sort" SORT, may "scale" SCALE, may "stack" STACK, may "axis" axes,
-        may "legend" LEGEND, may "header" HEADER, may "format" LABEL_FORMAT, may "condition" tests,
-        may "columns" COUNT, may "spacing" SPACE,
-    ],
-    )
-}
-
-// A channel with a value that is written.
-#[tactic(auto, unfolding(crate::specs::Channels::written_channel))]
-fn written_channel(alloc: Global, object: u16, tests: u16) -> Result<Layout, OutOfMemory>
-    ensures { IfOk result (λ l. l ≡ written_channel object tests) }
-{
-    layout_by(
-        alloc,
-        object,
-        &[When::Leads(CHANNEL_KINDS, "value")],
-        &table![
-        may "value" SCALAR, may "condition" tests,
-    ],
-        None,
-    )
-}
-
-// A channel with a cell that is written.
-#[tactic(auto, unfolding(crate::specs::Channels::datum_channel))]
-fn datum_channel(alloc: Global, object: u16, axes: u16, tests: u16) -> Result<Layout, OutOfMemory>
-    ensures { IfOk result (λ l. l ≡ datum_channel object axes tests) }
-{
-    layout_by(
-        alloc,
-        object,
-        &[When::Leads(CHANNEL_KINDS, "datum")],
-        &table![
-        may "datum" SCALAR, may "type" FIELD_TYPE, may "scale" SCALE, may "axis" axes, may "legend" LEGEND,
-        may "title" TITLE, may "condition" tests,
-    ],
-        None,
-    )
-}
-
-// A channel over a field.
-#[tactic(auto, unfolding(crate::specs::Channels::field_channel))]
-fn field_channel(alloc: Global, object: u16, axes: u16, tests: u16) -> Result<Layout, OutOfMemory>
-    ensures { IfOk result (λ l. l ≡ field_channel object axes tests) }
-{
-    let mut rules = Seq::new(alloc);
-    push_field_members(alloc, &mut rules, axes, tests)?;
-    layout_of_rules(alloc, object, &[], rules, None)
-}
-
-// The channels of a unit.
-#[tactic(auto, unfolding(crate::specs::Channels::encoding))]
-fn encoding(alloc: Global) -> Result<Layout, OutOfMemory>
-    ensures { IfOk result (λ l. l ≡ encoding) }
-{
-    layout_by(
-        alloc,
-        ENCODING,
-        &[],
-        &table![
+// The channels of a unit, and those of a layer or of a unit in one.
+const ENCODINGS: [Table<'static>; 2] = layout_tables![
+    ENCODING [] [
         may "x" X_CHANNEL, may "y" Y_CHANNEL, may "x2" CHANNEL, may "y2" CHANNEL, may "color" CHANNEL,
         may "opacity" CHANNEL, may "size" CHANNEL, may "shape" CHANNEL, may "detail" DETAIL, may "text" CHANNEL,
-        may "row" FACET_CHANNEL, may "column" FACET_CHANNEL, may "facet" FACET_CHANNEL, may "tooltip" FREE,
-    ],
-        None,
-    )
-}
-
-// The channels of a layer, or of a unit in one.
-#[tactic(auto, unfolding(crate::specs::Channels::layer_encoding))]
-fn layer_encoding(alloc: Global) -> Result<Layout, OutOfMemory>
-    ensures { IfOk result (λ l. l ≡ layer_encoding) }
-{
-    layout_by(
-        alloc,
-        LAYER_ENCODING,
-        &[],
-        &table![
+        may "row" FACET_CHANNEL, may "column" FACET_CHANNEL, may "facet" FACET_CHANNEL, may "tooltip" FREE
+    ] None;
+    LAYER_ENCODING [] [
         may "x" X_CHANNEL, may "y" Y_CHANNEL, may "x2" CHANNEL, may "y2" CHANNEL, may "color" CHANNEL,
         may "opacity" CHANNEL, may "size" CHANNEL, may "shape" CHANNEL, may "detail" DETAIL, may "text" CHANNEL,
-        may "tooltip" FREE,
-    ],
-        None,
-    )
+        may "tooltip" FREE
+    ] None;
+];
+
+// The definitions of a channel, by its object and those of its axis and its conditions: with a value that is written, with a cell
+// that is, and over a field.
+macro_rules! channel_tables {
+    ($object:ident $axes:ident $tests:ident) => {
+        layout_tables![
+            $object [When::Leads(CHANNEL_KINDS, "value")] [may "value" SCALAR, may "condition" $tests] None;
+            $object [When::Leads(CHANNEL_KINDS, "datum")] [
+                may "datum" SCALAR, may "type" FIELD_TYPE, may "scale" SCALE, may "axis" $axes,
+                may "legend" LEGEND, may "title" TITLE, may "condition" $tests
+            ] None;
+            $object [] [
+                may "field" TEXT, may "type" FIELD_TYPE, may "aggregate" OPERATION, may "bin" BIN, may "timeUnit" TIME_UNIT,
+                may "title" TITLE, may "sort" SORT, may "scale" SCALE, may "stack" STACK, may "axis" $axes,
+                may "legend" LEGEND, may "header" HEADER, may "format" LABEL_FORMAT, may "condition" $tests,
+                may "columns" COUNT, may "spacing" SPACE
+            ] None;
+        ]
+    };
 }
 
-/// Adds the definitions of a channel.
-#[tactic(auto, unfolding(crate::specs::Channels::channels_of))]
-pub fn push_channels_of(
-    alloc: Global,
-    out: &mut Seq<Layout>,
-    object: u16,
-    axes: u16,
-    tests: u16,
-) -> Result<(), OutOfMemory>
-    ensures { OnOk result (out.new ≡ out.old ++ channels_of object axes tests) }
-{
-    out.push(written_channel(alloc, object, tests)?)?;
-    out.push(datum_channel(alloc, object, axes, tests)?)?;
-    out.push(field_channel(alloc, object, axes, tests)?)
-}
+const X_CHANNELS: [Table<'static>; 3] = channel_tables![X_CHANNEL X_AXIS X_CONDITIONS];
 
-/// Adds these layouts.
-#[tactic(auto, unfolding(crate::specs::Channels::all_channels))]
+const Y_CHANNELS: [Table<'static>; 3] = channel_tables![Y_CHANNEL Y_AXIS Y_CONDITIONS];
+
+const OTHER_CHANNELS: [Table<'static>; 3] = channel_tables![CHANNEL AXIS CONDITIONS];
+
+/// Adds the channels of units and layers.
+#[tactic(auto, unfolding(crate::specs::Channels::all_channels, crate::specs::Channels::encoding, crate::specs::Channels::layer_encoding))]
 pub fn push_channels(alloc: Global, out: &mut Seq<Layout>) -> Result<(), OutOfMemory>
     ensures { OnOk result (out.new ≡ out.old ++ all_channels) }
 {
-    out.push(encoding(alloc)?)?;
-    out.push(layer_encoding(alloc)?)
+    push_layouts(alloc, out, &ENCODINGS)
+}
+
+/// Adds the definitions of x.
+#[tactic(auto, unfolding(crate::specs::Channels::channels_of, crate::specs::Channels::written_channel, crate::specs::Channels::datum_channel, crate::specs::Channels::field_channel, crate::specs::Channels::field_members))]
+pub fn push_x_channels(alloc: Global, out: &mut Seq<Layout>) -> Result<(), OutOfMemory>
+    ensures { OnOk result (out.new ≡ out.old ++ x_channels) }
+{
+    push_layouts(alloc, out, &X_CHANNELS)
+}
+
+/// Adds those of y.
+#[tactic(auto, unfolding(crate::specs::Channels::channels_of, crate::specs::Channels::written_channel, crate::specs::Channels::datum_channel, crate::specs::Channels::field_channel, crate::specs::Channels::field_members))]
+pub fn push_y_channels(alloc: Global, out: &mut Seq<Layout>) -> Result<(), OutOfMemory>
+    ensures { OnOk result (out.new ≡ out.old ++ y_channels) }
+{
+    push_layouts(alloc, out, &Y_CHANNELS)
+}
+
+/// Adds those of any other channel.
+#[tactic(auto, unfolding(crate::specs::Channels::channels_of, crate::specs::Channels::written_channel, crate::specs::Channels::datum_channel, crate::specs::Channels::field_channel, crate::specs::Channels::field_members))]
+pub fn push_other_channels(alloc: Global, out: &mut Seq<Layout>) -> Result<(), OutOfMemory>
+    ensures { OnOk result (out.new ≡ out.old ++ other_channels) }
+{
+    push_layouts(alloc, out, &OTHER_CHANNELS)
 }

@@ -1,156 +1,72 @@
 //! The members of objects: conditions. One with `datum` has no form.
-ghost use Rattle.std.specs.Prelude.{◌≡◌, ◌++◌, IfOk, OnOk};
-ghost use Rattle.vl_schema.specs.Conditions.{selection_test, filter_test, value_by_selection, field_by_selection};
-ghost use Rattle.vl_schema.specs.Conditions.{value_by_filter, field_by_filter, conditions_of};
+ghost use Rattle.std.specs.Prelude.{◌≡◌, ◌++◌, OnOk};
+ghost use Rattle.vl_schema.specs.inner.Tables.{x_conditions, y_conditions, other_conditions};
 
-use crate::channels::push_field_members;
-use crate::codes::{CHANNEL_KINDS, FIELD_NAMES, FILTER, FLAG, SCALAR, TEST_KINDS, TEXT};
-use spec_schema::{Layout, Rule, When, layout_of_rules, push_rules, table};
+use crate::codes::{
+    AXIS, BIN, CHANNEL_KINDS, CONDITION, CONDITIONS, COUNT, FIELD_NAMES, FIELD_TYPE, FILTER, FLAG,
+    HEADER, LABEL_FORMAT, LEGEND, OPERATION, SCALAR, SCALE, SORT, SPACE, STACK, TEST_KINDS, TEXT,
+    TIME_UNIT, TITLE, X_AXIS, X_CONDITION, X_CONDITIONS, Y_AXIS, Y_CONDITION, Y_CONDITIONS,
+};
+use crate::tables::{Table, push_layouts};
+use spec_schema::{Layout, When, table};
 use std::alloc::Global;
 use text_kit::{OutOfMemory, Seq};
 
-// Adds the members of a test by a parameter.
-#[tactic(auto, unfolding(crate::specs::Conditions::selection_test))]
-fn push_selection_test(alloc: Global, out: &mut Seq<Rule>) -> Result<(), OutOfMemory>
-    ensures { OnOk result (out.new ≡ out.old ++ selection_test) }
-{
-    push_rules(
-        alloc,
-        out,
-        &table![
-        may "param" TEXT, may "empty" FLAG,
-    ],
-    )
+// The conditions of a channel, by its object and those of its axis and its conditions: a value and a field where a parameter allows it,
+// and the same where a filter does.
+macro_rules! condition_tables {
+    ($object:ident $axes:ident $tests:ident) => {
+        layout_tables![
+            $object [When::Alone(TEST_KINDS, "param"), When::Lacks("datum"), When::Leads(CHANNEL_KINDS, "value")] [
+                may "param" TEXT, may "empty" FLAG, may "value" SCALAR
+            ] None;
+            $object [When::Alone(TEST_KINDS, "param"), When::Lacks("datum"), When::Any(FIELD_NAMES)] [
+                may "param" TEXT, may "empty" FLAG,
+                may "field" TEXT, may "type" FIELD_TYPE, may "aggregate" OPERATION, may "bin" BIN, may "timeUnit" TIME_UNIT,
+                may "title" TITLE, may "sort" SORT, may "scale" SCALE, may "stack" STACK, may "axis" $axes,
+                may "legend" LEGEND, may "header" HEADER, may "format" LABEL_FORMAT, may "condition" $tests,
+                may "columns" COUNT, may "spacing" SPACE
+            ] None;
+            $object [When::Alone(TEST_KINDS, "test"), When::Lacks("datum"), When::Leads(CHANNEL_KINDS, "value")] [
+                may "test" FILTER, may "value" SCALAR
+            ] None;
+            $object [When::Alone(TEST_KINDS, "test"), When::Lacks("datum"), When::Any(FIELD_NAMES)] [
+                may "test" FILTER,
+                may "field" TEXT, may "type" FIELD_TYPE, may "aggregate" OPERATION, may "bin" BIN, may "timeUnit" TIME_UNIT,
+                may "title" TITLE, may "sort" SORT, may "scale" SCALE, may "stack" STACK, may "axis" $axes,
+                may "legend" LEGEND, may "header" HEADER, may "format" LABEL_FORMAT, may "condition" $tests,
+                may "columns" COUNT, may "spacing" SPACE
+            ] None;
+        ]
+    };
 }
 
-// Adds the member of a test by a filter.
-#[tactic(auto, unfolding(crate::specs::Conditions::filter_test))]
-fn push_filter_test(alloc: Global, out: &mut Seq<Rule>) -> Result<(), OutOfMemory>
-    ensures { OnOk result (out.new ≡ out.old ++ filter_test) }
+const FOR_X: [Table<'static>; 4] = condition_tables![X_CONDITION X_AXIS X_CONDITIONS];
+
+const FOR_Y: [Table<'static>; 4] = condition_tables![Y_CONDITION Y_AXIS Y_CONDITIONS];
+
+const FOR_OTHERS: [Table<'static>; 4] = condition_tables![CONDITION AXIS CONDITIONS];
+
+/// Adds the conditions of x.
+#[tactic(auto, unfolding(crate::specs::Conditions::conditions_of, crate::specs::Conditions::value_by_selection, crate::specs::Conditions::field_by_selection, crate::specs::Conditions::value_by_filter, crate::specs::Conditions::field_by_filter, crate::specs::Conditions::selection_test, crate::specs::Conditions::filter_test, crate::specs::Channels::field_members))]
+pub fn push_x_conditions(alloc: Global, out: &mut Seq<Layout>) -> Result<(), OutOfMemory>
+    ensures { OnOk result (out.new ≡ out.old ++ x_conditions) }
 {
-    push_rules(
-        alloc,
-        out,
-        &table![
-        may "test" FILTER,
-    ],
-    )
+    push_layouts(alloc, out, &FOR_X)
 }
 
-// A value where a parameter allows it.
-#[tactic(auto, unfolding(crate::specs::Conditions::value_by_selection))]
-fn value_by_selection(alloc: Global, object: u16) -> Result<Layout, OutOfMemory>
-    ensures { IfOk result (λ l. l ≡ value_by_selection object) }
+/// Adds those of y.
+#[tactic(auto, unfolding(crate::specs::Conditions::conditions_of, crate::specs::Conditions::value_by_selection, crate::specs::Conditions::field_by_selection, crate::specs::Conditions::value_by_filter, crate::specs::Conditions::field_by_filter, crate::specs::Conditions::selection_test, crate::specs::Conditions::filter_test, crate::specs::Channels::field_members))]
+pub fn push_y_conditions(alloc: Global, out: &mut Seq<Layout>) -> Result<(), OutOfMemory>
+    ensures { OnOk result (out.new ≡ out.old ++ y_conditions) }
 {
-    let mut rules = Seq::new(alloc);
-    push_selection_test(alloc, &mut rules)?;
-    push_rules(
-        alloc,
-        &mut rules,
-        &table![
-        may "value" SCALAR,
-    ],
-    )?;
-    layout_of_rules(
-        alloc,
-        object,
-        &[
-            When::Alone(TEST_KINDS, "param"),
-            When::Lacks("datum"),
-            When::Leads(CHANNEL_KINDS, "value"),
-        ],
-        rules,
-        None,
-    )
+    push_layouts(alloc, out, &FOR_Y)
 }
 
-// A field where a parameter allows it.
-#[tactic(auto, unfolding(crate::specs::Conditions::field_by_selection))]
-fn field_by_selection(
-    alloc: Global,
-    object: u16,
-    axes: u16,
-    tests: u16,
-) -> Result<Layout, OutOfMemory>
-    ensures { IfOk result (λ l. l ≡ field_by_selection object axes tests) }
+/// Adds those of any other channel.
+#[tactic(auto, unfolding(crate::specs::Conditions::conditions_of, crate::specs::Conditions::value_by_selection, crate::specs::Conditions::field_by_selection, crate::specs::Conditions::value_by_filter, crate::specs::Conditions::field_by_filter, crate::specs::Conditions::selection_test, crate::specs::Conditions::filter_test, crate::specs::Channels::field_members))]
+pub fn push_other_conditions(alloc: Global, out: &mut Seq<Layout>) -> Result<(), OutOfMemory>
+    ensures { OnOk result (out.new ≡ out.old ++ other_conditions) }
 {
-    let mut rules = Seq::new(alloc);
-    push_selection_test(alloc, &mut rules)?;
-    push_field_members(alloc, &mut rules, axes, tests)?;
-    layout_of_rules(
-        alloc,
-        object,
-        &[
-            When::Alone(TEST_KINDS, "param"),
-            When::Lacks("datum"),
-            When::Any(FIELD_NAMES),
-        ],
-        rules,
-        None,
-    )
-}
-
-// A value where a filter allows it.
-#[tactic(auto, unfolding(crate::specs::Conditions::value_by_filter))]
-fn value_by_filter(alloc: Global, object: u16) -> Result<Layout, OutOfMemory>
-    ensures { IfOk result (λ l. l ≡ value_by_filter object) }
-{
-    let mut rules = Seq::new(alloc);
-    push_filter_test(alloc, &mut rules)?;
-    push_rules(
-        alloc,
-        &mut rules,
-        &table![
-        may "value" SCALAR,
-    ],
-    )?;
-    layout_of_rules(
-        alloc,
-        object,
-        &[
-            When::Alone(TEST_KINDS, "test"),
-            When::Lacks("datum"),
-            When::Leads(CHANNEL_KINDS, "value"),
-        ],
-        rules,
-        None,
-    )
-}
-
-// A field where a filter allows it.
-#[tactic(auto, unfolding(crate::specs::Conditions::field_by_filter))]
-fn field_by_filter(alloc: Global, object: u16, axes: u16, tests: u16) -> Result<Layout, OutOfMemory>
-    ensures { IfOk result (λ l. l ≡ field_by_filter object axes tests) }
-{
-    let mut rules = Seq::new(alloc);
-    push_filter_test(alloc, &mut rules)?;
-    push_field_members(alloc, &mut rules, axes, tests)?;
-    layout_of_rules(
-        alloc,
-        object,
-        &[
-            When::Alone(TEST_KINDS, "test"),
-            When::Lacks("datum"),
-            When::Any(FIELD_NAMES),
-        ],
-        rules,
-        None,
-    )
-}
-
-/// Adds the conditions of a channel.
-#[tactic(auto, unfolding(crate::specs::Conditions::conditions_of))]
-pub fn push_conditions_of(
-    alloc: Global,
-    out: &mut Seq<Layout>,
-    object: u16,
-    axes: u16,
-    tests: u16,
-) -> Result<(), OutOfMemory>
-    ensures { OnOk result (out.new ≡ out.old ++ conditions_of object axes tests) }
-{
-    out.push(value_by_selection(alloc, object)?)?;
-    out.push(field_by_selection(alloc, object, axes, tests)?)?;
-    out.push(value_by_filter(alloc, object)?)?;
-    out.push(field_by_filter(alloc, object, axes, tests)?)
+    push_layouts(alloc, out, &FOR_OTHERS)
 }

@@ -2,6 +2,25 @@
 //! one object for each place where it is judged otherwise. Which layout an object has, its members say.
 #![tactic(auto)]
 
+// Layouts, each as its object, what has to hold of the members, the members, and the shape of others.
+macro_rules! layout_tables {
+    ($($object:ident [$($when:expr),*] [$($row:tt)*] $others:expr;)*) => {
+        [$(Table {
+            object: $object,
+            whens: &[$($when),*],
+            rows: &table![$($row)*],
+            others: $others,
+        }),*]
+    };
+}
+
+// Kinds of views, each as what has to hold of the members, and its own members.
+macro_rules! view_kinds {
+    ($([$($when:expr),*] [$($row:tt)*];)*) => {
+        [$(Kind { whens: &[$($when),*], rows: &table![$($row)*] }),*]
+    };
+}
+
 mod channels;
 mod codes;
 mod conditions;
@@ -16,6 +35,7 @@ mod schema;
 mod shapes;
 mod sizes;
 mod sources;
+mod tables;
 mod transforms;
 mod views;
 mod words;

@@ -2,12 +2,9 @@
 ghost use Rattle.std.specs.Prelude.{◌≡◌, ◌++◌, IfOk, OnOk};
 ghost use Rattle.vl_schema.specs.Schema.{view_layouts, source_layouts, channel_layouts, condition_layouts, other_layouts, layouts, vl_schema};
 
-use crate::channels::{push_channels, push_channels_of};
-use crate::codes::{
-    AXIS, CHANNEL, CONDITION, CONDITIONS, TOP, VIEW, X_AXIS, X_CHANNEL, X_CONDITION, X_CONDITIONS,
-    Y_AXIS, Y_CHANNEL, Y_CONDITION, Y_CONDITIONS,
-};
-use crate::conditions::push_conditions_of;
+use crate::channels::{push_channels, push_other_channels, push_x_channels, push_y_channels};
+use crate::codes::{TOP, VIEW};
+use crate::conditions::{push_other_conditions, push_x_conditions, push_y_conditions};
 use crate::facets::push_facets;
 use crate::filters::push_filters;
 use crate::guides::push_guides;
@@ -51,9 +48,9 @@ fn channel_layouts(alloc: Global, out: &mut Seq<Layout>) -> Result<(), OutOfMemo
     ensures { OnOk result (out.new ≡ out.old ++ channel_layouts) }
 {
     push_channels(alloc, out)?;
-    push_channels_of(alloc, out, X_CHANNEL, X_AXIS, X_CONDITIONS)?;
-    push_channels_of(alloc, out, Y_CHANNEL, Y_AXIS, Y_CONDITIONS)?;
-    push_channels_of(alloc, out, CHANNEL, AXIS, CONDITIONS)?;
+    push_x_channels(alloc, out)?;
+    push_y_channels(alloc, out)?;
+    push_other_channels(alloc, out)?;
     push_facets(alloc, out)
 }
 
@@ -62,9 +59,9 @@ fn channel_layouts(alloc: Global, out: &mut Seq<Layout>) -> Result<(), OutOfMemo
 fn condition_layouts(alloc: Global, out: &mut Seq<Layout>) -> Result<(), OutOfMemory>
     ensures { OnOk result (out.new ≡ out.old ++ condition_layouts) }
 {
-    push_conditions_of(alloc, out, X_CONDITION, X_AXIS, X_CONDITIONS)?;
-    push_conditions_of(alloc, out, Y_CONDITION, Y_AXIS, Y_CONDITIONS)?;
-    push_conditions_of(alloc, out, CONDITION, AXIS, CONDITIONS)?;
+    push_x_conditions(alloc, out)?;
+    push_y_conditions(alloc, out)?;
+    push_other_conditions(alloc, out)?;
     push_filters(alloc, out)
 }
 
@@ -79,17 +76,24 @@ fn other_layouts(alloc: Global, out: &mut Seq<Layout>) -> Result<(), OutOfMemory
     push_sizes(alloc, out)
 }
 
-// The layouts of all objects.
+// Adds the layouts of all objects.
 #[tactic(auto, unfolding(crate::specs::Schema::layouts))]
+fn push_all(alloc: Global, out: &mut Seq<Layout>) -> Result<(), OutOfMemory>
+    ensures { OnOk result (out.new ≡ out.old ++ layouts) }
+{
+    view_layouts(alloc, out)?;
+    source_layouts(alloc, out)?;
+    channel_layouts(alloc, out)?;
+    condition_layouts(alloc, out)?;
+    other_layouts(alloc, out)
+}
+
+// The layouts of all objects.
 fn layouts(alloc: Global) -> Result<Seq<Layout>, OutOfMemory>
     ensures { IfOk result (λ l. l ≡ layouts) }
 {
     let mut out = Seq::new(alloc);
-    view_layouts(alloc, &mut out)?;
-    source_layouts(alloc, &mut out)?;
-    channel_layouts(alloc, &mut out)?;
-    condition_layouts(alloc, &mut out)?;
-    other_layouts(alloc, &mut out)?;
+    push_all(alloc, &mut out)?;
     Ok(out)
 }
 

@@ -1,8 +1,8 @@
 //! The members of views.
 ghost use Rattle.std.specs.Prelude.{◌≡◌, ◌++◌, true, map, IfOk, OnOk};
 ghost use Rattle.spec_schema.specs.Rows.{rule_of, test_of};
-ghost use Rattle.vl_schema.specs.Views.{any_view, top_only, view_members, view, unit_view, layered_view, faceted_view};
-ghost use Rattle.vl_schema.specs.Views.{row_view, column_view, grid_view, led_views, joined_views, other_views, views};
+ghost use Rattle.vl_schema.specs.Views.{any_view, top_only, view_members, view, views};
+ghost use Rattle.vl_schema.specs.inner.Tables.{view_of};
 
 use crate::codes::{
     AUTOSIZE, CONFIG, COUNT, DATA, DATASETS, ENCODING, FACET, FREE, LAYER_ENCODING, LAYERS, MARK,
@@ -12,19 +12,46 @@ use spec_schema::{Layout, Row, Rule, When, layout_of_rules, push_rules, table};
 use std::alloc::Global;
 use text_kit::{OutOfMemory, Seq};
 
+/// A kind of view as it is written.
+#[derive(Clone, Copy)]
+pub struct Kind<'a> {
+    /// What has to hold of the members.
+    pub whens: &'a [When<'a>],
+    /// The members that views of other kinds haven't.
+    pub rows: &'a [Row<'a>],
+}
+
+// The members of any view.
+const ANY_VIEW: [Row<'static>; 9] = table![
+    may "name" TEXT, may "title" TEXT, may "data" DATA, may "transform" TRANSFORMS, may "params" PARAMETERS,
+    may "width" SIZE, may "height" SIZE, may "resolve" RESOLVE, may "description" FREE,
+];
+
+// The members of the top view besides.
+const TOP_ONLY: [Row<'static>; 7] = table![
+    may "$schema" TEXT, may "config" CONFIG, may "datasets" DATASETS, may "padding" SPACE,
+    may "autosize" AUTOSIZE, may "usermeta" FREE, may "background" FREE,
+];
+
+// Units, layered and faceted views, joined views, and those without a deciding member: a `spec` makes them faceted, and all others
+// are units.
+const KINDS: [Kind<'static>; 8] = view_kinds![
+    [When::Leads(VIEW_KINDS, "mark")] [must "mark" MARK, may "encoding" ENCODING];
+    [When::Leads(VIEW_KINDS, "layer")] [must "layer" LAYERS, may "encoding" LAYER_ENCODING];
+    [When::Leads(VIEW_KINDS, "facet")] [must "facet" FACET, must "spec" VIEW, may "columns" COUNT, may "spacing" SPACE];
+    [When::Leads(VIEW_KINDS, "hconcat")] [must "hconcat" VIEWS, may "spacing" SPACE];
+    [When::Leads(VIEW_KINDS, "vconcat")] [must "vconcat" VIEWS, may "spacing" SPACE];
+    [When::Leads(VIEW_KINDS, "concat")] [must "concat" VIEWS, may "spacing" SPACE, may "columns" COUNT];
+    [When::Has("spec")] [must "facet" FACET, must "spec" VIEW, may "columns" COUNT, may "spacing" SPACE];
+    [] [must "mark" MARK, may "encoding" ENCODING];
+];
+
 // Adds the members of any view.
 #[tactic(auto, unfolding(crate::specs::Views::any_view))]
 fn push_any_view(alloc: Global, out: &mut Seq<Rule>) -> Result<(), OutOfMemory>
     ensures { OnOk result (out.new ≡ out.old ++ any_view) }
 {
-    push_rules(
-        alloc,
-        out,
-        &table![
-        may "name" TEXT, may "title" TEXT, may "data" DATA, may "transform" TRANSFORMS, may "params" PARAMETERS,
-        may "width" SIZE, may "height" SIZE, may "resolve" RESOLVE, may "description" FREE,
-    ],
-    )
+    push_rules(alloc, out, &ANY_VIEW)
 }
 
 // Adds the members of the top view besides.
@@ -32,14 +59,7 @@ fn push_any_view(alloc: Global, out: &mut Seq<Rule>) -> Result<(), OutOfMemory>
 fn push_top_only(alloc: Global, out: &mut Seq<Rule>) -> Result<(), OutOfMemory>
     ensures { OnOk result (out.new ≡ out.old ++ top_only) }
 {
-    push_rules(
-        alloc,
-        out,
-        &table![
-        may "$schema" TEXT, may "config" CONFIG, may "datasets" DATASETS, may "padding" SPACE,
-        may "autosize" AUTOSIZE, may "usermeta" FREE, may "background" FREE,
-    ],
-    )
+    push_rules(alloc, out, &TOP_ONLY)
 }
 
 // Adds the members of the top view, besides those of its kind.
@@ -61,8 +81,8 @@ fn push_view_members(alloc: Global, out: &mut Seq<Rule>, top: bool) -> Result<()
     }
 }
 
-/// A view: its object, whether it is the top, what tells its kind, and the members of its kind.
-pub fn view(
+// A view: its object, whether it is the top, what tells its kind, and the members of its kind.
+fn view(
     alloc: Global,
     object: u16,
     top: bool,
@@ -77,165 +97,37 @@ pub fn view(
     layout_of_rules(alloc, object, tests, rules, None)
 }
 
-/// A unit, with the channels that may stand there.
-#[tactic(auto, unfolding(crate::specs::Views::unit_view))]
-pub fn unit_view(
-    alloc: Global,
-    object: u16,
-    channels: u16,
-    top: bool,
-    tests: &[When],
-) -> Result<Layout, OutOfMemory>
-    ensures { IfOk result (λ l. l ≡ unit_view object channels top (map test_of tests.now)) }
-{
-    view(
-        alloc,
-        object,
-        top,
-        tests,
-        &table![
-        must "mark" MARK, may "encoding" channels,
-    ],
-    )
-}
-
-/// A layered view.
-#[tactic(auto, unfolding(crate::specs::Views::layered_view))]
-pub fn layered_view(alloc: Global, object: u16, top: bool) -> Result<Layout, OutOfMemory>
-    ensures { IfOk result (λ l. l ≡ layered_view object top) }
-{
-    view(
-        alloc,
-        object,
-        top,
-        &[When::Leads(VIEW_KINDS, "layer")],
-        &table![
-        must "layer" LAYERS, may "encoding" LAYER_ENCODING,
-    ],
-    )
-}
-
-// A faceted view.
-#[tactic(auto, unfolding(crate::specs::Views::faceted_view))]
-fn faceted_view(
+// The layouts of views of some kinds.
+fn kinds_of(
     alloc: Global,
     object: u16,
     top: bool,
-    tests: &[When],
-) -> Result<Layout, OutOfMemory>
-    ensures { IfOk result (λ l. l ≡ faceted_view object top (map test_of tests.now)) }
+    kinds: &[Kind],
+) -> Result<Seq<Layout>, OutOfMemory>
+    ensures { IfOk result (λ l. l ≡ map (view_of object top) kinds.now) }
 {
-    view(
-        alloc,
-        object,
-        top,
-        tests,
-        &table![
-        must "facet" FACET, must "spec" VIEW, may "columns" COUNT, may "spacing" SPACE,
-    ],
-    )
+    let mut out = Seq::with_capacity(alloc, kinds.len())?;
+    for kind in kinds {
+        out.push(view(alloc, object, top, kind.whens, kind.rows)?)?;
+    }
+    Ok(out)
 }
 
-// Views side by side.
-#[tactic(auto, unfolding(crate::specs::Views::row_view))]
-fn row_view(alloc: Global, object: u16, top: bool) -> Result<Layout, OutOfMemory>
-    ensures { IfOk result (λ l. l ≡ row_view object top) }
-{
-    view(
-        alloc,
-        object,
-        top,
-        &[When::Leads(VIEW_KINDS, "hconcat")],
-        &table![
-        must "hconcat" VIEWS, may "spacing" SPACE,
-    ],
-    )
-}
-
-// Views one below the other.
-#[tactic(auto, unfolding(crate::specs::Views::column_view))]
-fn column_view(alloc: Global, object: u16, top: bool) -> Result<Layout, OutOfMemory>
-    ensures { IfOk result (λ l. l ≡ column_view object top) }
-{
-    view(
-        alloc,
-        object,
-        top,
-        &[When::Leads(VIEW_KINDS, "vconcat")],
-        &table![
-        must "vconcat" VIEWS, may "spacing" SPACE,
-    ],
-    )
-}
-
-// Views in a grid.
-#[tactic(auto, unfolding(crate::specs::Views::grid_view))]
-fn grid_view(alloc: Global, object: u16, top: bool) -> Result<Layout, OutOfMemory>
-    ensures { IfOk result (λ l. l ≡ grid_view object top) }
-{
-    view(
-        alloc,
-        object,
-        top,
-        &[When::Leads(VIEW_KINDS, "concat")],
-        &table![
-        must "concat" VIEWS, may "spacing" SPACE, may "columns" COUNT,
-    ],
-    )
-}
-
-// Adds units, layered and faceted views, by their first deciding member.
-#[tactic(auto, unfolding(crate::specs::Views::led_views))]
-fn push_led_views(
+/// Adds the layouts of views of some kinds, at the top or not.
+pub fn push_kinds(
     alloc: Global,
     out: &mut Seq<Layout>,
     object: u16,
     top: bool,
+    kinds: &[Kind],
 ) -> Result<(), OutOfMemory>
-    ensures { OnOk result (out.new ≡ out.old ++ led_views object top) }
+    ensures { OnOk result (out.new ≡ out.old ++ map (view_of object top) kinds.now) }
 {
-    out.push(unit_view(
-        alloc,
-        object,
-        ENCODING,
-        top,
-        &[When::Leads(VIEW_KINDS, "mark")],
-    )?)?;
-    out.push(layered_view(alloc, object, top)?)?;
-    out.push(faceted_view(alloc, object, top, &[When::Leads(VIEW_KINDS, "facet")])?)
-}
-
-// Adds joined views.
-#[tactic(auto, unfolding(crate::specs::Views::joined_views))]
-fn push_joined_views(
-    alloc: Global,
-    out: &mut Seq<Layout>,
-    object: u16,
-    top: bool,
-) -> Result<(), OutOfMemory>
-    ensures { OnOk result (out.new ≡ out.old ++ joined_views object top) }
-{
-    out.push(row_view(alloc, object, top)?)?;
-    out.push(column_view(alloc, object, top)?)?;
-    out.push(grid_view(alloc, object, top)?)
-}
-
-// Adds views without a deciding member.
-#[tactic(auto, unfolding(crate::specs::Views::other_views))]
-fn push_other_views(
-    alloc: Global,
-    out: &mut Seq<Layout>,
-    object: u16,
-    top: bool,
-) -> Result<(), OutOfMemory>
-    ensures { OnOk result (out.new ≡ out.old ++ other_views object top) }
-{
-    out.push(faceted_view(alloc, object, top, &[When::Has("spec")])?)?;
-    out.push(unit_view(alloc, object, ENCODING, top, &[])?)
+    out.append(kinds_of(alloc, object, top, kinds)?)
 }
 
 /// Adds the views of a place.
-#[tactic(auto, unfolding(crate::specs::Views::views))]
+#[tactic(auto, unfolding(crate::specs::Views::views, crate::specs::Views::led_views, crate::specs::Views::joined_views, crate::specs::Views::other_views, crate::specs::Views::unit_view, crate::specs::Views::layered_view, crate::specs::Views::faceted_view, crate::specs::Views::row_view, crate::specs::Views::column_view, crate::specs::Views::grid_view))]
 pub fn push_views(
     alloc: Global,
     out: &mut Seq<Layout>,
@@ -244,7 +136,5 @@ pub fn push_views(
 ) -> Result<(), OutOfMemory>
     ensures { OnOk result (out.new ≡ out.old ++ views object top) }
 {
-    push_led_views(alloc, out, object, top)?;
-    push_joined_views(alloc, out, object, top)?;
-    push_other_views(alloc, out, object, top)
+    push_kinds(alloc, out, object, top, &KINDS)
 }

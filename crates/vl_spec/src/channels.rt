@@ -1,19 +1,18 @@
 // Channels, and their conditions.
 ghost use Rattle.std.specs.Prelude.{◌≡◌, IfOk};
 
+use crate::copying::beside;
 use crate::{Definition, Filter, ParamTest};
 use std::alloc::Global;
 use text_kit::{Boxed, Copies, OutOfMemory, Seq};
 
 /// The channels of a view, in the order of the text.
-#[derive(Drop)]
 pub struct Encoding {
     /// The channels.
     pub channels: Seq<ChannelOf>,
 }
 
 /// A channel by its name.
-#[derive(Drop)]
 pub struct ChannelOf {
     /// The code of the channel among `case_table::CHANNELS`.
     pub channel: u16,
@@ -22,7 +21,6 @@ pub struct ChannelOf {
 }
 
 /// What a channel shows.
-#[derive(Drop)]
 pub enum ChannelKind {
     /// One definition.
     One(Channel),
@@ -61,12 +59,44 @@ pub struct Condition {
 }
 
 /// When a condition holds.
-#[derive(Drop)]
 pub enum Test {
     /// Where a parameter allows it.
     Param(ParamTest),
     /// Where a filter lets the row pass.
     Filter(Filter),
+}
+
+impl Drop for Encoding {
+    fn drop(self) {
+        let Encoding { channels: _ } = self;
+    }
+}
+
+impl Drop for ChannelOf {
+    fn drop(self) {
+        let ChannelOf {
+            channel: _,
+            shows: _,
+        } = self;
+    }
+}
+
+impl Drop for ChannelKind {
+    fn drop(self) {
+        match self {
+            ChannelKind::One(_) => {}
+            ChannelKind::Several(_) => {}
+        }
+    }
+}
+
+impl Drop for Test {
+    fn drop(self) {
+        match self {
+            Test::Param(_) => {}
+            Test::Filter(_) => {}
+        }
+    }
 }
 
 impl Copies for Encoding {
@@ -102,7 +132,7 @@ impl Channel {
         ensures { IfOk result (λ copy. copy ≡ self.now) }
     {
         let condition = copied_conditions(alloc, &self.condition)?;
-        let definition = self.definition.copied(alloc)?;
+        let (condition, definition) = beside(alloc, condition, &self.definition)?;
         Ok(Channel {
             definition,
             condition,
@@ -131,8 +161,8 @@ impl Condition {
     pub fn copy(&self, alloc: Global) -> Result<Condition, OutOfMemory>
         ensures { IfOk result (λ copy. copy ≡ self.now) }
     {
-        let test = self.test.copied(alloc)?;
         let shows = self.shows.copy(alloc)?;
+        let (shows, test) = beside(alloc, shows, &self.test)?;
         Ok(Condition { test, shows })
     }
 }

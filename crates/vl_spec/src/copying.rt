@@ -17,6 +17,51 @@ pub fn copied_values<T: Copy>(
     }
 }
 
+/// A value, and a copy of another.
+pub fn beside<K: Drop, A: Copies>(alloc: Global, kept: K, a: &A) -> Result<(K, A), OutOfMemory>
+    ensures { IfOk result (λ both. both ≡ (kept, a.now)) }
+{
+    let a = a.copied(alloc)?;
+    Ok((kept, a))
+}
+
+/// A value, and copies of three others.
+pub fn beside_three<K: Drop, A: Copies + Drop, B: Copies + Drop, C: Copies>(
+    alloc: Global,
+    kept: K,
+    a: &A,
+    b: &B,
+    c: &C,
+) -> Result<(K, A, B, C), OutOfMemory>
+    ensures { IfOk result (λ all. all ≡ (kept, a.now, b.now, c.now)) }
+{
+    let (a, b, c) = copied_three(alloc, a, b, c)?;
+    Ok((kept, a, b, c))
+}
+
+/// A value, and copies of five others.
+pub fn beside_five<
+    K: Drop,
+    A: Copies + Drop,
+    B: Copies + Drop,
+    C: Copies + Drop,
+    D: Copies + Drop,
+    E: Copies,
+>(
+    alloc: Global,
+    kept: K,
+    a: &A,
+    b: &B,
+    c: &C,
+    d: &D,
+    e: &E,
+) -> Result<(K, A, B, C, D, E), OutOfMemory>
+    ensures { IfOk result (λ all. all ≡ (kept, a.now, b.now, c.now, d.now, e.now)) }
+{
+    let (a, b, c, d, e) = copied_five(alloc, a, b, c, d, e)?;
+    Ok((kept, a, b, c, d, e))
+}
+
 /// Copies of two values.
 pub fn copied_two<A: Copies + Drop, B: Copies>(
     alloc: Global,

@@ -7,7 +7,6 @@ use std::alloc::Global;
 use text_kit::{Copies, OutOfMemory, Text};
 
 /// What a channel shows.
-#[derive(Drop)]
 pub enum Definition {
     /// `value`: this, without a scale.
     Value(Cell),
@@ -18,7 +17,6 @@ pub enum Definition {
 }
 
 /// A cell that is written, on a scale.
-#[derive(Drop)]
 pub struct DatumDefinition {
     /// The cell.
     pub datum: Cell,
@@ -35,7 +33,6 @@ pub struct DatumDefinition {
 }
 
 /// The cells of a field, or what is made of it.
-#[derive(Drop)]
 pub struct FieldDefinition {
     /// The field.
     pub field: Option<Text>,
@@ -70,7 +67,7 @@ pub struct FieldDefinition {
 }
 
 /// What kind of cells a field has.
-#[derive(Clone, Copy, PartialEq, Eq)]
+#[derive(Clone, Copy)]
 pub enum FieldType {
     /// `quantitative`
     Quantitative,
@@ -101,7 +98,7 @@ pub struct BinSettings {
 }
 
 /// How a channel is stacked.
-#[derive(Clone, Copy, PartialEq, Eq)]
+#[derive(Clone, Copy)]
 pub enum Stacking {
     /// Null: not at all.
     Null,
@@ -109,6 +106,51 @@ pub enum Stacking {
     Flag(bool),
     /// From here.
     Offset(Offset),
+}
+
+impl Drop for Definition {
+    fn drop(self) {
+        match self {
+            Definition::Value(_) => {}
+            Definition::Datum(_) => {}
+            Definition::Field(_) => {}
+        }
+    }
+}
+
+impl Drop for DatumDefinition {
+    fn drop(self) {
+        let DatumDefinition {
+            datum: _,
+            type_: _,
+            scale: _,
+            axis: _,
+            legend: _,
+            title: _,
+        } = self;
+    }
+}
+
+impl Drop for FieldDefinition {
+    fn drop(self) {
+        let FieldDefinition {
+            field: _,
+            type_: _,
+            aggregate: _,
+            bin: _,
+            time_unit: _,
+            title: _,
+            sort: _,
+            scale: _,
+            stack: _,
+            axis: _,
+            legend: _,
+            header: _,
+            format: _,
+            columns: _,
+            spacing: _,
+        } = self;
+    }
 }
 
 impl Copies for Definition {

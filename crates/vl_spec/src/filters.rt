@@ -27,7 +27,6 @@ pub enum Filter {
 }
 
 /// A test by a parameter.
-#[derive(Drop)]
 pub struct ParamTest {
     /// The parameter.
     pub param: Text,
@@ -36,7 +35,6 @@ pub struct ParamTest {
 }
 
 /// A test of a field.
-#[derive(Drop)]
 pub struct FieldTest {
     /// The field.
     pub field: Text,
@@ -47,7 +45,6 @@ pub struct FieldTest {
 }
 
 /// A comparison of a cell.
-#[derive(Drop)]
 pub enum Comparison {
     /// `equal`
     Equal(Cell),
@@ -65,6 +62,37 @@ pub enum Comparison {
     OneOf(Seq<Cell>),
     /// `valid`: whether it isn't null.
     Valid(bool),
+}
+
+impl Drop for ParamTest {
+    fn drop(self) {
+        let ParamTest { param: _, empty: _ } = self;
+    }
+}
+
+impl Drop for FieldTest {
+    fn drop(self) {
+        let FieldTest {
+            field: _,
+            time_unit: _,
+            comparison: _,
+        } = self;
+    }
+}
+
+impl Drop for Comparison {
+    fn drop(self) {
+        match self {
+            Comparison::Equal(_) => {}
+            Comparison::Less(_) => {}
+            Comparison::LessSame(_) => {}
+            Comparison::More(_) => {}
+            Comparison::MoreSame(_) => {}
+            Comparison::Range(_, _) => {}
+            Comparison::OneOf(_) => {}
+            Comparison::Valid(_) => {}
+        }
+    }
 }
 
 impl Filter {

@@ -7,7 +7,6 @@ use std::alloc::Global;
 use text_kit::{Copies, OutOfMemory, Seq, Text};
 
 /// What is computed of each group of rows.
-#[derive(Drop)]
 pub struct AggregateTransform {
     /// What is computed.
     pub aggregate: Seq<Operation>,
@@ -16,7 +15,6 @@ pub struct AggregateTransform {
 }
 
 /// An operation over the rows of a group.
-#[derive(Drop)]
 pub struct Operation {
     /// Its code among `case_table::OPERATIONS`.
     pub op: u16,
@@ -27,7 +25,6 @@ pub struct Operation {
 }
 
 /// What is computed of each row over its neighbours.
-#[derive(Drop)]
 pub struct WindowTransform {
     /// What is computed.
     pub window: Seq<WindowOperation>,
@@ -42,7 +39,6 @@ pub struct WindowTransform {
 }
 
 /// An operation over the rows about a row.
-#[derive(Drop)]
 pub struct WindowOperation {
     /// Its code among `case_table::OPERATIONS`.
     pub op: u16,
@@ -64,7 +60,6 @@ pub struct Frame {
 }
 
 /// How cells of other rows are taken.
-#[derive(Drop)]
 pub struct LookupTransform {
     /// The field of the row that is looked up.
     pub lookup: Text,
@@ -77,7 +72,6 @@ pub struct LookupTransform {
 }
 
 /// The rows of which a lookup takes cells.
-#[derive(Drop)]
 pub struct LookupFrom {
     /// The name of their source.
     pub data_: Option<Text>,
@@ -85,6 +79,69 @@ pub struct LookupFrom {
     pub key: Text,
     /// The fields there that are taken.
     pub fields: Seq<Text>,
+}
+
+impl Drop for AggregateTransform {
+    fn drop(self) {
+        let AggregateTransform {
+            aggregate: _,
+            groupby: _,
+        } = self;
+    }
+}
+
+impl Drop for Operation {
+    fn drop(self) {
+        let Operation {
+            op: _,
+            field: _,
+            as_: _,
+        } = self;
+    }
+}
+
+impl Drop for WindowTransform {
+    fn drop(self) {
+        let WindowTransform {
+            window: _,
+            groupby: _,
+            sort: _,
+            frame: _,
+            ignore_peers: _,
+        } = self;
+    }
+}
+
+impl Drop for WindowOperation {
+    fn drop(self) {
+        let WindowOperation {
+            op: _,
+            field: _,
+            param: _,
+            as_: _,
+        } = self;
+    }
+}
+
+impl Drop for LookupTransform {
+    fn drop(self) {
+        let LookupTransform {
+            lookup: _,
+            from: _,
+            as_: _,
+            default: _,
+        } = self;
+    }
+}
+
+impl Drop for LookupFrom {
+    fn drop(self) {
+        let LookupFrom {
+            data_: _,
+            key: _,
+            fields: _,
+        } = self;
+    }
 }
 
 impl Copies for AggregateTransform {

@@ -6,7 +6,6 @@ use std::alloc::Global;
 use text_kit::{Copies, OutOfMemory, Seq, Text};
 
 /// An axis.
-#[derive(Drop)]
 pub struct Axis {
     /// The title; null for none.
     pub title: Option<Option<Text>>,
@@ -31,7 +30,7 @@ pub struct Axis {
 }
 
 /// A side of a plot.
-#[derive(Clone, Copy, PartialEq, Eq)]
+#[derive(Clone, Copy)]
 pub enum Side {
     /// `left`
     Left,
@@ -44,7 +43,6 @@ pub enum Side {
 }
 
 /// A legend.
-#[derive(Drop)]
 pub struct Legend {
     /// The title; null for none.
     pub title: Option<Option<Text>>,
@@ -57,6 +55,32 @@ pub struct Legend {
 pub struct Header {
     /// Whether there are labels.
     pub labels: Option<bool>,
+}
+
+impl Drop for Axis {
+    fn drop(self) {
+        let Axis {
+            title: _,
+            labels: _,
+            ticks: _,
+            domain: _,
+            grid: _,
+            label_angle: _,
+            tick_count: _,
+            values: _,
+            orient: _,
+            format: _,
+        } = self;
+    }
+}
+
+impl Drop for Legend {
+    fn drop(self) {
+        let Legend {
+            title: _,
+            format: _,
+        } = self;
+    }
 }
 
 impl Copies for Axis {

@@ -4,7 +4,6 @@ use std::alloc::Global;
 use text_kit::{Copies, OutOfMemory, Text};
 
 /// A mark.
-#[derive(Drop)]
 pub enum Mark {
     /// Its type alone.
     Type(MarkType),
@@ -13,7 +12,7 @@ pub enum Mark {
 }
 
 /// The type of a mark.
-#[derive(Clone, Copy, PartialEq, Eq)]
+#[derive(Clone, Copy)]
 pub enum MarkType {
     /// `bar`
     Bar,
@@ -38,7 +37,6 @@ pub enum MarkType {
 }
 
 /// The type and the look of a mark.
-#[derive(Drop)]
 pub struct MarkDefinition {
     /// The type.
     pub type_: MarkType,
@@ -69,7 +67,7 @@ pub struct MarkDefinition {
 }
 
 /// Where a text is anchored.
-#[derive(Clone, Copy, PartialEq, Eq)]
+#[derive(Clone, Copy)]
 pub enum Align {
     /// `left`
     Left,
@@ -80,7 +78,7 @@ pub enum Align {
 }
 
 /// Where the baseline of a text is.
-#[derive(Clone, Copy, PartialEq, Eq)]
+#[derive(Clone, Copy)]
 pub enum Baseline {
     /// `top`
     Top,
@@ -93,10 +91,39 @@ pub enum Baseline {
 }
 
 /// How the points of a line are joined.
-#[derive(Clone, Copy, PartialEq, Eq)]
+#[derive(Clone, Copy)]
 pub enum Interpolate {
     /// `linear`
     Linear,
+}
+
+impl Drop for Mark {
+    fn drop(self) {
+        match self {
+            Mark::Type(_) => {}
+            Mark::Definition(_) => {}
+        }
+    }
+}
+
+impl Drop for MarkDefinition {
+    fn drop(self) {
+        let MarkDefinition {
+            type_: _,
+            color: _,
+            opacity: _,
+            filled: _,
+            point: _,
+            size: _,
+            stroke_width: _,
+            align: _,
+            baseline: _,
+            dx: _,
+            dy: _,
+            font_size: _,
+            interpolate: _,
+        } = self;
+    }
 }
 
 impl Copies for Mark {

@@ -4,7 +4,6 @@ use std::alloc::Global;
 use text_kit::{Copies, OutOfMemory, Seq, Text};
 
 /// One text, or a list of them.
-#[derive(Drop)]
 pub enum Texts {
     /// A text that stands alone.
     One(Text),
@@ -13,7 +12,7 @@ pub enum Texts {
 }
 
 /// The direction of an order.
-#[derive(Clone, Copy, PartialEq, Eq)]
+#[derive(Clone, Copy)]
 pub enum Order {
     /// `ascending`
     Ascending,
@@ -22,7 +21,6 @@ pub enum Order {
 }
 
 /// A field of an order.
-#[derive(Drop)]
 pub struct SortField {
     /// The field.
     pub field: Text,
@@ -31,7 +29,7 @@ pub struct SortField {
 }
 
 /// Where a stack begins.
-#[derive(Clone, Copy, PartialEq, Eq)]
+#[derive(Clone, Copy)]
 pub enum Offset {
     /// `zero`
     Zero,
@@ -42,7 +40,6 @@ pub enum Offset {
 }
 
 /// How the cells of a channel stand.
-#[derive(Drop)]
 pub enum Sort {
     /// Null: as they first appear.
     Null,
@@ -59,7 +56,6 @@ pub enum Sort {
 }
 
 /// An order by an aggregate of a field.
-#[derive(Drop)]
 pub struct FieldSort {
     /// The field; a count needs none.
     pub field: Option<Text>,
@@ -67,6 +63,44 @@ pub struct FieldSort {
     pub op: Option<u16>,
     /// The direction.
     pub order: Option<Order>,
+}
+
+impl Drop for Texts {
+    fn drop(self) {
+        match self {
+            Texts::One(_) => {}
+            Texts::Several(_) => {}
+        }
+    }
+}
+
+impl Drop for SortField {
+    fn drop(self) {
+        let SortField { field: _, order: _ } = self;
+    }
+}
+
+impl Drop for Sort {
+    fn drop(self) {
+        match self {
+            Sort::Null => {}
+            Sort::Cells(_) => {}
+            Sort::X(_) => {}
+            Sort::Y(_) => {}
+            Sort::Listed(_) => {}
+            Sort::Field(_) => {}
+        }
+    }
+}
+
+impl Drop for FieldSort {
+    fn drop(self) {
+        let FieldSort {
+            field: _,
+            op: _,
+            order: _,
+        } = self;
+    }
 }
 
 impl Copies for Texts {

@@ -6,7 +6,6 @@ use std::alloc::Global;
 use text_kit::{Copies, OutOfMemory, Seq, Text};
 
 /// A parameter.
-#[derive(Drop)]
 pub struct ParamOf {
     /// The name.
     pub name: Text,
@@ -15,7 +14,6 @@ pub struct ParamOf {
 }
 
 /// What a parameter is.
-#[derive(Drop)]
 pub enum ParamKind {
     /// A value that can be set, at first this one.
     Value(Cell),
@@ -26,7 +24,6 @@ pub enum ParamKind {
 }
 
 /// A selection.
-#[derive(Drop)]
 pub struct Selection {
     /// The names of the views with the units that it concerns; without it all units below the view that has it.
     pub views: Option<Seq<Text>>,
@@ -35,7 +32,6 @@ pub struct Selection {
 }
 
 /// What a selection keeps, and when it changes.
-#[derive(Drop)]
 pub enum Select {
     /// Its type alone.
     Type(SelectType),
@@ -44,7 +40,7 @@ pub enum Select {
 }
 
 /// The type of a selection.
-#[derive(Clone, Copy, PartialEq, Eq)]
+#[derive(Clone, Copy)]
 pub enum SelectType {
     /// `point`
     Point,
@@ -53,7 +49,6 @@ pub enum SelectType {
 }
 
 /// The type of a selection, what it keeps and when it changes.
-#[derive(Drop)]
 pub struct SelectDefinition {
     /// The type.
     pub type_: SelectType,
@@ -70,7 +65,7 @@ pub struct SelectDefinition {
 }
 
 /// An event that sets a selection.
-#[derive(Clone, Copy, PartialEq, Eq)]
+#[derive(Clone, Copy)]
 pub enum SelectEvent {
     /// `click`
     Click,
@@ -79,7 +74,7 @@ pub enum SelectEvent {
 }
 
 /// The event that clears a selection.
-#[derive(Clone, Copy, PartialEq, Eq)]
+#[derive(Clone, Copy)]
 pub enum Clear {
     /// True.
     True,
@@ -88,12 +83,59 @@ pub enum Clear {
 }
 
 /// The event that toggles a selection.
-#[derive(Clone, Copy, PartialEq, Eq)]
+#[derive(Clone, Copy)]
 pub enum Toggle {
     /// True.
     True,
     /// `event.shiftKey`
     ShiftKey,
+}
+
+impl Drop for ParamOf {
+    fn drop(self) {
+        let ParamOf { name: _, kind: _ } = self;
+    }
+}
+
+impl Drop for ParamKind {
+    fn drop(self) {
+        match self {
+            ParamKind::Value(_) => {}
+            ParamKind::Expr(_) => {}
+            ParamKind::Select(_) => {}
+        }
+    }
+}
+
+impl Drop for Selection {
+    fn drop(self) {
+        let Selection {
+            views: _,
+            select: _,
+        } = self;
+    }
+}
+
+impl Drop for Select {
+    fn drop(self) {
+        match self {
+            Select::Type(_) => {}
+            Select::Definition(_) => {}
+        }
+    }
+}
+
+impl Drop for SelectDefinition {
+    fn drop(self) {
+        let SelectDefinition {
+            type_: _,
+            fields: _,
+            encodings: _,
+            on: _,
+            clear: _,
+            toggle: _,
+        } = self;
+    }
 }
 
 impl Copies for ParamOf {

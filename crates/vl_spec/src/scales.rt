@@ -6,7 +6,6 @@ use std::alloc::Global;
 use text_kit::{Copies, OutOfMemory, Seq, Text};
 
 /// What is said of a scale.
-#[derive(Drop)]
 pub struct Scale {
     /// The code of its type among `case_table::SCALE_KINDS`.
     pub type_: Option<u16>,
@@ -31,7 +30,6 @@ pub struct Scale {
 }
 
 /// The domain of a scale.
-#[derive(Drop)]
 pub enum Domain {
     /// A list of cells.
     Cells(Seq<Cell>),
@@ -40,7 +38,6 @@ pub enum Domain {
 }
 
 /// The domain that a selection gives.
-#[derive(Drop)]
 pub struct ParamDomain {
     /// The selection.
     pub param: Text,
@@ -49,12 +46,47 @@ pub struct ParamDomain {
 }
 
 /// A colour scheme.
-#[derive(Clone, Copy, PartialEq, Eq)]
+#[derive(Clone, Copy)]
 pub enum Scheme {
     /// `tableau10`
     Tableau10,
     /// `blues`
     Blues,
+}
+
+impl Drop for Scale {
+    fn drop(self) {
+        let Scale {
+            type_: _,
+            domain: _,
+            range: _,
+            scheme: _,
+            zero: _,
+            nice: _,
+            padding: _,
+            padding_inner: _,
+            padding_outer: _,
+            reverse: _,
+        } = self;
+    }
+}
+
+impl Drop for Domain {
+    fn drop(self) {
+        match self {
+            Domain::Cells(_) => {}
+            Domain::Param(_) => {}
+        }
+    }
+}
+
+impl Drop for ParamDomain {
+    fn drop(self) {
+        let ParamDomain {
+            param: _,
+            encoding: _,
+        } = self;
+    }
 }
 
 impl Copies for Scale {

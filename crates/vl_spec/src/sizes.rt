@@ -5,7 +5,7 @@ use std::alloc::Global;
 use text_kit::{Copies, OutOfMemory, Seq};
 
 /// A width or a height.
-#[derive(Clone, Copy, PartialEq, Eq)]
+#[derive(Clone, Copy)]
 pub enum Size {
     /// A number, in pixels.
     Number(Num),
@@ -29,14 +29,13 @@ pub struct ConfigView {
 }
 
 /// How the picture's size is found.
-#[derive(Clone, Copy, PartialEq, Eq)]
+#[derive(Clone, Copy)]
 pub enum Autosize {
     /// `pad`
     Pad,
 }
 
 /// Which scales the views inside a view share.
-#[derive(Drop)]
 pub struct Resolve {
     /// What is said of channels.
     pub scale: Option<Seq<SharingOf>>,
@@ -52,12 +51,18 @@ pub struct SharingOf {
 }
 
 /// Whether views share a scale.
-#[derive(Clone, Copy, PartialEq, Eq)]
+#[derive(Clone, Copy)]
 pub enum Sharing {
     /// `shared`
     Shared,
     /// `independent`
     Independent,
+}
+
+impl Drop for Resolve {
+    fn drop(self) {
+        let Resolve { scale: _ } = self;
+    }
 }
 
 impl Copies for Resolve {

@@ -1,13 +1,12 @@
 // Sources.
 ghost use Rattle.std.specs.Prelude.{◌≡◌, IfOk};
 
-use crate::copying::copied_three;
+use crate::copying::beside_three;
 use json_exact::Json;
 use std::alloc::Global;
 use text_kit::{Copies, OutOfMemory, Seq, Text};
 
 /// A source: where rows come from.
-#[derive(Drop)]
 pub struct SourceOf {
     /// The name: that of its `data`, or `source_i` for the unnamed `data` of number i.
     pub name: Text,
@@ -20,7 +19,6 @@ pub struct SourceOf {
 }
 
 /// The format of data.
-#[derive(Drop)]
 pub struct Format {
     /// The type of the file.
     pub type_: Option<FormatKind>,
@@ -29,7 +27,7 @@ pub struct Format {
 }
 
 /// The type of a data file.
-#[derive(Clone, Copy, PartialEq, Eq)]
+#[derive(Clone, Copy)]
 pub enum FormatKind {
     /// `json`
     Json,
@@ -38,7 +36,7 @@ pub enum FormatKind {
 }
 
 /// How the texts of a field are read.
-#[derive(Clone, Copy, PartialEq, Eq)]
+#[derive(Clone, Copy)]
 pub enum ParseKind {
     /// `number`
     Number,
@@ -60,10 +58,33 @@ fn copied_json(alloc: Global, tree: &Option<Json>) -> Result<Option<Json>, OutOf
     }
 }
 
+impl Drop for SourceOf {
+    fn drop(self) {
+        let SourceOf {
+            name: _,
+            values: _,
+            url: _,
+            format: _,
+        } = self;
+    }
+}
+
+impl Drop for Format {
+    fn drop(self) {
+        let Format { type_: _, parse: _ } = self;
+    }
+}
+
 impl Copies for SourceOf {
     fn copied(&self, alloc: Global) -> Result<SourceOf, OutOfMemory> {
         let values = copied_json(alloc, &self.values)?;
-        let (name, url, format) = copied_three(alloc, &self.name, &self.url, &self.format)?;
+        let (values, name, url, format) = beside_three(
+            alloc,
+            values,
+            &self.name,
+            &self.url,
+            &self.format,
+        )?;
         Ok(SourceOf {
             name,
             values,

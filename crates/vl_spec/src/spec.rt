@@ -8,7 +8,6 @@ use std::alloc::Global;
 use text_kit::{Copies, OutOfMemory, Seq, Text};
 
 /// A Vega-Lite specification.
-#[derive(Drop)]
 pub struct VlSpec {
     /// `$schema`: the address of the format.
     pub schema: Option<Text>,
@@ -24,6 +23,20 @@ pub struct VlSpec {
     pub params: Seq<ParamOf>,
     /// The view at the top.
     pub view: View,
+}
+
+impl Drop for VlSpec {
+    fn drop(self) {
+        let VlSpec {
+            schema: _,
+            padding: _,
+            autosize: _,
+            config: _,
+            sources: _,
+            params: _,
+            view: _,
+        } = self;
+    }
 }
 
 impl VlSpec {

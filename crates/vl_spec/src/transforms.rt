@@ -6,7 +6,6 @@ use std::alloc::Global;
 use text_kit::{Copies, OutOfMemory, Seq, Text};
 
 /// A transform, by the member that decides.
-#[derive(Drop)]
 pub enum Transform {
     /// `filter`
     Filter(Filter),
@@ -31,7 +30,6 @@ pub enum Transform {
 }
 
 /// The name of a start, with or without that of its end.
-#[derive(Drop)]
 pub enum Names {
     /// A name to which `_end` is added for the end.
     One(Text),
@@ -40,7 +38,6 @@ pub enum Names {
 }
 
 /// A cell computed of each row.
-#[derive(Drop)]
 pub struct CalculateTransform {
     /// The name of the cell.
     pub as_: Text,
@@ -49,7 +46,6 @@ pub struct CalculateTransform {
 }
 
 /// How the numbers of a field are put into bins.
-#[derive(Drop)]
 pub struct BinTransform {
     /// In which way.
     pub bin: Bin,
@@ -60,7 +56,6 @@ pub struct BinTransform {
 }
 
 /// How the instants of a field are put into units of time.
-#[derive(Drop)]
 pub struct TimeUnitTransform {
     /// The code of the unit among `case_table::TIME_UNITS`.
     pub time_unit: u16,
@@ -71,7 +66,6 @@ pub struct TimeUnitTransform {
 }
 
 /// How the numbers of a field are stacked.
-#[derive(Drop)]
 pub struct StackTransform {
     /// The field.
     pub stack: Text,
@@ -86,12 +80,84 @@ pub struct StackTransform {
 }
 
 /// How one row is made for each of several fields.
-#[derive(Drop)]
 pub struct FoldTransform {
     /// The fields.
     pub fold: Seq<Text>,
     /// The names of the field's name and of its cell.
     pub as_: Option<(Text, Text)>,
+}
+
+impl Drop for Transform {
+    fn drop(self) {
+        match self {
+            Transform::Filter(_) => {}
+            Transform::Calculate(_) => {}
+            Transform::Bin(_) => {}
+            Transform::TimeUnit(_) => {}
+            Transform::Aggregate(_) => {}
+            Transform::JoinAggregate(_) => {}
+            Transform::Stack(_) => {}
+            Transform::Window(_) => {}
+            Transform::Lookup(_) => {}
+            Transform::Fold(_) => {}
+        }
+    }
+}
+
+impl Drop for Names {
+    fn drop(self) {
+        match self {
+            Names::One(_) => {}
+            Names::Two(_, _) => {}
+        }
+    }
+}
+
+impl Drop for CalculateTransform {
+    fn drop(self) {
+        let CalculateTransform {
+            as_: _,
+            calculate: _,
+        } = self;
+    }
+}
+
+impl Drop for BinTransform {
+    fn drop(self) {
+        let BinTransform {
+            bin: _,
+            field: _,
+            as_: _,
+        } = self;
+    }
+}
+
+impl Drop for TimeUnitTransform {
+    fn drop(self) {
+        let TimeUnitTransform {
+            time_unit: _,
+            field: _,
+            as_: _,
+        } = self;
+    }
+}
+
+impl Drop for StackTransform {
+    fn drop(self) {
+        let StackTransform {
+            stack: _,
+            groupby: _,
+            sort: _,
+            offset: _,
+            as_: _,
+        } = self;
+    }
+}
+
+impl Drop for FoldTransform {
+    fn drop(self) {
+        let FoldTransform { fold: _, as_: _ } = self;
+    }
 }
 
 impl Copies for Transform {

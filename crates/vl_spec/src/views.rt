@@ -1,7 +1,7 @@
 // Views.
 ghost use Rattle.std.specs.Prelude.{◌≡◌, IfOk};
 
-use crate::copying::{copied_five, copied_two};
+use crate::copying::{beside, beside_five, copied_two};
 use crate::{Channel, Encoding, Mark, Resolve, Size, Transform};
 use fixed_num::Num;
 use std::alloc::Global;
@@ -46,7 +46,6 @@ pub enum ViewKind {
 }
 
 /// One mark.
-#[derive(Drop)]
 pub struct Unit {
     /// The mark.
     pub mark: Option<Mark>,
@@ -79,7 +78,6 @@ pub struct Faceted {
 }
 
 /// How rows are parted.
-#[derive(Drop)]
 pub enum Facet {
     /// By one field.
     One(Channel),
@@ -88,7 +86,6 @@ pub enum Facet {
 }
 
 /// How rows are parted into rows and columns of panels.
-#[derive(Drop)]
 pub struct CrossFacet {
     /// The field of the rows.
     pub row: Option<Channel>,
@@ -111,7 +108,7 @@ pub struct Joined {
 }
 
 /// How views stand beside each other.
-#[derive(Clone, Copy, PartialEq, Eq)]
+#[derive(Clone, Copy)]
 pub enum Joining {
     /// `hconcat`: side by side.
     Row,
@@ -121,16 +118,41 @@ pub enum Joining {
     Grid,
 }
 
+impl Drop for Unit {
+    fn drop(self) {
+        let Unit {
+            mark: _,
+            encoding: _,
+        } = self;
+    }
+}
+
+impl Drop for Facet {
+    fn drop(self) {
+        match self {
+            Facet::One(_) => {}
+            Facet::Cross(_) => {}
+        }
+    }
+}
+
+impl Drop for CrossFacet {
+    fn drop(self) {
+        let CrossFacet { row: _, column: _ } = self;
+    }
+}
+
 impl View {
     /// A view that equals this one.
     #[cycle(views)]
     pub fn copy(&self, alloc: Global) -> Result<View, OutOfMemory>
         ensures { IfOk result (λ copy. copy ≡ self.now) }
     {
-        let kind = self.kind.copy(alloc)?;
         let params = Seq::from_slice(alloc, self.params.as_slice())?;
-        let (name, title, data_, resolve, transform) = copied_five(
+        let kind = self.kind.copy(alloc)?;
+        let (kind, name, title, data_, resolve, transform) = beside_five(
             alloc,
+            kind,
             &self.name,
             &self.title,
             &self.data_,
@@ -173,7 +195,7 @@ impl Layer {
         ensures { IfOk result (λ copy. copy ≡ self.now) }
     {
         let layer = copied_views(alloc, &self.layer)?;
-        let encoding = Copies::copied(&self.encoding, alloc)?;
+        let (layer, encoding) = beside(alloc, layer, &self.encoding)?;
         Ok(Layer { layer, encoding })
     }
 }
@@ -185,7 +207,7 @@ impl Faceted {
         ensures { IfOk result (λ copy. copy ≡ self.now) }
     {
         let spec = boxed_copy(alloc, &self.spec)?;
-        let facet = self.facet.copied(alloc)?;
+        let (spec, facet) = beside(alloc, spec, &self.facet)?;
         Ok(Faceted {
             facet,
             columns: self.columns,

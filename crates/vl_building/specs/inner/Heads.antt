@@ -7,13 +7,13 @@ use Rattle.json_exact.specs.declared.json.Member.{Member}
 use Rattle.vl_spec.specs.declared.views.View.{View, roll-View}
 use Rattle.vl_spec.specs.declared.views.ViewKind.{ViewKind}
 use Rattle.vl_building.specs.declared.views.Head.{Head}
-use Rattle.vl_building.specs.Parts.{object_at, text_at}
+use Rattle.tree_readers.specs.Parts.{object_at, text_at}
 use Rattle.vl_building.specs.Inside.{member_gives}
 use Rattle.vl_building.specs.Sizes.{size_at, resolve_of}
 use Rattle.vl_building.specs.Views.{Naming, Place, AsView, child, source_of, list_given, transforms_in, numbers_in, as_view, inside_at}
 
 -- what a view has of its own
-abbrev pub head_of : Naming → List Member → Place → Head
+unfoldable pub head_of : Naming → List Member → Place → Head
 head_of naming members place = record {
   name = text_at members (codes "name");
   title = text_at members (codes "title");
@@ -21,18 +21,20 @@ head_of naming members place = record {
   resolve = object_at resolve_of members (codes "resolve");
   params = unwrap_or (list_given (numbers_in naming) place members (codes "params")) [];
   transform = list_given (transforms_in naming) place members (codes "transform");
+  width = size_at members (codes "width");
+  height = size_at members (codes "height");
 }
 
 -- a view of what it has of its own, and of what it is
-abbrev pub view_of_head : List Member → Head → ViewKind → View
-view_of_head members head kind = roll-View (record {
+abbrev pub view_of_head : Head → ViewKind → View
+view_of_head head kind = roll-View (record {
   name = head.name;
   title = head.title;
   data_ = head.data_;
   transform = head.transform;
   params = head.params;
-  width = size_at members (codes "width");
-  height = size_at members (codes "height");
+  width = head.width;
+  height = head.height;
   resolve = head.resolve;
   kind = kind;
 })

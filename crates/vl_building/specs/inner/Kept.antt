@@ -4,7 +4,7 @@ use Rattle.json_exact.specs.declared.json.Json.{Json}
 use Rattle.vl_spec.specs.declared.spec.VlSpec.{VlSpec}
 use Rattle.vl_building.specs.declared.data.ParamAt.{ParamAt}
 use Rattle.vl_building.specs.declared.naming.Named.{Named}
-use Rattle.vl_building.specs.Parts.{members_of}
+use Rattle.tree_readers.specs.Parts.{members_of}
 use Rattle.vl_building.specs.Spec.{spec_with}
 use Rattle.vl_building.specs.inner.Named.{shown}
 

@@ -1,4 +1,4 @@
-use Rattle.std.proofs.Common.{◌≡◌, List, subst}
+use Rattle.std.proofs.Common.{◌≡◌, subst}
 use Rattle.std.specs.Prelude.{Option, IfOk}
 use Rattle.vl_spec.specs.declared.channels.Condition.{Condition}
 use Rattle.vl_spec.specs.declared.channels.Conditions.{Conditions}

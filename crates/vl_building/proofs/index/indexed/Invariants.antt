@@ -1,14 +1,13 @@
 use Rattle.std.proofs.Common.{◌≤◌, length, drop}
-use Rattle.vl_building.specs.Spec.{is_data_at}
 use Rattle.vl_building.specs.inner.Index.{IsIndexFrom}
-use Rattle.vl_building.proofs.index.data_by_places.Given as goal
+use Rattle.vl_building.proofs.index.indexed.Given as goal
 
 -- those from here on are found
 abbrev pub invariant-loop-left : goal.invariant-loop-left
-invariant-loop-left l = record {
+invariant-loop-left g l = record {
   within : l.left ≤ length l.all;
-  found : IsIndexFrom is_data_at l.index l.left (drop l.left l.all);
+  found : IsIndexFrom g.F.Finding.finds l.index l.left (drop l.left l.all);
 }
 
 abbrev pub decreases-loop-left : goal.decreases-loop-left
-decreases-loop-left l = l.left
+decreases-loop-left g l = l.left

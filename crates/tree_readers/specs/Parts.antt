@@ -1,5 +1,5 @@
 -- What stands under the names of members.
-use Rattle.std.specs.Prelude.{◌≡◌, refl, ℕ, ℤ, Bool, true, false, Option, Some, None, List, [], ◌∷◌, map, codes, if◌then◌else◌}
+use Rattle.std.specs.Prelude.{◌≡◌, refl, ℕ, ℤ, Bool, Option, Some, None, List, [], ◌∷◌, map, codes}
 use Rattle.std.specs.Option.{option_map, option_and_then, unwrap_or, is_some}
 use Rattle.json_exact.specs.declared.json.Json.{Json, Json-F, out-Json}
 use Rattle.json_exact.specs.declared.json.Json.TheOpen as level
@@ -9,10 +9,6 @@ use Rattle.json_exact.specs.Inside.{text_in, number_in, items_in, members_in}
 use Rattle.json_exact.specs.Path.{member_value}
 use Rattle.cell_value.specs.declared.cell.Cell.{Cell}
 use Rattle.cell_value.specs.declared.cell.Cell.TheVariants as cell
-use Rattle.expr_syntax.specs.declared.expr.Expr.{Expr}
-use Rattle.expr_syntax.specs.declared.expr.Expr.TheVariants as expr
-use Rattle.expr_syntax.specs.Expressions.{has_domain_length}
-use Rattle.expr_reading.specs.Readings.{expression_of}
 
 -- a value opened by one level
 abbrev pub Opened : Type 0
@@ -87,22 +83,6 @@ two_texts items = None
 -- the two texts of a list under a name
 abbrev pub two_texts_at : List Member → List ℕ → Option (List ℕ × List ℕ)
 two_texts_at members name = option_and_then two_texts (found_at items_in members name)
-
--- an expression, if no length of a domain stands in it
-abbrev pub plain_expression : Expr → Option Expr
-plain_expression e = if has_domain_length e then None else Some e
-
--- the expression that a text is, none where the length of a domain stands in it
-abbrev pub expression_in : List ℕ → Option Expr
-expression_in text = option_and_then plain_expression (expression_of text)
-
--- the expression under a name
-abbrev pub expression_at : List Member → List ℕ → Option Expr
-expression_at members name = option_and_then expression_in (text_at members name)
-
--- the expression under a name, null where there is none
-abbrev pub needed_expression : List Member → List ℕ → Expr
-needed_expression members name = unwrap_or (expression_at members name) expr.Null
 
 -- two numbers as a cell
 abbrev pub pair_in : List Json → Option Cell

@@ -4,7 +4,7 @@ ghost use Rattle.std.specs.Option.{option_copied};
 ghost use Rattle.json_exact.specs.declared.json.Json.{out-Json};
 ghost use Rattle.json_exact.specs.Inside.{text_in, number_in, items_in, members_in};
 ghost use Rattle.json_exact.specs.Path.{member_value};
-ghost use Rattle.vl_building.specs.Parts.{flag_in, cell_in, pair_in, members_of, text_of};
+ghost use Rattle.tree_readers.specs.Parts.{flag_in, cell_in, pair_in, members_of, text_of};
 
 use cell_value::Cell;
 use fixed_num::Num;

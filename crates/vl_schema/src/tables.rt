@@ -1,0 +1,64 @@
+//! Tables of several objects, and several lists of names, written in the program, as values.
+ghost use Rattle.std.specs.Prelude.{◌≡◌, ◌++◌, map, IfOk, OnOk};
+ghost use Rattle.vl_schema.specs.inner.Tables.{layout_of};
+
+use spec_schema::{Layout, Row, When, layout_by, names_by};
+use std::alloc::Global;
+use text_kit::{OutOfMemory, Seq, Text};
+
+/// A layout as it is written.
+#[derive(Clone, Copy)]
+pub struct Table<'a> {
+    /// The code of the object.
+    pub object: u16,
+    /// What has to hold of the members.
+    pub whens: &'a [When<'a>],
+    /// The members.
+    pub rows: &'a [Row<'a>],
+    /// The shape of a member of any other name, where there may be one.
+    pub others: Option<u16>,
+}
+
+// The layouts that tables write.
+fn layouts_of(alloc: Global, tables: &[Table]) -> Result<Seq<Layout>, OutOfMemory>
+    ensures { IfOk result (λ l. l ≡ map layout_of tables.now) }
+{
+    let mut out = Seq::with_capacity(alloc, tables.len())?;
+    for table in tables {
+        out.push(layout_by(alloc, table.object, table.whens, table.rows, table.others)?)?;
+    }
+    Ok(out)
+}
+
+/// Adds the layouts that tables write.
+pub fn push_layouts(
+    alloc: Global,
+    out: &mut Seq<Layout>,
+    tables: &[Table],
+) -> Result<(), OutOfMemory>
+    ensures { OnOk result (out.new ≡ out.old ++ map layout_of tables.now) }
+{
+    out.append(layouts_of(alloc, tables)?)
+}
+
+// Lists of names.
+fn lists_by(alloc: Global, lists: &[&[&str]]) -> Result<Seq<Seq<Text>>, OutOfMemory>
+    ensures { IfOk result (λ l. l ≡ map (λ names. map (λ name. name.now) names.now) lists.now) }
+{
+    let mut out = Seq::with_capacity(alloc, lists.len())?;
+    for names in lists {
+        out.push(names_by(alloc, names)?)?;
+    }
+    Ok(out)
+}
+
+/// Adds lists of names.
+pub fn push_lists(
+    alloc: Global,
+    out: &mut Seq<Seq<Text>>,
+    lists: &[&[&str]],
+) -> Result<(), OutOfMemory>
+    ensures { OnOk result (out.new ≡ out.old ++ map (λ names. map (λ name. name.now) names.now) lists.now) }
+{
+    out.append(lists_by(alloc, lists)?)
+}
