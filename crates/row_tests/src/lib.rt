@@ -1,0 +1,9 @@
+//! Tests of keys of rows and of what events do. The crates are called as others call them.
+#![tactic(auto)]
+
+#[cfg(test)]
+mod events;
+#[cfg(test)]
+mod keys;
+#[cfg(test)]
+mod stores;
