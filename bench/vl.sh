@@ -4,23 +4,28 @@
 # folder of its own. Each is measured at a quarter, at half and at all of 16 MiB, with how many times as long it takes as the one of half its
 # size: about 2, where time is linear. Beside them python3's json on the same bytes. It ends with a status other than 0 where an answer
 # isn't the expected one.
-# It proves and builds both programs first, over the crates of the repository, which stay proved. Run it with `rt` and python3 on the path:
+# It proves and builds both programs first, and the crates of the repository that they stand on, which stay proved. Run it with `rt` and
+# python3 on the path:
 #     bench/vl.sh [BYTES]     (in place of 16 MiB)
 set -e
 top=$(cd "$(dirname "$0")/.." && pwd)
 (cd "$top/crates/vl_table" && rt run < stdin > /dev/null)
+(cd "$top/crates/vl_building" && rt lib > /dev/null)
 work=$(mktemp -d)
 trap 'rm -rf "$work"' EXIT
 mkdir -p "$work/crates/bench_building/src"
-link() {
+copy() {
     [ ! -e "$work/crates/$1" ] || return 0
-    ln -s "$top/crates/$1" "$work/crates/$1"
+    mkdir -p "$work/crates/$1/out"
+    for part in src specs proofs out/rlib; do
+        [ ! -d "$top/crates/$1/$part" ] || cp -rp "$top/crates/$1/$part" "$work/crates/$1/$part"
+    done
     grep "^$1:" "$top/crates.txt" >> "$work/crates.txt"
     for below in $(sed -n "s/^$1://p" "$top/crates.txt"); do
-        [ ! -d "$top/crates/$below" ] || link "$below"
+        [ ! -d "$top/crates/$below" ] || copy "$below"
     done
 }
-link vl_building
+copy vl_building
 printf 'bench_building: text_kit fixed_num json_exact cell_value expr_syntax vl_spec vl_building\n' >> "$work/crates.txt"
 printf 'Handles allowed: none.\n' > "$work/HANDLES"
 cat > "$work/crates/bench_building/src/main.rt" <<'EOT'

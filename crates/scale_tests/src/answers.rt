@@ -1,6 +1,7 @@
 // Scales, questions and answers. Each answer is computed apart, with exact fractions.
 use cell_value::Cell;
 use fixed_num::Num;
+use scale_index::IndexedScale;
 use scale_kit::{
     Indexed, Overflow, Scale, band_width, base_of, invert, invert_within, paint, place,
     place_in_band,
@@ -414,14 +415,34 @@ fn indexed_answer(alloc: Global, s: &Scale, question: &str) -> Result<Text, OutO
     }
 }
 
-// Whether a line's scale, and a copy of it with an index, give the line's answer.
+// The answer of a scale that is held with an index of its domain; nothing to a question that is none of a cell.
+fn held_answer(alloc: Global, s: Scale, question: &str) -> Result<Text, OutOfMemory> {
+    if !s.is_sound() {
+        return Text::of(alloc, "unsound");
+    }
+    let held = IndexedScale::of(alloc, s)?;
+    let v = cell(alloc, word(question, 1))?;
+    match word(question, 0) {
+        "at" => told(alloc, held.place(&v)),
+        "on" => told(alloc, held.place_in_band(&v, number_at(question, 2))),
+        "paint" => shown(alloc, held.paint(alloc, &v)?),
+        _ => Text::of(alloc, ""),
+    }
+}
+
+// Whether a line's scale, and copies of it with an index, give the line's answer.
 fn holds(alloc: Global, line: &str) -> Result<bool, OutOfMemory> {
     let (asked, wanted) = line.split_once(" = ").unwrap_or((line, ""));
     let (first, question) = asked.split_once(" / ").unwrap_or((asked, ""));
     let s = scale(alloc, first)?;
     let plain = answer(alloc, &s, question)?;
     let indexed = indexed_answer(alloc, &s.copy(alloc)?, question)?;
-    Ok(plain.as_str() == wanted && (indexed.is_empty() || indexed.as_str() == wanted))
+    let held = held_answer(alloc, s, question)?;
+    Ok(
+        plain.as_str() == wanted
+            && (indexed.is_empty() || indexed.as_str() == wanted)
+            && held.as_str() == indexed.as_str(),
+    )
 }
 
 #[test]
