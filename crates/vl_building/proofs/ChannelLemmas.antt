@@ -5,7 +5,6 @@ use Rattle.json_exact.specs.declared.json.Json.{Json}
 use Rattle.json_exact.specs.declared.json.Json.TheVariants as json
 use Rattle.json_exact.specs.declared.json.Member.{Member}
 use Rattle.std.proofs.lemmas.Simd.{map-map}
-use Rattle.vl_spec.specs.declared.channels.Condition.{Condition}
 use Rattle.vl_spec.specs.declared.channels.Conditions.TheVariants as conditions
 use Rattle.tree_readers.specs.Parts.{members_of}
 use Rattle.vl_building.specs.Inside.{no_members, member_gives}
@@ -38,7 +37,7 @@ of_list items = ap (λ (c : AsCondition). c.1) (at_list as_condition_with items)
     ∙ ap (λ o. conditions_in o (condition_with (members_of (json.List items)) no_members) (map as_condition items)) (list_opened items)
     ∙ ap (λ cs. Some (conditions.Several cs)) (map-map (λ (c : AsCondition). c.0) as_condition items)
 
-pub list_is : (tree : Json) (items slice : List Json) (cs : List Condition) → tree ≡ json.List items → slice ≡ items → cs ≡ map condition_of slice →
-    Some (conditions.Several cs) ≡ conditions_of tree
-list_is tree items slice cs is same all =
-    ap (λ (xs : List Condition). Some (conditions.Several xs)) (all ∙ ap (map condition_of) same) ∙ sym (of_list items) ∙ ap conditions_of (sym is)
+pub list_is : (tree : Json) (items slice : List Json) → tree ≡ json.List items → slice ≡ items →
+    Some (conditions.Several (map condition_of slice)) ≡ conditions_of tree
+list_is tree items slice is same =
+    ap (λ (xs : List Json). Some (conditions.Several (map condition_of xs))) same ∙ sym (of_list items) ∙ ap conditions_of (sym is)

@@ -22,7 +22,7 @@ impl Value for Cell {
             Json::Null => Ok(Some(Cell::Null)),
             Json::Flag(flag) => Ok(Some(Cell::Flag(*flag))),
             Json::Number(number) => Ok(Some(Cell::Number(*number))),
-            Json::Text(text) => Ok(Some(Cell::Text(text.copy()?))),
+            Json::Text(text) => text.copy().map(Cell::Text).map(Some),
             Json::Huge | Json::List(_) | Json::Object(_) => Ok(None),
         }
     }
@@ -57,7 +57,7 @@ impl Value for Option<Text> {
     fn of_value(_: Global, tree: &Json) -> Result<Option<Option<Text>>, OutOfMemory> {
         match tree {
             Json::Null => Ok(Some(None)),
-            Json::Text(text) => Ok(Some(Some(text.copy()?))),
+            Json::Text(text) => text.copy().map(Some).map(Some),
             Json::Flag(_) | Json::Number(_) | Json::Huge | Json::List(_) | Json::Object(_) => Ok(
                 None,
             ),
@@ -83,7 +83,7 @@ fn nullable_in<T: Object>(alloc: Global, tree: &Json) -> Result<Option<Option<T>
 {
     match tree {
         Json::Null => Ok(Some(None)),
-        Json::Object(members) => Ok(Some(Some(T::of_members(alloc, members.as_slice())?))),
+        Json::Object(members) => T::of_members(alloc, members.as_slice()).map(Some).map(Some),
         Json::Flag(_) | Json::Number(_) | Json::Huge | Json::Text(_) | Json::List(_) => Ok(None),
     }
 }
@@ -109,8 +109,10 @@ impl Value for Texts {
 
     fn of_value(alloc: Global, tree: &Json) -> Result<Option<Texts>, OutOfMemory> {
         match tree {
-            Json::Text(text) => Ok(Some(Texts::One(text.copy()?))),
-            Json::List(items) => Ok(Some(Texts::Several(list_of(alloc, items.as_slice())?))),
+            Json::Text(text) => text.copy().map(Texts::One).map(Some),
+            Json::List(items) => list_of(alloc, items.as_slice())
+                .map(Texts::Several)
+                .map(Some),
             Json::Null | Json::Flag(_) | Json::Number(_) | Json::Huge | Json::Object(_) => Ok(None),
         }
     }
@@ -135,7 +137,7 @@ impl Value for Names {
 
     fn of_value(alloc: Global, tree: &Json) -> Result<Option<Names>, OutOfMemory> {
         match tree {
-            Json::Text(text) => Ok(Some(Names::One(text.copy()?))),
+            Json::Text(text) => text.copy().map(Names::One).map(Some),
             Json::List(items) => both_names(alloc, items.as_slice()),
             Json::Null | Json::Flag(_) | Json::Number(_) | Json::Huge | Json::Object(_) => Ok(None),
         }

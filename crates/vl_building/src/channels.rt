@@ -1,5 +1,5 @@
 // Channels, and their conditions.
-ghost use Rattle.std.specs.Prelude.{◌≡◌, [], None, Some, map, codes, IfOk};
+ghost use Rattle.std.specs.Prelude.{◌≡◌, ◌++◌, [], None, Some, map, codes, IfOk, OnOk};
 ghost use Rattle.json_exact.specs.declared.json.Json.{out-Json};
 ghost use Rattle.vl_spec.specs.declared.channels.Conditions.TheVariants as conditions;
 ghost use Rattle.vl_building.specs.Inside.{member_gives};
@@ -20,9 +20,9 @@ impl Object for Test {
     #[tactic(auto, unfolding(crate::specs::Channels::test_of))]
     fn of_members(alloc: Global, members: &[Member]) -> Result<Test, OutOfMemory> {
         if has_member(members, "test") {
-            Ok(Test::Filter(needed_filter(alloc, members, "test")?))
+            needed_filter(alloc, members, "test").map(Test::Filter)
         } else {
-            Ok(Test::Param(param_test_of(alloc, members)?))
+            param_test_of(alloc, members).map(Test::Param)
         }
     }
 }
@@ -85,7 +85,7 @@ fn conditions_of(alloc: Global, tree: &Json) -> Result<Option<Conditions>, OutOf
 {
     match tree {
         Json::Object(members) => one_condition(alloc, members.as_slice()),
-        Json::List(items) => Ok(Some(Conditions::Several(conditions_in(alloc, items.as_slice())?))),
+        Json::List(items) => several_conditions(alloc, items.as_slice()),
         Json::Null | Json::Flag(_) | Json::Number(_) | Json::Huge | Json::Text(_) => Ok(None),
     }
 }
@@ -97,19 +97,32 @@ fn one_condition(alloc: Global, members: &[Member]) -> Result<Option<Conditions>
         ≡ Some (conditions.One (condition_with members.now (member_gives as_condition members.now)))) }
 {
     let condition = object_condition(alloc, members)?;
-    Ok(Some(Conditions::One(Boxed::new(alloc, condition)?)))
+    Boxed::new(alloc, condition).map(Conditions::One).map(Some)
 }
 
 // The conditions that items are.
 #[cycle(conditions)]
-fn conditions_in(alloc: Global, items: &[Json]) -> Result<Seq<Condition>, OutOfMemory>
-    ensures { IfOk result (λ conditions. conditions ≡ map condition_of items.now) }
+fn several_conditions(alloc: Global, items: &[Json]) -> Result<Option<Conditions>, OutOfMemory>
+    ensures { IfOk result (λ held. held ≡ Some (conditions.Several (map condition_of items.now))) }
 {
-    let mut conditions = Seq::new(alloc);
+    let mut out = Seq::new(alloc);
+    push_conditions(alloc, items, &mut out)?;
+    Ok(Some(Conditions::Several(out)))
+}
+
+// Adds the conditions that items are.
+#[cycle(conditions)]
+fn push_conditions(
+    alloc: Global,
+    items: &[Json],
+    out: &mut Seq<Condition>,
+) -> Result<(), OutOfMemory>
+    ensures { OnOk result (out.new ≡ out.old ++ map condition_of items.now) }
+{
     for tree in items {
-        conditions.push(condition_of(alloc, tree)?)?;
+        out.push(condition_of(alloc, tree)?)?;
     }
-    Ok(conditions)
+    Ok(())
 }
 
 // The conditions under the first member of that name.
@@ -147,7 +160,7 @@ fn several_in(alloc: Global, name: &str, items: &[Json]) -> Result<Option<Channe
     ensures { IfOk result (λ shows. shows ≡ several_in name.now items.now) }
 {
     if name == "detail" {
-        Ok(Some(ChannelKind::Several(objects_of(alloc, items)?)))
+        objects_of(alloc, items).map(ChannelKind::Several).map(Some)
     } else {
         Ok(None)
     }
@@ -158,10 +171,9 @@ fn shown_in(alloc: Global, name: &str, tree: &Json) -> Result<Option<ChannelKind
     ensures { IfOk result (λ shows. shows ≡ shown_in name.now (out-Json tree.now)) }
 {
     match tree {
-        Json::Object(members) => Ok(Some(ChannelKind::One(Channel::of_members(
-            alloc,
-            members.as_slice(),
-        )?))),
+        Json::Object(members) => Channel::of_members(alloc, members.as_slice())
+            .map(ChannelKind::One)
+            .map(Some),
         Json::List(items) => several_in(alloc, name, items.as_slice()),
         Json::Null | Json::Flag(_) | Json::Number(_) | Json::Huge | Json::Text(_) => Ok(None),
     }

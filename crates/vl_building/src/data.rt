@@ -13,7 +13,6 @@ use tree_readers::members_at;
 use vl_spec::{Format, ParamOf, ParseKind};
 
 /// Data where it stands.
-#[derive(Drop)]
 pub struct DataAt {
     /// Its place.
     pub place: Seq<usize>,
@@ -34,6 +33,19 @@ pub struct ParamAt {
     pub place: Seq<usize>,
     /// The parameter.
     pub param: ParamOf,
+}
+
+impl Drop for DataAt {
+    fn drop(self) {
+        let DataAt {
+            place: _,
+            name: _,
+            url: _,
+            format: _,
+            values,
+        } = self;
+        drop(values);
+    }
 }
 
 // How the texts of the field of a member's name are read.
@@ -64,7 +76,7 @@ fn parse_at(
     ensures { IfOk result (λ parses. parses ≡ parse_at members.now name.now) }
 {
     match members_at(members, name) {
-        Some(members) => Ok(Some(parses_of(alloc, members.as_slice())?)),
+        Some(members) => parses_of(alloc, members.as_slice()).map(Some),
         None => Ok(None),
     }
 }
@@ -86,7 +98,7 @@ fn value_at(alloc: Global, members: &[Member], name: &str) -> Result<Option<Json
     ensures { IfOk result (λ tree. tree ≡ member_value members.now name.now) }
 {
     match tree_readers::member_value(members, name) {
-        Some(tree) => Ok(Some(tree.copy(alloc)?)),
+        Some(tree) => tree.copy(alloc).map(Some),
         None => Ok(None),
     }
 }

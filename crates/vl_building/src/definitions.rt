@@ -1,8 +1,10 @@
 // Definitions of channels, apart from their conditions.
 ghost use Rattle.std.specs.Prelude.{◌≡◌, IfOk};
-ghost use Rattle.vl_building.specs.Definitions.{bin_settings_of, bin_in, sort_named, field_sort_of, sort_in, sort_at, stacking_in, datum_definition_of, field_definition_of, is_channel_kind, channel_kind, definition_by, definition_of};
+ghost use Rattle.vl_spec.specs.declared.definitions.Definition.TheVariants as variant;
+ghost use Rattle.vl_building.specs.Definitions.{bin_settings_of, bin_in, sort_named, field_sort_of, sort_in, sort_at, stacking_in, datum_definition_of, field_definition_of, is_channel_kind, definition_by, definition_of};
 
 use crate::cells::needed_scalar;
+use crate::deciding::{Deciding, first_deciding};
 use crate::fields::field_at;
 use crate::names::{ByName, named_at};
 use crate::numbers::{bin_step_at, count_at, space_at};
@@ -80,11 +82,10 @@ impl Value for Sort {
         match tree {
             Json::Null => Ok(Some(Sort::Null)),
             Json::Text(text) => Ok(sort_named(text.as_str())),
-            Json::List(items) => Ok(Some(Sort::Listed(list_of(alloc, items.as_slice())?))),
-            Json::Object(members) => Ok(Some(Sort::Field(field_sort_of(
-                alloc,
-                members.as_slice(),
-            )?))),
+            Json::List(items) => list_of(alloc, items.as_slice()).map(Sort::Listed).map(Some),
+            Json::Object(members) => field_sort_of(alloc, members.as_slice())
+                .map(Sort::Field)
+                .map(Some),
             Json::Flag(_) | Json::Number(_) | Json::Huge => Ok(None),
         }
     }
@@ -114,28 +115,28 @@ impl Plain for Stacking {
 
 // A cell that is written, on a scale.
 #[tactic(auto, unfolding(crate::specs::Definitions::datum_definition_of))]
-fn datum_definition_of(alloc: Global, members: &[Member]) -> Result<DatumDefinition, OutOfMemory>
-    ensures { IfOk result (λ definition. definition ≡ datum_definition_of members.now) }
+fn datum_definition_of(alloc: Global, members: &[Member]) -> Result<Definition, OutOfMemory>
+    ensures { IfOk result (λ definition. definition ≡ variant.Datum (datum_definition_of members.now)) }
 {
     let type_ = named_at(members, "type");
     let datum = needed_scalar(alloc, members, "datum")?;
     let (title, legend, axis, scale) = four_parts(
         alloc, members, "title", "legend", "axis", "scale",
     )?;
-    Ok(DatumDefinition {
+    Ok(Definition::Datum(DatumDefinition {
         datum,
         type_,
         scale,
         axis,
         legend,
         title,
-    })
+    }))
 }
 
 // The cells of a field, or what is made of it.
 #[tactic(auto, unfolding(crate::specs::Definitions::field_definition_of))]
-fn field_definition_of(alloc: Global, members: &[Member]) -> Result<FieldDefinition, OutOfMemory>
-    ensures { IfOk result (λ definition. definition ≡ field_definition_of members.now) }
+fn field_definition_of(alloc: Global, members: &[Member]) -> Result<Definition, OutOfMemory>
+    ensures { IfOk result (λ definition. definition ≡ variant.Field (field_definition_of members.now)) }
 {
     let type_ = named_at(members, "type");
     let aggregate = operation_at(members, "aggregate");
@@ -149,7 +150,7 @@ fn field_definition_of(alloc: Global, members: &[Member]) -> Result<FieldDefinit
     let (title, format, legend, axis, sort, scale) = six_parts(
         alloc, members, "title", "format", "legend", "axis", "sort", "scale",
     )?;
-    Ok(FieldDefinition {
+    Ok(Definition::Field(FieldDefinition {
         field,
         type_,
         aggregate,
@@ -165,30 +166,22 @@ fn field_definition_of(alloc: Global, members: &[Member]) -> Result<FieldDefinit
         format,
         columns,
         spacing,
-    })
+    }))
 }
 
-// Whether it is a member of which the first decides what a definition is.
-#[tactic(auto, unfolding(crate::specs::Definitions::is_channel_kind))]
-fn is_channel_kind(name: &str) -> bool
-    ensures { result ≡ is_channel_kind name.now }
-{
-    match name {
-        "value" | "datum" | "field" | "aggregate" | "bin" | "timeUnit" => true,
-        _ => false,
-    }
-}
+// What decides what a definition is.
+struct DefinitionKinds;
 
-// The first of them, or no name.
-fn channel_kind(members: &[Member]) -> &str
-    ensures { result.now ≡ channel_kind members.now }
-{
-    for member in members {
-        if is_channel_kind(member.name.as_str()) {
-            return member.name.as_str();
+impl Deciding for DefinitionKinds {
+    ghost deciding = { is_channel_kind };
+
+    #[tactic(auto, unfolding(crate::specs::Definitions::is_channel_kind))]
+    fn decides(name: &str) -> bool {
+        match name {
+            "value" | "datum" | "field" | "aggregate" | "bin" | "timeUnit" => true,
+            _ => false,
         }
     }
-    ""
 }
 
 // A definition by its first deciding member.
@@ -197,9 +190,9 @@ fn definition_by(alloc: Global, kind: &str, members: &[Member]) -> Result<Defini
     ensures { IfOk result (λ definition. definition ≡ definition_by kind.now members.now) }
 {
     match kind {
-        "value" => Ok(Definition::Value(needed_scalar(alloc, members, "value")?)),
-        "datum" => Ok(Definition::Datum(datum_definition_of(alloc, members)?)),
-        _ => Ok(Definition::Field(field_definition_of(alloc, members)?)),
+        "value" => needed_scalar(alloc, members, "value").map(Definition::Value),
+        "datum" => datum_definition_of(alloc, members),
+        _ => field_definition_of(alloc, members),
     }
 }
 
@@ -209,6 +202,10 @@ impl Object for Definition {
 
     #[tactic(auto, unfolding(crate::specs::Definitions::definition_of))]
     fn of_members(alloc: Global, members: &[Member]) -> Result<Definition, OutOfMemory> {
-        definition_by(alloc, channel_kind(members), members)
+        definition_by(
+            alloc,
+            first_deciding::<DefinitionKinds>(members, ""),
+            members,
+        )
     }
 }

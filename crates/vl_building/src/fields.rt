@@ -13,7 +13,7 @@ pub fn field_at(alloc: Global, members: &[Member], name: &str) -> Result<Option<
     ensures { IfOk result (λ field. field ≡ field_at members.now name.now) }
 {
     match word_at(members, name) {
-        Some(text) => Ok(Some(field_name(alloc, text.as_str())?)),
+        Some(text) => field_name(alloc, text.as_str()).map(Some),
         None => Ok(None),
     }
 }
@@ -58,7 +58,7 @@ pub fn fields_at(
     ensures { IfOk result (λ fields. fields ≡ fields_at members.now name.now) }
 {
     match items_at(members, name) {
-        Some(items) => Ok(Some(fields_in(alloc, items.as_slice())?)),
+        Some(items) => fields_in(alloc, items.as_slice()).map(Some),
         None => Ok(None),
     }
 }

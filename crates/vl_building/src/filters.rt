@@ -1,5 +1,5 @@
 // Filters.
-ghost use Rattle.std.specs.Prelude.{◌≡◌, map, IfOk};
+ghost use Rattle.std.specs.Prelude.{◌≡◌, ◌++◌, map, IfOk, OnOk};
 ghost use Rattle.std.specs.Option.{option_and_then};
 ghost use Rattle.json_exact.specs.Inside.{items_in};
 ghost use Rattle.tree_readers.specs.Parts.{found_at};
@@ -74,11 +74,11 @@ fn later_comparison(alloc: Global, members: &[Member]) -> Result<Comparison, Out
     ensures { IfOk result (λ comparison. comparison ≡ later_comparison members.now) }
 {
     if has_member(members, "gte") {
-        Ok(Comparison::MoreSame(needed_scalar(alloc, members, "gte")?))
+        needed_scalar(alloc, members, "gte").map(Comparison::MoreSame)
     } else if has_member(members, "range") {
         Ok(range_at(members, "range").unwrap_or(Comparison::Range(None, None)))
     } else if has_member(members, "oneOf") {
-        Ok(Comparison::OneOf(needed_list(alloc, members, "oneOf")?))
+        needed_list(alloc, members, "oneOf").map(Comparison::OneOf)
     } else {
         Ok(Comparison::Valid(tree_readers::flag_at(members, "valid").unwrap_or(true)))
     }
@@ -90,13 +90,13 @@ fn comparison_of(alloc: Global, members: &[Member]) -> Result<Comparison, OutOfM
     ensures { IfOk result (λ comparison. comparison ≡ comparison_of members.now) }
 {
     if has_member(members, "equal") {
-        Ok(Comparison::Equal(needed_scalar(alloc, members, "equal")?))
+        needed_scalar(alloc, members, "equal").map(Comparison::Equal)
     } else if has_member(members, "lt") {
-        Ok(Comparison::Less(needed_scalar(alloc, members, "lt")?))
+        needed_scalar(alloc, members, "lt").map(Comparison::Less)
     } else if has_member(members, "lte") {
-        Ok(Comparison::LessSame(needed_scalar(alloc, members, "lte")?))
+        needed_scalar(alloc, members, "lte").map(Comparison::LessSame)
     } else if has_member(members, "gt") {
-        Ok(Comparison::More(needed_scalar(alloc, members, "gt")?))
+        needed_scalar(alloc, members, "gt").map(Comparison::More)
     } else {
         later_comparison(alloc, members)
     }
@@ -149,15 +149,15 @@ fn object_filter(alloc: Global, members: &[Member]) -> Result<Filter, OutOfMemor
     ensures { IfOk result (λ filter. filter ≡ object_filter members.now (member_gives as_filter members.now)) }
 {
     if has_member(members, "and") {
-        Ok(Filter::And(filters_at(alloc, members, "and")?))
+        filters_at(alloc, members, "and").map(Filter::And)
     } else if has_member(members, "or") {
-        Ok(Filter::Or(filters_at(alloc, members, "or")?))
+        filters_at(alloc, members, "or").map(Filter::Or)
     } else if has_member(members, "not") {
         Ok(Filter::Not(Boxed::new(alloc, needed_filter(alloc, members, "not")?)?))
     } else if has_member(members, "field") {
-        Ok(Filter::Field(field_test_of(alloc, members)?))
+        field_test_of(alloc, members).map(Filter::Field)
     } else {
-        Ok(Filter::Param(param_test_of(alloc, members)?))
+        param_test_of(alloc, members).map(Filter::Param)
     }
 }
 
@@ -196,10 +196,19 @@ fn filters_in(alloc: Global, items: &[Json]) -> Result<Seq<Filter>, OutOfMemory>
     ensures { IfOk result (λ filters. filters ≡ map filter_of items.now) }
 {
     let mut filters = Seq::new(alloc);
-    for tree in items {
-        filters.push(filter_of(alloc, tree)?)?;
-    }
+    push_filters(alloc, items, &mut filters)?;
     Ok(filters)
+}
+
+// Adds the filters that items are.
+#[cycle(filters)]
+fn push_filters(alloc: Global, items: &[Json], out: &mut Seq<Filter>) -> Result<(), OutOfMemory>
+    ensures { OnOk result (out.new ≡ out.old ++ map filter_of items.now) }
+{
+    for tree in items {
+        out.push(filter_of(alloc, tree)?)?;
+    }
+    Ok(())
 }
 
 // The filters that the items of the list under a name are.

@@ -1,5 +1,6 @@
 // Transforms over several rows.
 ghost use Rattle.std.specs.Prelude.{◌≡◌, IfOk};
+ghost use Rattle.vl_spec.specs.declared.transforms.Transform.TheVariants as variant;
 ghost use Rattle.vl_building.specs.Transforms.{operation_of, aggregate_of, sort_field_of, window_operation_of, frame_number, frame_end, frame_from, frame_end_of, frame_in, frame_at, window_of, lookup_from, lookup_of};
 
 use crate::fields::{field_at, fields_at, needed_field, needed_fields};
@@ -15,8 +16,8 @@ use std::alloc::Global;
 use text_kit::{Copies, OutOfMemory, Text};
 use tree_readers::{flag_at, items_at, needed_members, needed_text};
 use vl_spec::{
-    AggregateTransform, Frame, LookupFrom, LookupTransform, Operation, SortField, WindowOperation,
-    WindowTransform,
+    AggregateTransform, Frame, LookupFrom, LookupTransform, Operation, SortField, Transform,
+    WindowOperation, WindowTransform,
 };
 
 // An operation over the rows of a group.
@@ -135,21 +136,21 @@ fn frame_at(members: &[Member], name: &str) -> Option<Frame>
 
 /// `window`
 #[tactic(auto, unfolding(crate::specs::Transforms::window_of))]
-pub fn window_of(alloc: Global, members: &[Member]) -> Result<WindowTransform, OutOfMemory>
-    ensures { IfOk result (λ window. window ≡ window_of members.now) }
+pub fn window_of(alloc: Global, members: &[Member]) -> Result<Transform, OutOfMemory>
+    ensures { IfOk result (λ t. t ≡ variant.Window (window_of members.now)) }
 {
     let frame = frame_at(members, "frame");
     let ignore_peers = flag_at(members, "ignorePeers");
     let groupby = fields_at(alloc, members, "groupby")?;
     let sort = objects_at(alloc, members, "sort")?;
     let window = needed_objects(alloc, members, "window")?;
-    Ok(WindowTransform {
+    Ok(Transform::Window(WindowTransform {
         window,
         groupby,
         sort,
         frame,
         ignore_peers,
-    })
+    }))
 }
 
 // The rows of which a lookup takes cells, those of this source.
@@ -173,17 +174,17 @@ pub fn lookup_of(
     alloc: Global,
     source: &Option<Text>,
     members: &[Member],
-) -> Result<LookupTransform, OutOfMemory>
-    ensures { IfOk result (λ lookup. lookup ≡ lookup_of source.now members.now) }
+) -> Result<Transform, OutOfMemory>
+    ensures { IfOk result (λ t. t ≡ variant.Lookup (lookup_of source.now members.now)) }
 {
     let lookup = needed_field(alloc, members, "lookup")?;
     let from = lookup_from(alloc, source, needed_members(members, "from"))?;
     let as_ = parts::found_at(alloc, members, "as")?;
     let default = parts::found_at(alloc, members, "default")?;
-    Ok(LookupTransform {
+    Ok(Transform::Lookup(LookupTransform {
         lookup,
         from,
         as_,
         default,
-    })
+    }))
 }

@@ -89,11 +89,12 @@ impl Value for Domain {
 
     fn of_value(alloc: Global, tree: &Json) -> Result<Option<Domain>, OutOfMemory> {
         match tree {
-            Json::List(items) => Ok(Some(Domain::Cells(list_of(alloc, items.as_slice())?))),
-            Json::Object(members) => Ok(Some(Domain::Param(ParamDomain::of_members(
-                alloc,
-                members.as_slice(),
-            )?))),
+            Json::List(items) => list_of(alloc, items.as_slice())
+                .map(Domain::Cells)
+                .map(Some),
+            Json::Object(members) => ParamDomain::of_members(alloc, members.as_slice())
+                .map(Domain::Param)
+                .map(Some),
             Json::Null | Json::Flag(_) | Json::Number(_) | Json::Huge | Json::Text(_) => Ok(None),
         }
     }
@@ -114,7 +115,7 @@ fn ranged_in(tree: &Json) -> Result<Option<Cell>, OutOfMemory>
         Json::Null => Ok(Some(Cell::Null)),
         Json::Flag(flag) => Ok(Some(Cell::Flag(*flag))),
         Json::Number(number) => Ok(ranged_number(*number)),
-        Json::Text(text) => Ok(Some(Cell::Text(text.copy()?))),
+        Json::Text(text) => text.copy().map(Cell::Text).map(Some),
         Json::Huge | Json::List(_) | Json::Object(_) => Ok(None),
     }
 }
@@ -147,7 +148,7 @@ fn range_in(alloc: Global, items: &[Json]) -> Result<Option<Seq<Cell>>, OutOfMem
     if items.len() == 0 {
         Ok(None)
     } else {
-        Ok(Some(range_items(alloc, items)?))
+        range_items(alloc, items).map(Some)
     }
 }
 

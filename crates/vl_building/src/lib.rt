@@ -5,6 +5,7 @@
 mod cells;
 mod channels;
 mod data;
+mod deciding;
 mod definitions;
 mod escapes;
 mod fields;

@@ -96,9 +96,9 @@ impl Value for Mark {
     fn of_value(_: Global, tree: &Json) -> Result<Option<Mark>, OutOfMemory> {
         match tree {
             Json::Text(text) => Ok(mark_named(text.as_str())),
-            Json::Object(members) => Ok(Some(Mark::Definition(mark_definition_of(
-                members.as_slice(),
-            )?))),
+            Json::Object(members) => mark_definition_of(members.as_slice())
+                .map(Mark::Definition)
+                .map(Some),
             Json::Null | Json::Flag(_) | Json::Number(_) | Json::Huge | Json::List(_) => Ok(None),
         }
     }
@@ -195,10 +195,9 @@ impl Value for Select {
     fn of_value(alloc: Global, tree: &Json) -> Result<Option<Select>, OutOfMemory> {
         match tree {
             Json::Text(text) => Ok(select_named(text.as_str())),
-            Json::Object(members) => Ok(Some(Select::Definition(select_definition_of(
-                alloc,
-                members.as_slice(),
-            )?))),
+            Json::Object(members) => select_definition_of(alloc, members.as_slice())
+                .map(Select::Definition)
+                .map(Some),
             Json::Null | Json::Flag(_) | Json::Number(_) | Json::Huge | Json::List(_) => Ok(None),
         }
     }
@@ -223,9 +222,9 @@ fn param_kind_of(alloc: Global, members: &[Member]) -> Result<ParamKind, OutOfMe
     ensures { IfOk result (λ kind. kind ≡ param_kind_of members.now) }
 {
     if has_member(members, "select") {
-        Ok(ParamKind::Select(selection_of(alloc, members)?))
+        selection_of(alloc, members).map(ParamKind::Select)
     } else if has_member(members, "expr") {
-        Ok(ParamKind::Expr(needed_expression(alloc, members, "expr")?))
+        needed_expression(alloc, members, "expr").map(ParamKind::Expr)
     } else {
         Ok(ParamKind::Value(cell_at(members, "value")?.unwrap_or(Cell::Null)))
     }

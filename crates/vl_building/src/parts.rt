@@ -143,7 +143,7 @@ pub fn list_at<T: Item + Drop>(
     ensures { IfOk result (λ list. list ≡ list_at T.item members.now name.now) }
 {
     match items_at(members, name) {
-        Some(items) => Ok(Some(list_of(alloc, items.as_slice())?)),
+        Some(items) => list_of(alloc, items.as_slice()).map(Some),
         None => Ok(None),
     }
 }
@@ -220,7 +220,7 @@ pub fn object_at<T: Object>(
     ensures { IfOk result (λ value. value ≡ object_at T.built members.now name.now) }
 {
     match members_at(members, name) {
-        Some(members) => Ok(Some(T::of_members(alloc, members.as_slice())?)),
+        Some(members) => T::of_members(alloc, members.as_slice()).map(Some),
         None => Ok(None),
     }
 }

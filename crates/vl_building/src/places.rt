@@ -44,7 +44,7 @@ fn member_place(
     ensures { IfOk result (λ here. here ≡ member_place place.now members.now name.now) }
 {
     match member_number(members, name) {
-        Some(number) => Ok(Some(child(alloc, place, number)?)),
+        Some(number) => child(alloc, place, number).map(Some),
         None => Ok(None),
     }
 }
@@ -137,7 +137,7 @@ fn transforms_there(
     ensures { IfOk result (λ ts. ts ≡ option_map (transforms_in (shown named.now) items.now) here.now) }
 {
     match here {
-        Some(here) => Ok(Some(transforms_in(alloc, named, items, here.as_slice())?)),
+        Some(here) => transforms_in(alloc, named, items, here.as_slice()).map(Some),
         None => Ok(None),
     }
 }

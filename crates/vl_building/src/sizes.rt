@@ -107,7 +107,7 @@ fn sharings_at(
     ensures { IfOk result (λ out. out ≡ option_map (filter_map sharing_in) (found_at members_in members.now name.now)) }
 {
     match members_at(members, name) {
-        Some(inner) => Ok(Some(given_by(alloc, inner.as_slice())?)),
+        Some(inner) => given_by(alloc, inner.as_slice()).map(Some),
         None => Ok(None),
     }
 }

@@ -43,7 +43,7 @@ fn name_behind(alloc: Global, number: usize, at: &DataAt) -> Result<Option<Text>
     ensures { IfOk result (λ name. name ≡ name_behind number at.now) }
 {
     if is_unnamed(at) {
-        Ok(Some(source_name(alloc, number)?))
+        source_name(alloc, number).map(Some)
     } else {
         Copies::copied(&at.name, alloc)
     }
@@ -107,7 +107,7 @@ fn copied_rows(alloc: Global, rows: &Option<Json>) -> Result<Option<Json>, OutOf
     ensures { IfOk result (λ copy. copy ≡ rows.now) }
 {
     match rows {
-        Some(rows) => Ok(Some(rows.copy(alloc)?)),
+        Some(rows) => rows.copy(alloc).map(Some),
         None => Ok(None),
     }
 }
@@ -262,7 +262,7 @@ fn first_source(
     ensures { IfOk result (λ source. source ≡ first_source (found_by finders.now datasets.now all.now) number at.now name.now) }
 {
     if is_first(alloc, finders, number, name)? {
-        Ok(Some(source_for(alloc, datasets, all, finders, at, name)?))
+        source_for(alloc, datasets, all, finders, at, name).map(Some)
     } else {
         Ok(None)
     }

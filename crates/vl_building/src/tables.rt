@@ -108,7 +108,7 @@ pub fn channels_at(
     ensures { IfOk result (λ out. out ≡ channels_at members.now name.now) }
 {
     match items_at(members, name) {
-        Some(items) => Ok(Some(channels_in(alloc, items.as_slice())?)),
+        Some(items) => channels_in(alloc, items.as_slice()).map(Some),
         None => Ok(None),
     }
 }

@@ -1,8 +1,10 @@
 // Transforms of rows.
 ghost use Rattle.std.specs.Prelude.{◌≡◌, IfOk};
-ghost use Rattle.vl_building.specs.Transforms.{calculate_of, needed_bin, bin_of, time_unit_of, stack_of, fold_of, is_transform_kind, transform_kind, transform_by, transform_of};
+ghost use Rattle.vl_spec.specs.declared.transforms.Transform.TheVariants as variant;
+ghost use Rattle.vl_building.specs.Transforms.{calculate_of, needed_bin, bin_of, time_unit_of, stack_of, fold_of, is_transform_kind, transform_by, transform_of};
 
 use crate::cells::needed_names;
+use crate::deciding::{Deciding, first_deciding};
 use crate::definitions::bin_settings_of;
 use crate::fields::{fields_at, needed_field, needed_fields};
 use crate::filters::needed_filter;
@@ -21,12 +23,12 @@ use vl_spec::{
 
 // `calculate`
 #[tactic(auto, unfolding(crate::specs::Transforms::calculate_of))]
-fn calculate_of(alloc: Global, members: &[Member]) -> Result<CalculateTransform, OutOfMemory>
-    ensures { IfOk result (λ calculate. calculate ≡ calculate_of members.now) }
+fn calculate_of(alloc: Global, members: &[Member]) -> Result<Transform, OutOfMemory>
+    ensures { IfOk result (λ t. t ≡ variant.Calculate (calculate_of members.now)) }
 {
     let as_ = needed_text(alloc, members, "as")?;
     let calculate = needed_expression(alloc, members, "calculate")?;
-    Ok(CalculateTransform { as_, calculate })
+    Ok(Transform::Calculate(CalculateTransform { as_, calculate }))
 }
 
 // How a transform puts a field into bins: in the way that an object says, else by itself.
@@ -41,89 +43,81 @@ fn needed_bin(members: &[Member], name: &str) -> Bin
 
 // `bin`
 #[tactic(auto, unfolding(crate::specs::Transforms::bin_of))]
-fn bin_of(alloc: Global, members: &[Member]) -> Result<BinTransform, OutOfMemory>
-    ensures { IfOk result (λ bin. bin ≡ bin_of members.now) }
+fn bin_of(alloc: Global, members: &[Member]) -> Result<Transform, OutOfMemory>
+    ensures { IfOk result (λ t. t ≡ variant.Bin (bin_of members.now)) }
 {
     let bin = needed_bin(members, "bin");
     let field = needed_field(alloc, members, "field")?;
     let as_ = needed_names(alloc, members, "as")?;
-    Ok(BinTransform { bin, field, as_ })
+    Ok(Transform::Bin(BinTransform { bin, field, as_ }))
 }
 
 // `timeUnit`
 #[tactic(auto, unfolding(crate::specs::Transforms::time_unit_of))]
-fn time_unit_of(alloc: Global, members: &[Member]) -> Result<TimeUnitTransform, OutOfMemory>
-    ensures { IfOk result (λ unit. unit ≡ time_unit_of members.now) }
+fn time_unit_of(alloc: Global, members: &[Member]) -> Result<Transform, OutOfMemory>
+    ensures { IfOk result (λ t. t ≡ variant.TimeUnit (time_unit_of members.now)) }
 {
     let time_unit = time_unit_at(members, "timeUnit").unwrap_or(0);
     let field = needed_field(alloc, members, "field")?;
     let as_ = needed_text(alloc, members, "as")?;
-    Ok(TimeUnitTransform {
+    Ok(Transform::TimeUnit(TimeUnitTransform {
         time_unit,
         field,
         as_,
-    })
+    }))
 }
 
 // `stack`
 #[tactic(auto, unfolding(crate::specs::Transforms::stack_of))]
-fn stack_of(alloc: Global, members: &[Member]) -> Result<StackTransform, OutOfMemory>
-    ensures { IfOk result (λ stack. stack ≡ stack_of members.now) }
+fn stack_of(alloc: Global, members: &[Member]) -> Result<Transform, OutOfMemory>
+    ensures { IfOk result (λ t. t ≡ variant.Stack (stack_of members.now)) }
 {
     let offset = named_at(members, "offset");
     let groupby = fields_at(alloc, members, "groupby")?;
     let sort = objects_at(alloc, members, "sort")?;
     let stack = needed_field(alloc, members, "stack")?;
     let as_ = needed_names(alloc, members, "as")?;
-    Ok(StackTransform {
+    Ok(Transform::Stack(StackTransform {
         stack,
         groupby,
         sort,
         offset,
         as_,
-    })
+    }))
 }
 
 // `fold`
 #[tactic(auto, unfolding(crate::specs::Transforms::fold_of))]
-fn fold_of(alloc: Global, members: &[Member]) -> Result<FoldTransform, OutOfMemory>
-    ensures { IfOk result (λ fold. fold ≡ fold_of members.now) }
+fn fold_of(alloc: Global, members: &[Member]) -> Result<Transform, OutOfMemory>
+    ensures { IfOk result (λ t. t ≡ variant.Fold (fold_of members.now)) }
 {
     let fold = needed_fields(alloc, members, "fold")?;
     let as_ = two_texts_at(alloc, members, "as")?;
-    Ok(FoldTransform { fold, as_ })
+    Ok(Transform::Fold(FoldTransform { fold, as_ }))
 }
 
-// Whether it is a member of which the first decides what a transform is.
-#[tactic(auto, unfolding(crate::specs::Transforms::is_transform_kind))]
-fn is_transform_kind(name: &str) -> bool
-    ensures { result ≡ is_transform_kind name.now }
-{
-    match name {
-        "filter"
-        | "calculate"
-        | "bin"
-        | "timeUnit"
-        | "aggregate"
-        | "joinaggregate"
-        | "stack"
-        | "window"
-        | "lookup"
-        | "fold" => true,
-        _ => false,
-    }
-}
+// What decides what a transform is.
+struct TransformKinds;
 
-// The first of them, or no name.
-fn transform_kind(members: &[Member]) -> &str
-    ensures { result.now ≡ transform_kind members.now }
-{
-    for member in members {
-        if is_transform_kind(member.name.as_str()) {
-            return member.name.as_str();
+impl Deciding for TransformKinds {
+    ghost deciding = { is_transform_kind };
+
+    #[tactic(auto, unfolding(crate::specs::Transforms::is_transform_kind))]
+    fn decides(name: &str) -> bool {
+        match name {
+            "filter"
+            | "calculate"
+            | "bin"
+            | "timeUnit"
+            | "aggregate"
+            | "joinaggregate"
+            | "stack"
+            | "window"
+            | "lookup"
+            | "fold" => true,
+            _ => false,
         }
     }
-    ""
 }
 
 // A transform by its first deciding member; one without is a filter that no row passes.
@@ -137,20 +131,18 @@ fn transform_by(
     ensures { IfOk result (λ transform. transform ≡ transform_by kind.now source.now members.now) }
 {
     match kind {
-        "calculate" => Ok(Transform::Calculate(calculate_of(alloc, members)?)),
-        "bin" => Ok(Transform::Bin(bin_of(alloc, members)?)),
-        "timeUnit" => Ok(Transform::TimeUnit(time_unit_of(alloc, members)?)),
-        "aggregate" => Ok(Transform::Aggregate(aggregate_of(alloc, "aggregate", members)?)),
-        "joinaggregate" => Ok(Transform::JoinAggregate(aggregate_of(
-            alloc,
-            "joinaggregate",
-            members,
-        )?)),
-        "stack" => Ok(Transform::Stack(stack_of(alloc, members)?)),
-        "window" => Ok(Transform::Window(window_of(alloc, members)?)),
-        "lookup" => Ok(Transform::Lookup(lookup_of(alloc, source, members)?)),
-        "fold" => Ok(Transform::Fold(fold_of(alloc, members)?)),
-        _ => Ok(Transform::Filter(needed_filter(alloc, members, "filter")?)),
+        "calculate" => calculate_of(alloc, members),
+        "bin" => bin_of(alloc, members),
+        "timeUnit" => time_unit_of(alloc, members),
+        "aggregate" => aggregate_of(alloc, "aggregate", members).map(Transform::Aggregate),
+        "joinaggregate" => aggregate_of(alloc, "joinaggregate", members).map(
+            Transform::JoinAggregate,
+        ),
+        "stack" => stack_of(alloc, members),
+        "window" => window_of(alloc, members),
+        "lookup" => lookup_of(alloc, source, members),
+        "fold" => fold_of(alloc, members),
+        _ => needed_filter(alloc, members, "filter").map(Transform::Filter),
     }
 }
 
@@ -163,5 +155,10 @@ pub fn transform_of(
 ) -> Result<Transform, OutOfMemory>
     ensures { IfOk result (λ transform. transform ≡ transform_of source.now members.now) }
 {
-    transform_by(alloc, transform_kind(members), source, members)
+    transform_by(
+        alloc,
+        first_deciding::<TransformKinds>(members, ""),
+        source,
+        members,
+    )
 }

@@ -1,6 +1,7 @@
 // Views.
-ghost use Rattle.std.specs.Prelude.{◌≡◌, map, codes, IfOk};
+ghost use Rattle.std.specs.Prelude.{◌≡◌, ◌++◌, map, codes, IfOk, OnOk};
 ghost use Rattle.vl_spec.specs.declared.views.Facet.TheVariants as facet;
+ghost use Rattle.vl_spec.specs.declared.views.ViewKind.TheVariants as view_kind;
 ghost use Rattle.tree_readers.specs.Parts.{object_at};
 ghost use Rattle.vl_building.specs.Inside.{member_gives};
 ghost use Rattle.vl_building.specs.Channels.{channel_of, encoding_of};
@@ -8,6 +9,7 @@ ghost use Rattle.vl_building.specs.Views.{child, is_view_kind, other_word, view_
 ghost use Rattle.vl_building.specs.inner.Named.{shown};
 ghost use Rattle.vl_building.specs.inner.Heads.{head_of, view_of_head, views_inside};
 
+use crate::deciding::{Deciding, first_deciding};
 use crate::naming::Named;
 use crate::numbers::{count_at, space_at};
 use crate::parts::{Object, object_with, plain_at};
@@ -23,14 +25,18 @@ use vl_spec::{
     Transform, Unit, View, ViewKind,
 };
 
-// Whether it is a member of which the first decides what a view is.
-#[tactic(auto, unfolding(crate::specs::Views::is_view_kind))]
-fn is_view_kind(name: &str) -> bool
-    ensures { result ≡ is_view_kind name.now }
-{
-    match name {
-        "mark" | "layer" | "facet" | "hconcat" | "vconcat" | "concat" => true,
-        _ => false,
+// What decides what a view is.
+struct ViewKinds;
+
+impl Deciding for ViewKinds {
+    ghost deciding = { is_view_kind };
+
+    #[tactic(auto, unfolding(crate::specs::Views::is_view_kind))]
+    fn decides(name: &str) -> bool {
+        match name {
+            "mark" | "layer" | "facet" | "hconcat" | "vconcat" | "concat" => true,
+            _ => false,
+        }
     }
 }
 
@@ -45,16 +51,11 @@ fn other_word(members: &[Member]) -> &'static str
     }
 }
 
-// What decides what a view is.
+// The member that decides.
 fn view_word(members: &[Member]) -> &str
     ensures { result.now ≡ view_word members.now }
 {
-    for member in members {
-        if is_view_kind(member.name.as_str()) {
-            return member.name.as_str();
-        }
-    }
-    other_word(members)
+    first_deciding::<ViewKinds>(members, other_word(members))
 }
 
 impl Object for CrossFacet {
@@ -71,7 +72,7 @@ impl Object for CrossFacet {
 fn one_facet(alloc: Global, members: &[Member]) -> Result<Facet, OutOfMemory>
     ensures { IfOk result (λ parted. parted ≡ facet.One (channel_of members.now)) }
 {
-    Ok(Facet::One(Channel::of_members(alloc, members)?))
+    Channel::of_members(alloc, members).map(Facet::One)
 }
 
 // How rows are parted: by rows and columns only without `field`.
@@ -83,7 +84,7 @@ impl Object for Facet {
         if has_member(members, "field") {
             one_facet(alloc, members)
         } else if has_member(members, "row") || has_member(members, "column") {
-            Ok(Facet::Cross(CrossFacet::of_members(alloc, members)?))
+            CrossFacet::of_members(alloc, members).map(Facet::Cross)
         } else {
             one_facet(alloc, members)
         }
@@ -92,11 +93,11 @@ impl Object for Facet {
 
 // One mark.
 #[tactic(auto, unfolding(crate::specs::Views::unit_of))]
-fn unit_of(alloc: Global, members: &[Member]) -> Result<Unit, OutOfMemory>
-    ensures { IfOk result (λ unit. unit ≡ unit_of members.now) }
+fn unit_of(alloc: Global, members: &[Member]) -> Result<ViewKind, OutOfMemory>
+    ensures { IfOk result (λ kind. kind ≡ view_kind.Unit (unit_of members.now)) }
 {
     let (mark, encoding) = two_parts(alloc, members, "mark", "encoding")?;
-    Ok(Unit { mark, encoding })
+    Ok(ViewKind::Unit(Unit { mark, encoding }))
 }
 
 // The channels of a layer, and a value.
@@ -270,33 +271,12 @@ fn kind_by(
     ensures { IfOk result (λ kind. kind ≡ kind_by word.now members.now (views_inside (shown named.now) members.now place.now)) }
 {
     match word {
-        "layer" => Ok(ViewKind::Layer(layer_of(alloc, named, members, place)?)),
-        "facet" => Ok(ViewKind::Facet(faceted_of(alloc, named, members, place)?)),
-        "hconcat" => Ok(ViewKind::Joined(joined_of(
-            alloc,
-            named,
-            Joining::Row,
-            "hconcat",
-            members,
-            place,
-        )?)),
-        "vconcat" => Ok(ViewKind::Joined(joined_of(
-            alloc,
-            named,
-            Joining::Column,
-            "vconcat",
-            members,
-            place,
-        )?)),
-        "concat" => Ok(ViewKind::Joined(joined_of(
-            alloc,
-            named,
-            Joining::Grid,
-            "concat",
-            members,
-            place,
-        )?)),
-        _ => Ok(ViewKind::Unit(unit_of(alloc, members)?)),
+        "layer" => layer_of(alloc, named, members, place),
+        "facet" => faceted_of(alloc, named, members, place),
+        "hconcat" => joined_of(alloc, named, Joining::Row, "hconcat", members, place),
+        "vconcat" => joined_of(alloc, named, Joining::Column, "vconcat", members, place),
+        "concat" => joined_of(alloc, named, Joining::Grid, "concat", members, place),
+        _ => unit_of(alloc, members),
     }
 }
 
@@ -308,13 +288,13 @@ fn layer_of(
     named: &Named,
     members: &[Member],
     place: &[usize],
-) -> Result<Layer, OutOfMemory>
-    ensures { IfOk result (λ layer. layer
-        ≡ layer_with members.now (views_given (views_inside (shown named.now) members.now place.now (codes "layer")))) }
+) -> Result<ViewKind, OutOfMemory>
+    ensures { IfOk result (λ kind. kind
+        ≡ view_kind.Layer (layer_with members.now (views_given (views_inside (shown named.now) members.now place.now (codes "layer"))))) }
 {
     let layer = views_at(alloc, named, members, place, "layer")?;
     let (encoding, layer) = encoding_with(alloc, members, layer)?;
-    Ok(Layer { layer, encoding })
+    Ok(ViewKind::Layer(Layer { layer, encoding }))
 }
 
 // A view for each part of the rows.
@@ -325,20 +305,20 @@ fn faceted_of(
     named: &Named,
     members: &[Member],
     place: &[usize],
-) -> Result<Faceted, OutOfMemory>
-    ensures { IfOk result (λ faceted. faceted
-        ≡ faceted_with members.now (view_given (views_inside (shown named.now) members.now place.now (codes "spec")))) }
+) -> Result<ViewKind, OutOfMemory>
+    ensures { IfOk result (λ kind. kind
+        ≡ view_kind.Facet (faceted_with members.now (view_given (views_inside (shown named.now) members.now place.now (codes "spec"))))) }
 {
     let columns = count_at(members, "columns");
     let spacing = space_at(members, "spacing");
     let view = view_at(alloc, named, members, place)?;
     let (facet, view) = object_with(alloc, needed_members(members, "facet"), view)?;
-    Ok(Faceted {
+    Ok(ViewKind::Facet(Faceted {
         facet,
         columns,
         spacing,
         spec: view,
-    })
+    }))
 }
 
 // Views beside each other.
@@ -351,19 +331,19 @@ fn joined_of(
     name: &str,
     members: &[Member],
     place: &[usize],
-) -> Result<Joined, OutOfMemory>
-    ensures { IfOk result (λ joined. joined
-        ≡ joined_with joining members.now (views_given (views_inside (shown named.now) members.now place.now name.now))) }
+) -> Result<ViewKind, OutOfMemory>
+    ensures { IfOk result (λ kind. kind
+        ≡ view_kind.Joined (joined_with joining members.now (views_given (views_inside (shown named.now) members.now place.now name.now)))) }
 {
     let columns = count_at(members, "columns");
     let spacing = space_at(members, "spacing");
     let views = views_at(alloc, named, members, place, name)?;
-    Ok(Joined {
+    Ok(ViewKind::Joined(Joined {
         joining,
         columns,
         spacing,
         views,
-    })
+    }))
 }
 
 // The view under `spec`, in a box.
@@ -480,8 +460,23 @@ fn views_in(
     ensures { IfOk result (λ views. views ≡ views_in (map (as_view (shown named.now)) items.now) place.now) }
 {
     let mut views = Seq::new(alloc);
-    for (number, tree) in items.iter().enumerate() {
-        views.push(child_view(alloc, named, tree, place, number)?)?;
-    }
+    push_views(alloc, named, items, place, &mut views)?;
     Ok(views)
+}
+
+// Adds the views that items at a place are.
+#[cycle(views)]
+fn push_views(
+    alloc: Global,
+    named: &Named,
+    items: &[Json],
+    place: &[usize],
+    out: &mut Seq<View>,
+) -> Result<(), OutOfMemory>
+    ensures { OnOk result (out.new ≡ out.old ++ views_in (map (as_view (shown named.now)) items.now) place.now) }
+{
+    for (number, tree) in items.iter().enumerate() {
+        out.push(child_view(alloc, named, tree, place, number)?)?;
+    }
+    Ok(())
 }

@@ -1,5 +1,5 @@
 // Channels, and their conditions.
-ghost use Rattle.std.specs.Prelude.{◌≡◌, IfOk};
+ghost use Rattle.std.specs.Prelude.{◌≡◌, ◌++◌, IfOk, OnOk};
 
 use crate::copying::beside;
 use crate::{Definition, Filter, ParamTest};
@@ -84,8 +84,8 @@ impl Drop for ChannelOf {
 impl Drop for ChannelKind {
     fn drop(self) {
         match self {
-            ChannelKind::One(_) => {}
-            ChannelKind::Several(_) => {}
+            ChannelKind::One(channel) => drop(channel),
+            ChannelKind::Several(channels) => drop(channels),
         }
     }
 }
@@ -94,7 +94,7 @@ impl Drop for Test {
     fn drop(self) {
         match self {
             Test::Param(_) => {}
-            Test::Filter(_) => {}
+            Test::Filter(filter) => drop(filter),
         }
     }
 }
@@ -119,8 +119,8 @@ impl Copies for ChannelOf {
 impl Copies for ChannelKind {
     fn copied(&self, alloc: Global) -> Result<ChannelKind, OutOfMemory> {
         match self {
-            ChannelKind::One(channel) => Ok(ChannelKind::One(channel.copied(alloc)?)),
-            ChannelKind::Several(channels) => Ok(ChannelKind::Several(channels.copied(alloc)?)),
+            ChannelKind::One(channel) => channel.copied(alloc).map(ChannelKind::One),
+            ChannelKind::Several(channels) => channels.copied(alloc).map(ChannelKind::Several),
         }
     }
 }
@@ -147,10 +147,10 @@ impl Conditions {
         ensures { IfOk result (λ copy. copy ≡ self.now) }
     {
         match self {
-            Conditions::One(condition) => Ok(Conditions::One(boxed_copy(alloc, condition)?)),
-            Conditions::Several(conditions) => Ok(Conditions::Several(copied_list(
-                alloc, conditions,
-            )?)),
+            Conditions::One(condition) => boxed_copy(alloc, condition).map(Conditions::One),
+            Conditions::Several(conditions) => copied_list(alloc, conditions).map(
+                Conditions::Several,
+            ),
         }
     }
 }
@@ -176,7 +176,7 @@ fn copied_conditions(
     ensures { IfOk result (λ copy. copy ≡ conditions.now) }
 {
     match conditions {
-        Some(conditions) => Ok(Some(conditions.copy(alloc)?)),
+        Some(conditions) => conditions.copy(alloc).map(Some),
         None => Ok(None),
     }
 }
@@ -195,10 +195,23 @@ fn copied_list(alloc: Global, conditions: &Seq<Condition>) -> Result<Seq<Conditi
     ensures { IfOk result (λ copy. copy ≡ conditions.now) }
 {
     let mut out = Seq::new(alloc);
-    for condition in conditions.as_slice() {
+    push_copies(alloc, conditions.as_slice(), &mut out)?;
+    Ok(out)
+}
+
+// Adds copies of conditions.
+#[cycle(channels)]
+fn push_copies(
+    alloc: Global,
+    conditions: &[Condition],
+    out: &mut Seq<Condition>,
+) -> Result<(), OutOfMemory>
+    ensures { OnOk result (out.new ≡ out.old ++ conditions.now) }
+{
+    for condition in conditions {
         out.push(condition.copy(alloc)?)?;
     }
-    Ok(out)
+    Ok(())
 }
 
 impl Copies for Channel {
@@ -210,8 +223,8 @@ impl Copies for Channel {
 impl Copies for Test {
     fn copied(&self, alloc: Global) -> Result<Test, OutOfMemory> {
         match self {
-            Test::Param(of) => Ok(Test::Param(of.copied(alloc)?)),
-            Test::Filter(filter) => Ok(Test::Filter(filter.copy(alloc)?)),
+            Test::Param(of) => of.copied(alloc).map(Test::Param),
+            Test::Filter(filter) => filter.copy(alloc).map(Test::Filter),
         }
     }
 }

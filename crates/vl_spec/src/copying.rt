@@ -12,7 +12,7 @@ pub fn copied_values<T: Copy>(
     ensures { IfOk result (λ copy. copy ≡ values.now) }
 {
     match values {
-        Some(values) => Ok(Some(Seq::from_slice(alloc, values.as_slice())?)),
+        Some(values) => Seq::from_slice(alloc, values.as_slice()).map(Some),
         None => Ok(None),
     }
 }

@@ -156,9 +156,9 @@ impl Drop for FieldDefinition {
 impl Copies for Definition {
     fn copied(&self, alloc: Global) -> Result<Definition, OutOfMemory> {
         match self {
-            Definition::Value(cell) => Ok(Definition::Value(cell.copied(alloc)?)),
-            Definition::Datum(of) => Ok(Definition::Datum(of.copied(alloc)?)),
-            Definition::Field(of) => Ok(Definition::Field(of.copied(alloc)?)),
+            Definition::Value(cell) => cell.copied(alloc).map(Definition::Value),
+            Definition::Datum(of) => of.copied(alloc).map(Definition::Datum),
+            Definition::Field(of) => of.copied(alloc).map(Definition::Field),
         }
     }
 }

@@ -1,5 +1,5 @@
 // Filters, and tests of conditions.
-ghost use Rattle.std.specs.Prelude.{◌≡◌, IfOk};
+ghost use Rattle.std.specs.Prelude.{◌≡◌, ◌++◌, IfOk, OnOk};
 
 use crate::copying::copied_two;
 use cell_value::Cell;
@@ -83,11 +83,11 @@ impl Drop for FieldTest {
 impl Drop for Comparison {
     fn drop(self) {
         match self {
-            Comparison::Equal(_) => {}
-            Comparison::Less(_) => {}
-            Comparison::LessSame(_) => {}
-            Comparison::More(_) => {}
-            Comparison::MoreSame(_) => {}
+            Comparison::Equal(cell)
+            | Comparison::Less(cell)
+            | Comparison::LessSame(cell)
+            | Comparison::More(cell)
+            | Comparison::MoreSame(cell) => drop(cell),
             Comparison::Range(_, _) => {}
             Comparison::OneOf(_) => {}
             Comparison::Valid(_) => {}
@@ -102,12 +102,12 @@ impl Filter {
         ensures { IfOk result (λ copy. copy ≡ self.now) }
     {
         match self {
-            Filter::Expr(e) => Ok(Filter::Expr(e.copy(alloc)?)),
-            Filter::Param(of) => Ok(Filter::Param(of.copied(alloc)?)),
-            Filter::Field(of) => Ok(Filter::Field(of.copied(alloc)?)),
-            Filter::And(filters) => Ok(Filter::And(copied_filters(alloc, filters)?)),
-            Filter::Or(filters) => Ok(Filter::Or(copied_filters(alloc, filters)?)),
-            Filter::Not(filter) => Ok(Filter::Not(boxed_copy(alloc, filter)?)),
+            Filter::Expr(e) => e.copy(alloc).map(Filter::Expr),
+            Filter::Param(of) => of.copied(alloc).map(Filter::Param),
+            Filter::Field(of) => of.copied(alloc).map(Filter::Field),
+            Filter::And(filters) => copied_filters(alloc, filters).map(Filter::And),
+            Filter::Or(filters) => copied_filters(alloc, filters).map(Filter::Or),
+            Filter::Not(filter) => boxed_copy(alloc, filter).map(Filter::Not),
         }
     }
 }
@@ -118,10 +118,19 @@ fn copied_filters(alloc: Global, filters: &Seq<Filter>) -> Result<Seq<Filter>, O
     ensures { IfOk result (λ copy. copy ≡ filters.now) }
 {
     let mut out = Seq::new(alloc);
-    for filter in filters.as_slice() {
+    push_copies(alloc, filters.as_slice(), &mut out)?;
+    Ok(out)
+}
+
+// Adds copies of filters.
+#[cycle(filters)]
+fn push_copies(alloc: Global, filters: &[Filter], out: &mut Seq<Filter>) -> Result<(), OutOfMemory>
+    ensures { OnOk result (out.new ≡ out.old ++ filters.now) }
+{
+    for filter in filters {
         out.push(filter.copy(alloc)?)?;
     }
-    Ok(out)
+    Ok(())
 }
 
 // A copy of a filter in a box.
@@ -161,13 +170,13 @@ impl Copies for FieldTest {
 impl Copies for Comparison {
     fn copied(&self, alloc: Global) -> Result<Comparison, OutOfMemory> {
         match self {
-            Comparison::Equal(cell) => Ok(Comparison::Equal(cell.copied(alloc)?)),
-            Comparison::Less(cell) => Ok(Comparison::Less(cell.copied(alloc)?)),
-            Comparison::LessSame(cell) => Ok(Comparison::LessSame(cell.copied(alloc)?)),
-            Comparison::More(cell) => Ok(Comparison::More(cell.copied(alloc)?)),
-            Comparison::MoreSame(cell) => Ok(Comparison::MoreSame(cell.copied(alloc)?)),
+            Comparison::Equal(cell) => cell.copied(alloc).map(Comparison::Equal),
+            Comparison::Less(cell) => cell.copied(alloc).map(Comparison::Less),
+            Comparison::LessSame(cell) => cell.copied(alloc).map(Comparison::LessSame),
+            Comparison::More(cell) => cell.copied(alloc).map(Comparison::More),
+            Comparison::MoreSame(cell) => cell.copied(alloc).map(Comparison::MoreSame),
             Comparison::Range(a, b) => Ok(Comparison::Range(*a, *b)),
-            Comparison::OneOf(cells) => Ok(Comparison::OneOf(cells.copied(alloc)?)),
+            Comparison::OneOf(cells) => cells.copied(alloc).map(Comparison::OneOf),
             Comparison::Valid(valid) => Ok(Comparison::Valid(*valid)),
         }
     }

@@ -106,8 +106,8 @@ impl Drop for FieldSort {
 impl Copies for Texts {
     fn copied(&self, alloc: Global) -> Result<Texts, OutOfMemory> {
         match self {
-            Texts::One(text) => Ok(Texts::One(text.copy()?)),
-            Texts::Several(texts) => Ok(Texts::Several(texts.copied(alloc)?)),
+            Texts::One(text) => text.copy().map(Texts::One),
+            Texts::Several(texts) => texts.copied(alloc).map(Texts::Several),
         }
     }
 }
@@ -128,8 +128,8 @@ impl Copies for Sort {
             Sort::Cells(order) => Ok(Sort::Cells(*order)),
             Sort::X(order) => Ok(Sort::X(*order)),
             Sort::Y(order) => Ok(Sort::Y(*order)),
-            Sort::Listed(cells) => Ok(Sort::Listed(cells.copied(alloc)?)),
-            Sort::Field(of) => Ok(Sort::Field(of.copied(alloc)?)),
+            Sort::Listed(cells) => cells.copied(alloc).map(Sort::Listed),
+            Sort::Field(of) => of.copied(alloc).map(Sort::Field),
         }
     }
 }

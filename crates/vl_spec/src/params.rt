@@ -101,7 +101,7 @@ impl Drop for ParamKind {
     fn drop(self) {
         match self {
             ParamKind::Value(_) => {}
-            ParamKind::Expr(_) => {}
+            ParamKind::Expr(e) => drop(e),
             ParamKind::Select(_) => {}
         }
     }
@@ -148,9 +148,9 @@ impl Copies for ParamOf {
 impl Copies for ParamKind {
     fn copied(&self, alloc: Global) -> Result<ParamKind, OutOfMemory> {
         match self {
-            ParamKind::Value(cell) => Ok(ParamKind::Value(cell.copied(alloc)?)),
-            ParamKind::Expr(e) => Ok(ParamKind::Expr(e.copy(alloc)?)),
-            ParamKind::Select(of) => Ok(ParamKind::Select(of.copied(alloc)?)),
+            ParamKind::Value(cell) => cell.copied(alloc).map(ParamKind::Value),
+            ParamKind::Expr(e) => e.copy(alloc).map(ParamKind::Expr),
+            ParamKind::Select(of) => of.copied(alloc).map(ParamKind::Select),
         }
     }
 }
@@ -166,7 +166,7 @@ impl Copies for Select {
     fn copied(&self, alloc: Global) -> Result<Select, OutOfMemory> {
         match self {
             Select::Type(type_) => Ok(Select::Type(*type_)),
-            Select::Definition(of) => Ok(Select::Definition(of.copied(alloc)?)),
+            Select::Definition(of) => of.copied(alloc).map(Select::Definition),
         }
     }
 }

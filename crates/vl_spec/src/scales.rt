@@ -110,8 +110,8 @@ impl Copies for Scale {
 impl Copies for Domain {
     fn copied(&self, alloc: Global) -> Result<Domain, OutOfMemory> {
         match self {
-            Domain::Cells(cells) => Ok(Domain::Cells(cells.copied(alloc)?)),
-            Domain::Param(of) => Ok(Domain::Param(of.copied(alloc)?)),
+            Domain::Cells(cells) => cells.copied(alloc).map(Domain::Cells),
+            Domain::Param(of) => of.copied(alloc).map(Domain::Param),
         }
     }
 }

@@ -53,7 +53,7 @@ fn copied_json(alloc: Global, tree: &Option<Json>) -> Result<Option<Json>, OutOf
     ensures { IfOk result (λ copy. copy ≡ tree.now) }
 {
     match tree {
-        Some(tree) => Ok(Some(tree.copy(alloc)?)),
+        Some(tree) => tree.copy(alloc).map(Some),
         None => Ok(None),
     }
 }
@@ -62,10 +62,11 @@ impl Drop for SourceOf {
     fn drop(self) {
         let SourceOf {
             name: _,
-            values: _,
+            values,
             url: _,
             format: _,
         } = self;
+        drop(values);
     }
 }
 

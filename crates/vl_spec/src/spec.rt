@@ -34,8 +34,9 @@ impl Drop for VlSpec {
             config: _,
             sources: _,
             params: _,
-            view: _,
+            view,
         } = self;
+        drop(view);
     }
 }
 

@@ -90,7 +90,7 @@ pub struct FoldTransform {
 impl Drop for Transform {
     fn drop(self) {
         match self {
-            Transform::Filter(_) => {}
+            Transform::Filter(filter) => drop(filter),
             Transform::Calculate(_) => {}
             Transform::Bin(_) => {}
             Transform::TimeUnit(_) => {}
@@ -115,10 +115,8 @@ impl Drop for Names {
 
 impl Drop for CalculateTransform {
     fn drop(self) {
-        let CalculateTransform {
-            as_: _,
-            calculate: _,
-        } = self;
+        let CalculateTransform { as_: _, calculate } = self;
+        drop(calculate);
     }
 }
 
@@ -163,16 +161,16 @@ impl Drop for FoldTransform {
 impl Copies for Transform {
     fn copied(&self, alloc: Global) -> Result<Transform, OutOfMemory> {
         match self {
-            Transform::Filter(of) => Ok(Transform::Filter(of.copy(alloc)?)),
-            Transform::Calculate(of) => Ok(Transform::Calculate(of.copied(alloc)?)),
-            Transform::Bin(of) => Ok(Transform::Bin(of.copied(alloc)?)),
-            Transform::TimeUnit(of) => Ok(Transform::TimeUnit(of.copied(alloc)?)),
-            Transform::Aggregate(of) => Ok(Transform::Aggregate(of.copied(alloc)?)),
-            Transform::JoinAggregate(of) => Ok(Transform::JoinAggregate(of.copied(alloc)?)),
-            Transform::Stack(of) => Ok(Transform::Stack(of.copied(alloc)?)),
-            Transform::Window(of) => Ok(Transform::Window(of.copied(alloc)?)),
-            Transform::Lookup(of) => Ok(Transform::Lookup(of.copied(alloc)?)),
-            Transform::Fold(of) => Ok(Transform::Fold(of.copied(alloc)?)),
+            Transform::Filter(of) => of.copy(alloc).map(Transform::Filter),
+            Transform::Calculate(of) => of.copied(alloc).map(Transform::Calculate),
+            Transform::Bin(of) => of.copied(alloc).map(Transform::Bin),
+            Transform::TimeUnit(of) => of.copied(alloc).map(Transform::TimeUnit),
+            Transform::Aggregate(of) => of.copied(alloc).map(Transform::Aggregate),
+            Transform::JoinAggregate(of) => of.copied(alloc).map(Transform::JoinAggregate),
+            Transform::Stack(of) => of.copied(alloc).map(Transform::Stack),
+            Transform::Window(of) => of.copied(alloc).map(Transform::Window),
+            Transform::Lookup(of) => of.copied(alloc).map(Transform::Lookup),
+            Transform::Fold(of) => of.copied(alloc).map(Transform::Fold),
         }
     }
 }
@@ -180,7 +178,7 @@ impl Copies for Transform {
 impl Copies for Names {
     fn copied(&self, _: Global) -> Result<Names, OutOfMemory> {
         match self {
-            Names::One(name) => Ok(Names::One(name.copy()?)),
+            Names::One(name) => name.copy().map(Names::One),
             Names::Two(start, end) => Ok(Names::Two(start.copy()?, end.copy()?)),
         }
     }

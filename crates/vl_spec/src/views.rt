@@ -1,5 +1,5 @@
 // Views.
-ghost use Rattle.std.specs.Prelude.{◌≡◌, IfOk};
+ghost use Rattle.std.specs.Prelude.{◌≡◌, ◌++◌, IfOk, OnOk};
 
 use crate::copying::{beside, beside_five, copied_two};
 use crate::{Channel, Encoding, Mark, Resolve, Size, Transform};
@@ -130,7 +130,7 @@ impl Drop for Unit {
 impl Drop for Facet {
     fn drop(self) {
         match self {
-            Facet::One(_) => {}
+            Facet::One(channel) => drop(channel),
             Facet::Cross(_) => {}
         }
     }
@@ -138,7 +138,9 @@ impl Drop for Facet {
 
 impl Drop for CrossFacet {
     fn drop(self) {
-        let CrossFacet { row: _, column: _ } = self;
+        let CrossFacet { row, column } = self;
+        drop(row);
+        drop(column);
     }
 }
 
@@ -180,10 +182,10 @@ impl ViewKind {
         ensures { IfOk result (λ copy. copy ≡ self.now) }
     {
         match self {
-            ViewKind::Unit(unit) => Ok(ViewKind::Unit(unit.copied(alloc)?)),
-            ViewKind::Layer(layer) => Ok(ViewKind::Layer(layer.copy(alloc)?)),
-            ViewKind::Facet(faceted) => Ok(ViewKind::Facet(faceted.copy(alloc)?)),
-            ViewKind::Joined(joined) => Ok(ViewKind::Joined(joined.copy(alloc)?)),
+            ViewKind::Unit(unit) => unit.copied(alloc).map(ViewKind::Unit),
+            ViewKind::Layer(layer) => layer.copy(alloc).map(ViewKind::Layer),
+            ViewKind::Facet(faceted) => faceted.copy(alloc).map(ViewKind::Facet),
+            ViewKind::Joined(joined) => joined.copy(alloc).map(ViewKind::Joined),
         }
     }
 }
@@ -238,10 +240,19 @@ fn copied_views(alloc: Global, views: &Seq<View>) -> Result<Seq<View>, OutOfMemo
     ensures { IfOk result (λ copy. copy ≡ views.now) }
 {
     let mut out = Seq::new(alloc);
-    for view in views.as_slice() {
+    push_copies(alloc, views.as_slice(), &mut out)?;
+    Ok(out)
+}
+
+// Adds copies of views.
+#[cycle(views)]
+fn push_copies(alloc: Global, views: &[View], out: &mut Seq<View>) -> Result<(), OutOfMemory>
+    ensures { OnOk result (out.new ≡ out.old ++ views.now) }
+{
+    for view in views {
         out.push(view.copy(alloc)?)?;
     }
-    Ok(out)
+    Ok(())
 }
 
 // A copy of a view in a box.
@@ -268,8 +279,8 @@ impl Copies for Unit {
 impl Copies for Facet {
     fn copied(&self, alloc: Global) -> Result<Facet, OutOfMemory> {
         match self {
-            Facet::One(channel) => Ok(Facet::One(channel.copied(alloc)?)),
-            Facet::Cross(of) => Ok(Facet::Cross(of.copied(alloc)?)),
+            Facet::One(channel) => channel.copied(alloc).map(Facet::One),
+            Facet::Cross(of) => of.copied(alloc).map(Facet::Cross),
         }
     }
 }

@@ -15,6 +15,7 @@ conditions_of-returns-in-Object t c =
     let is : Option Conditions → Type 0 = λ y. IfOk c.one_condition.result (λ f. f ≡ y) in
     subst is (one_is c.args.tree.now c.in-Object.members _ c.in-Object.is c.as_slice.ensures) c.one_condition.ensures
 
-pub conditions_of-returns-in_ok-conditions_in-in-List : goal.conditions_of-returns-in_ok-conditions_in-in-List
-conditions_of-returns-in_ok-conditions_in-in-List t c =
-    list_is c.args.tree.now c.in-List.items _ _ c.in-List.is c.as_slice-in-List.ensures c.in_ok-conditions_in-in-List.ensures
+pub conditions_of-returns-in-List : goal.conditions_of-returns-in-List
+conditions_of-returns-in-List t c =
+    let is : Option Conditions → Type 0 = λ y. IfOk c.several_conditions.result (λ f. f ≡ y) in
+    subst is (list_is c.args.tree.now c.in-List.items _ c.in-List.is c.as_slice-in-List.ensures) c.several_conditions.ensures

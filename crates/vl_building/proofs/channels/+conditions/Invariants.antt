@@ -1,4 +1,4 @@
-use Rattle.std.proofs.Common.{◌≡◌, take, drop, map, ◌+◌, ◌*◌}
+use Rattle.std.proofs.Common.{◌≡◌, ◌++◌, take, drop, map, ◌+◌, ◌*◌}
 use Rattle.std.specs.Prelude.{codes}
 use Rattle.json_exact.specs.declared.json.Json.{size-Json}
 use Rattle.vl_building.specs.Channels.{condition_of, conditions_at}
@@ -16,14 +16,17 @@ decreases-object_condition l = 6 * goal.size-object_condition l + 3
 abbrev pub decreases-one_condition : goal.decreases-one_condition
 decreases-one_condition l = 6 * goal.size-one_condition l + 4
 
-abbrev pub decreases-conditions_in : goal.decreases-conditions_in
-decreases-conditions_in l = 6 * goal.size-conditions_in l + 1
+abbrev pub decreases-several_conditions : goal.decreases-several_conditions
+decreases-several_conditions l = 6 * goal.size-several_conditions l + 2
+
+abbrev pub decreases-push_conditions : goal.decreases-push_conditions
+decreases-push_conditions l = 6 * goal.size-push_conditions l + 1
 
 abbrev pub decreases-conditions_at : goal.decreases-conditions_at
 decreases-conditions_at l = 6 * goal.size-conditions_at l + 2
 
-abbrev pub invariant-conditions_in-loop-tree : goal.invariant-conditions_in-loop-tree
-invariant-conditions_in-loop-tree l = l.conditions ≡ map condition_of (take l.tree-index l.items)
+abbrev pub invariant-push_conditions-loop-tree : goal.invariant-push_conditions-loop-tree
+invariant-push_conditions-loop-tree l = l.out ≡ l.fn.out ++ map condition_of (take l.tree-index l.items)
 
 abbrev pub invariant-conditions_at-loop-member : goal.invariant-conditions_at-loop-member
 invariant-conditions_at-loop-member l = conditions_at (drop l.member-index l.members) (codes "condition") ≡ conditions_at l.members (codes "condition")

@@ -15,8 +15,8 @@ views_of-returns-in-List t c =
     let is : List View → Type 0 = λ y. IfOk c.views_in.result (λ vs. vs ≡ y) in
     subst is (list_is (shown c.args.named.now) c.args.tree.now c.in-List.items _ c.args.place.now c.in-List.is c.as_slice.ensures) c.views_in.ensures
 
-pub views_in-loop-number-preserved : goal.views_in-loop-number-preserved
-views_in-loop-number-preserved t c =
+pub push_views-loop-number-preserved : goal.push_views-loop-number-preserved
+push_views-loop-number-preserved t c =
     one_view (shown c.args.named.now) c.args.place.now c.args.items.now c.loop-number.number c.index-items-number.result
-    c.in_ok-child_view.field-0 c.loop-number.views c.push.new.self _ c.loop-number-test.true c.index-items-number.is
+    c.in_ok-child_view.field-0 c.loop-number.out c.push.new.self _ c.loop-number-test.true c.index-items-number.is
     c.in_ok-child_view.ensures c.in_ok-push.ensures.ok c.loop-number.invariant

@@ -46,6 +46,9 @@ decreases-view_at l = 10 * goal.size-view_at l + 5
 abbrev pub decreases-views_in : goal.decreases-views_in
 decreases-views_in l = 10 * goal.size-views_in l + 9
 
+abbrev pub decreases-push_views : goal.decreases-push_views
+decreases-push_views l = 10 * goal.size-push_views l + 8
+
 abbrev pub invariant-views_at-loop-number : goal.invariant-views_at-loop-number
 invariant-views_at-loop-number l = views_given (inside_from (shown l.named) l.number (drop l.number l.members) l.place l.name)
     ≡ views_given (views_inside (shown l.named) l.members l.place l.name)
@@ -54,7 +57,7 @@ abbrev pub invariant-view_at-loop-number : goal.invariant-view_at-loop-number
 invariant-view_at-loop-number l = view_given (inside_from (shown l.named) l.number (drop l.number l.members) l.place (codes "spec"))
     ≡ view_given (views_inside (shown l.named) l.members l.place (codes "spec"))
 
-abbrev pub invariant-views_in-loop-number : goal.invariant-views_in-loop-number
-invariant-views_in-loop-number l =
-    l.views ++ map (λ item. (item.1 (child l.place item.0)).0) (enumerate_from l.number (map (as_view (shown l.named)) (drop l.number l.items)))
-    ≡ views_in (map (as_view (shown l.named)) l.items) l.place
+abbrev pub invariant-push_views-loop-number : goal.invariant-push_views-loop-number
+invariant-push_views-loop-number l =
+    l.out ++ map (λ item. (item.1 (child l.place item.0)).0) (enumerate_from l.number (map (as_view (shown l.named)) (drop l.number l.items)))
+    ≡ l.fn.out ++ views_in (map (as_view (shown l.named)) l.items) l.place

@@ -1,5 +1,5 @@
-use Rattle.std.proofs.Common.{◌≡◌, take}
+use Rattle.std.proofs.Common.{◌≡◌, ◌++◌, take}
 use Rattle.vl_spec.proofs.channels.+channels.Given as goal
 
-abbrev pub invariant-copied_list-loop-condition : goal.invariant-copied_list-loop-condition
-invariant-copied_list-loop-condition l = l.out ≡ take l.condition-index l.condition-items
+abbrev pub invariant-push_copies-loop-condition : goal.invariant-push_copies-loop-condition
+invariant-push_copies-loop-condition l = l.out ≡ l.fn.out ++ take l.condition-index l.conditions

@@ -1,5 +1,5 @@
-use Rattle.std.proofs.Common.{◌≡◌, take}
+use Rattle.std.proofs.Common.{◌≡◌, ◌++◌, take}
 use Rattle.vl_spec.proofs.filters.+filters.Given as goal
 
-abbrev pub invariant-copied_filters-loop-filter : goal.invariant-copied_filters-loop-filter
-invariant-copied_filters-loop-filter l = l.out ≡ take l.filter-index l.filter-items
+abbrev pub invariant-push_copies-loop-filter : goal.invariant-push_copies-loop-filter
+invariant-push_copies-loop-filter l = l.out ≡ l.fn.out ++ take l.filter-index l.filters

@@ -1,5 +1,5 @@
-use Rattle.std.proofs.Common.{◌≡◌, take}
+use Rattle.std.proofs.Common.{◌≡◌, ◌++◌, take}
 use Rattle.vl_spec.proofs.views.+views.Given as goal
 
-abbrev pub invariant-copied_views-loop-view : goal.invariant-copied_views-loop-view
-invariant-copied_views-loop-view l = l.out ≡ take l.view-index l.view-items
+abbrev pub invariant-push_copies-loop-view : goal.invariant-push_copies-loop-view
+invariant-push_copies-loop-view l = l.out ≡ l.fn.out ++ take l.view-index l.views
