@@ -1,0 +1,3 @@
+mod ChannelLemmas
+pub mod NormalLemmas
+mod ViewLemmas
