@@ -1,0 +1,11 @@
+mod BehindLemmas
+mod ChannelLemmas
+mod DefinitionLemmas
+mod FirstsLemmas
+mod GroupLemmas
+mod OpenedLemmas
+mod RoundLemmas
+mod SharedLemmas
+mod WalkLemmas
+mod WalkedLemmas
+mod UnitLemmas

@@ -1,0 +1,9 @@
+pub mod Definitions
+pub mod Examples
+pub mod inner
+pub mod Rounds
+pub mod Shared
+pub mod Sharing
+pub mod Shown
+pub mod Units
+pub mod Views

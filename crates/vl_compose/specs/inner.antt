@@ -1,0 +1,5 @@
+pub mod Conditioned
+pub mod Found
+pub mod Opened
+pub mod Rows
+pub mod Said
