@@ -1,0 +1,2 @@
+mod HalfLemmas
+mod SharerLemmas
