@@ -1,0 +1,4 @@
+pub mod Marks
+pub mod Plots
+pub mod Updates
+pub mod Selections
