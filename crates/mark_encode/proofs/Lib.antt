@@ -1,4 +1,5 @@
 mod ItemLemmas
+mod FixedLemmas
 mod RowLemmas
 mod PathLemmas
 mod ShapeLemmas

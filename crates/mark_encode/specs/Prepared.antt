@@ -5,7 +5,7 @@ use Rattle.expr_eval.specs.Values.{Values}
 use Rattle.scene_tree.specs.declared.scene.Item.{Item}
 use Rattle.mark_encode.specs.declared.items.MarkChannels.{MarkChannels}
 use Rattle.mark_encode.specs.Items.{item_by}
-use Rattle.mark_encode.specs.inner.Scaled.{look_values}
+use Rattle.mark_encode.specs.inner.Kinds.{look_values}
 use Rattle.mark_encode.specs.inner.Shapes.{shape_by}
 
 -- the item of a row, by the prepared channels of its mark

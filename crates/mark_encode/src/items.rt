@@ -13,7 +13,7 @@ ghost use Rattle.mark_encode.specs.Looks.{looks_of};
 ghost use Rattle.mark_encode.specs.Items.{shape_for, picked_key, items_with, item_for, items_for, is_path, items_over, items_in_order, items_of};
 ghost use Rattle.mark_encode.specs.Orders.{data_of, HaveIds};
 ghost use Rattle.mark_encode.specs.Prepared.{item_of_row};
-ghost use Rattle.mark_encode.specs.inner.Scaled.{look_values};
+ghost use Rattle.mark_encode.specs.inner.Kinds.{look_values};
 ghost use Rattle.mark_encode.specs.inner.Shapes.{shape_by};
 
 use crate::looks::{LookChannels, default_stroke_width, look_for, looks_of, painted_on};

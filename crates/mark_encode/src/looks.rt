@@ -5,26 +5,27 @@ ghost use Rattle.cell_value.specs.State.{greatest_id};
 ghost use Rattle.expr_eval.specs.Answers.{Evaluates};
 ghost use Rattle.mark_encode.specs.Channels.{channel_values};
 ghost use Rattle.mark_encode.specs.Looks.{default_stroke_width, look_for, looks_of, painted_on};
-ghost use Rattle.mark_encode.specs.inner.Scaled.{look_values};
+ghost use Rattle.mark_encode.specs.inner.Kinds.{look_values};
 
-use crate::channels::{ChannelName, Scaled, channel_values};
+use crate::channels::ChannelName;
 use crate::colors::paint_shown;
 use crate::numbers::number_shown;
+use crate::prepared::{Colors, Numbers, colors_of, numbers_of};
 use crate::scales::IndexedSet;
 use cell_value::{Keyed, TextPool};
 use expr_eval::{EvalError, ParamReader};
 use mark_shapes::{Look, look_of, without_stroke};
 use std::alloc::Global;
-use text_kit::{OutOfMemory, Seq};
+use text_kit::OutOfMemory;
 use vega_spec::{Encode, MarkType};
 
 /// The values in the channels that say how items are painted.
 #[derive(Drop)]
 pub struct LookChannels<'a> {
-    pub fill: Seq<Scaled<'a>>,
-    pub stroke: Seq<Scaled<'a>>,
-    pub stroke_width: Seq<Scaled<'a>>,
-    pub opacity: Seq<Scaled<'a>>,
+    pub fill: Colors<'a>,
+    pub stroke: Colors<'a>,
+    pub stroke_width: Numbers<'a>,
+    pub opacity: Numbers<'a>,
 }
 
 /// The values in the channels that say how items are painted.
@@ -36,10 +37,10 @@ pub fn looks_of<'a>(
     ensures { IfOk result (λ looks. look_values looks ≡ looks_of (channel_values set.now sets.now)) }
 {
     Ok(LookChannels {
-        fill: channel_values(alloc, set, sets, ChannelName::Fill)?,
-        stroke: channel_values(alloc, set, sets, ChannelName::Stroke)?,
-        stroke_width: channel_values(alloc, set, sets, ChannelName::StrokeWidth)?,
-        opacity: channel_values(alloc, set, sets, ChannelName::Opacity)?,
+        fill: colors_of(alloc, set, sets, ChannelName::Fill)?,
+        stroke: colors_of(alloc, set, sets, ChannelName::Stroke)?,
+        stroke_width: numbers_of(alloc, set, sets, ChannelName::StrokeWidth)?,
+        opacity: numbers_of(alloc, set, sets, ChannelName::Opacity)?,
     })
 }
 
@@ -70,10 +71,10 @@ pub fn look_for<P: ParamReader>(
     requires { row.now.key.id ≤ greatest_id }
     ensures { Evaluates result (look_for default (cell_at row.now) (P.values params.now) (look_values channels.now)) }
 {
-    let fill = paint_shown(alloc, pool, channels.fill.as_slice(), row, params)?;
-    let stroke = paint_shown(alloc, pool, channels.stroke.as_slice(), row, params)?;
-    let stroke_width = number_shown(alloc, false, channels.stroke_width.as_slice(), row, params)?;
-    let opacity = number_shown(alloc, false, channels.opacity.as_slice(), row, params)?;
+    let fill = paint_shown(alloc, pool, &channels.fill, row, params)?;
+    let stroke = paint_shown(alloc, pool, &channels.stroke, row, params)?;
+    let stroke_width = number_shown(alloc, &channels.stroke_width, row, params)?;
+    let opacity = number_shown(alloc, &channels.opacity, row, params)?;
     Ok(look_of(default, fill, stroke, stroke_width, opacity))
 }
 

@@ -1,5 +1,5 @@
 // The numbers that channels show.
-ghost use Rattle.std.specs.Prelude.{◌≡◌, option_copied, ◌≤◌};
+ghost use Rattle.std.specs.Prelude.{◌≡◌, option_copied, ◌≤◌, true, false};
 ghost use Rattle.fixed_num.specs.Ranges.{in_range};
 ghost use Rattle.cell_value.specs.Datum.{cell_at};
 ghost use Rattle.cell_value.specs.State.{greatest_id};
@@ -8,13 +8,16 @@ ghost use Rattle.scale_kit.specs.Scale.{IsScale};
 ghost use Rattle.mark_encode.specs.Values.{is_null, is_written_null, share_of_band, share_given, number_on, base_for, base_meant};
 ghost use Rattle.mark_encode.specs.Values.{number_from_base, number_of_cell, number_at, moved, number_by, number_for, number_shown};
 ghost use Rattle.mark_encode.specs.inner.Scaled.{scaled_of, scaled_all};
+ghost use Rattle.mark_encode.specs.inner.Fixed.{sized_by};
 
 use crate::channels::Scaled;
+use crate::prepared::{FarNumbers, Numbers, Sizes};
+use crate::sizes::{SymbolSize, sized_of};
 use crate::values::{cell_over, first_met_over};
 use cell_value::{Cell, Keyed};
 use expr_eval::{EvalError, ParamReader, PlainRow, RowReader};
 use fixed_num::Num;
-use mark_shapes::{Shown, shown_number, sum_of, times, zero};
+use mark_shapes::{Shown, shown_number, side_shown, sum_of, times, zero};
 use scale_kit::{Indexed, Scale, band_width, base_of};
 use std::alloc::Global;
 use vega_spec::ChannelValue;
@@ -208,8 +211,8 @@ pub fn number_over<R: RowReader, P: ParamReader>(
     Ok(shown_number(number_for(alloc, far, scaled, row, params)?))
 }
 
-/// The number that a channel shows of a row.
-pub fn number_shown<P: ParamReader>(
+/// The number that values show of a row; of the channels of far ends `far` is true.
+pub fn number_of_row<P: ParamReader>(
     alloc: Global,
     far: bool,
     values: &[Scaled],
@@ -220,4 +223,80 @@ pub fn number_shown<P: ParamReader>(
     ensures { Evaluates result (number_shown far (cell_at row.now) (P.values params.now) (scaled_all values.now)) }
 {
     number_over(alloc, far, values, &PlainRow::of(row), params)
+}
+
+// A number that is shown, once more.
+fn once_more(shown: &Shown<Num>) -> Shown<Num>
+    ensures { result ≡ shown.now }
+{
+    match shown {
+        Shown::Absent => Shown::Absent,
+        Shown::Lacking => Shown::Lacking,
+        Shown::Given(number) => Shown::Given(*number),
+    }
+}
+
+/// The number that a channel shows of a row.
+pub fn number_shown<P: ParamReader>(
+    alloc: Global,
+    numbers: &Numbers,
+    row: &Keyed,
+    params: &P,
+) -> Result<Shown<Num>, EvalError>
+    requires { row.now.key.id ≤ greatest_id }
+    ensures { Evaluates result (number_shown false (cell_at row.now) (P.values params.now) (scaled_all numbers.now.values)) }
+{
+    match &numbers.same {
+        Some(shown) => Ok(once_more(shown)),
+        None => number_of_row(alloc, false, numbers.values.as_slice(), row, params),
+    }
+}
+
+/// The number that a channel of a far end shows of a row.
+pub fn far_shown<P: ParamReader>(
+    alloc: Global,
+    numbers: &FarNumbers,
+    row: &Keyed,
+    params: &P,
+) -> Result<Shown<Num>, EvalError>
+    requires { row.now.key.id ≤ greatest_id }
+    ensures { Evaluates result (number_shown true (cell_at row.now) (P.values params.now) (scaled_all numbers.now.values)) }
+{
+    match &numbers.same {
+        Some(shown) => Ok(once_more(shown)),
+        None => number_of_row(alloc, true, numbers.values.as_slice(), row, params),
+    }
+}
+
+// How large a symbol is by the size that values show of a row.
+fn size_over<P: ParamReader>(
+    alloc: Global,
+    values: &[Scaled],
+    row: &Keyed,
+    params: &P,
+) -> Result<Option<SymbolSize>, EvalError>
+    requires { row.now.key.id ≤ greatest_id }
+    ensures { Evaluates result (sized_by (number_shown false (cell_at row.now) (P.values params.now) (scaled_all values.now))) }
+{
+    let size = number_of_row(alloc, false, values, row, params)?;
+    match sized_of(side_shown(size)) {
+        Some(size) => Ok(size),
+        None => Err(EvalError::Overflow),
+    }
+}
+
+/// How large a symbol is by the size that a channel shows of a row; None where it has no size.
+pub fn size_for<P: ParamReader>(
+    alloc: Global,
+    sizes: &Sizes,
+    row: &Keyed,
+    params: &P,
+) -> Result<Option<SymbolSize>, EvalError>
+    requires { row.now.key.id ≤ greatest_id }
+    ensures { Evaluates result (sized_by (number_shown false (cell_at row.now) (P.values params.now) (scaled_all sizes.now.values))) }
+{
+    match sizes.same {
+        Some(size) => Ok(size),
+        None => size_over(alloc, sizes.values.as_slice(), row, params),
+    }
 }

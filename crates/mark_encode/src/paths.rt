@@ -9,13 +9,14 @@ ghost use Rattle.mark_encode.specs.Orders.{data_of, HaveIds};
 ghost use Rattle.mark_encode.specs.Paths.{pass_for, stop_for, stops_for, path_look_for, path_of, path_over, is_closed, far_values, passes_of};
 ghost use Rattle.mark_encode.specs.Paths.{path_values_of, path_items_of};
 ghost use Rattle.mark_encode.specs.inner.Scaled.{scaled_all};
-ghost use Rattle.mark_encode.specs.inner.Scaled.{look_values};
+ghost use Rattle.mark_encode.specs.inner.Kinds.{look_values};
 ghost use Rattle.mark_encode.specs.inner.PathParts.{pass_values, path_values};
 
-use crate::channels::{ChannelName, Scaled, channel_values};
+use crate::channels::ChannelName;
 use crate::colors::paint_shown;
 use crate::looks::{LookChannels, default_stroke_width, looks_of};
-use crate::numbers::number_shown;
+use crate::numbers::{far_shown, number_shown};
+use crate::prepared::{FarNumbers, Numbers, far_numbers_of, no_far_numbers, numbers_of};
 use crate::scales::IndexedSet;
 use cell_value::{Keyed, TextPool};
 use expr_eval::{EvalError, ParamReader};
@@ -28,9 +29,9 @@ use vega_spec::{Encode, MarkType};
 /// The values in the channels that say where a path passes along one direction.
 #[derive(Drop)]
 pub struct PassChannels<'a> {
-    pub near: Seq<Scaled<'a>>,
-    pub middle: Seq<Scaled<'a>>,
-    pub far: Seq<Scaled<'a>>,
+    pub near: Numbers<'a>,
+    pub middle: Numbers<'a>,
+    pub far: FarNumbers<'a>,
 }
 
 /// The values in the channels of a path.
@@ -65,13 +66,13 @@ fn far_values<'a>(
     set: &'a IndexedSet<'a>,
     sets: &'a Option<Encode>,
     far: ChannelName,
-) -> Result<Seq<Scaled<'a>>, OutOfMemory>
-    ensures { IfOk result (λ values. scaled_all values ≡ far_values closed (channel_values set.now sets.now) far) }
+) -> Result<FarNumbers<'a>, OutOfMemory>
+    ensures { IfOk result (λ far_end. scaled_all far_end.values ≡ far_values closed (channel_values set.now sets.now) far) }
 {
     if closed {
-        channel_values(alloc, set, sets, far)
+        far_numbers_of(alloc, set, sets, far)
     } else {
-        Ok(Seq::new(alloc))
+        Ok(no_far_numbers(alloc))
     }
 }
 
@@ -88,8 +89,8 @@ fn passes_of<'a>(
     ensures { IfOk result (λ along. pass_values along ≡ passes_of closed (channel_values set.now sets.now) near middle far) }
 {
     Ok(PassChannels {
-        near: channel_values(alloc, set, sets, near)?,
-        middle: channel_values(alloc, set, sets, middle)?,
+        near: numbers_of(alloc, set, sets, near)?,
+        middle: numbers_of(alloc, set, sets, middle)?,
         far: far_values(alloc, closed, set, sets, far)?,
     })
 }
@@ -122,9 +123,9 @@ fn pass_for<P: ParamReader>(
     requires { row.now.key.id ≤ greatest_id }
     ensures { Evaluates result (pass_for (pass_values along.now) (P.values params.now) (cell_at row.now)) }
 {
-    let near = number_shown(alloc, false, along.near.as_slice(), row, params)?;
-    let middle = number_shown(alloc, false, along.middle.as_slice(), row, params)?;
-    let far = number_shown(alloc, true, along.far.as_slice(), row, params)?;
+    let near = number_shown(alloc, &along.near, row, params)?;
+    let middle = number_shown(alloc, &along.middle, row, params)?;
+    let far = far_shown(alloc, &along.far, row, params)?;
     Ok(pass_of(near, middle, far))
 }
 
@@ -175,10 +176,10 @@ fn path_look_for<P: ParamReader>(
     requires { row.now.key.id ≤ greatest_id }
     ensures { Evaluates result (path_look_for default (look_values channels.now) (P.values params.now) (cell_at row.now)) }
 {
-    let fill = paint_shown(alloc, pool, channels.fill.as_slice(), row, params)?;
-    let stroke = paint_shown(alloc, pool, channels.stroke.as_slice(), row, params)?;
-    let stroke_width = number_shown(alloc, false, channels.stroke_width.as_slice(), row, params)?;
-    let opacity = number_shown(alloc, false, channels.opacity.as_slice(), row, params)?;
+    let fill = paint_shown(alloc, pool, &channels.fill, row, params)?;
+    let stroke = paint_shown(alloc, pool, &channels.stroke, row, params)?;
+    let stroke_width = number_shown(alloc, &channels.stroke_width, row, params)?;
+    let opacity = number_shown(alloc, &channels.opacity, row, params)?;
     Ok(path_look(default, fill, stroke, stroke_width, opacity))
 }
 

@@ -5,24 +5,25 @@ ghost use Rattle.cell_value.specs.State.{greatest_id};
 ghost use Rattle.expr_eval.specs.Answers.{Evaluates};
 ghost use Rattle.mark_encode.specs.Channels.{channel_values};
 ghost use Rattle.mark_encode.specs.Places.{places_named, place_for};
-ghost use Rattle.mark_encode.specs.inner.Scaled.{place_values};
+ghost use Rattle.mark_encode.specs.inner.Kinds.{place_values};
 
-use crate::channels::{ChannelName, Scaled, channel_values};
+use crate::channels::ChannelName;
 use crate::numbers::number_shown;
+use crate::prepared::{Numbers, numbers_of};
 use crate::scales::IndexedSet;
 use cell_value::Keyed;
 use expr_eval::{EvalError, ParamReader};
 use fixed_num::Num;
 use mark_shapes::place_of;
 use std::alloc::Global;
-use text_kit::{OutOfMemory, Seq};
+use text_kit::OutOfMemory;
 use vega_spec::Encode;
 
 /// The values in the channels of one direction of a mark that has one place.
 #[derive(Drop)]
 pub struct PlaceChannels<'a> {
-    pub near: Seq<Scaled<'a>>,
-    pub middle: Seq<Scaled<'a>>,
+    pub near: Numbers<'a>,
+    pub middle: Numbers<'a>,
 }
 
 /// The values in the channels of these names.
@@ -36,8 +37,8 @@ pub fn places_named<'a>(
     ensures { IfOk result (λ place. place_values place ≡ places_named (channel_values set.now sets.now) near middle) }
 {
     Ok(PlaceChannels {
-        near: channel_values(alloc, set, sets, near)?,
-        middle: channel_values(alloc, set, sets, middle)?,
+        near: numbers_of(alloc, set, sets, near)?,
+        middle: numbers_of(alloc, set, sets, middle)?,
     })
 }
 
@@ -51,7 +52,7 @@ pub fn place_for<P: ParamReader>(
     requires { row.now.key.id ≤ greatest_id }
     ensures { Evaluates result (place_for (cell_at row.now) (P.values params.now) (place_values place.now)) }
 {
-    let near = number_shown(alloc, false, place.near.as_slice(), row, params)?;
-    let middle = number_shown(alloc, false, place.middle.as_slice(), row, params)?;
+    let near = number_shown(alloc, &place.near, row, params)?;
+    let middle = number_shown(alloc, &place.middle, row, params)?;
     Ok(place_of(near, middle))
 }

@@ -5,9 +5,10 @@ ghost use Rattle.cell_value.specs.State.{greatest_id};
 ghost use Rattle.expr_eval.specs.Answers.{Evaluates};
 ghost use Rattle.mark_encode.specs.Channels.{channel_values};
 ghost use Rattle.mark_encode.specs.Rects.{along_named, across_of, down_of, rect_for};
-ghost use Rattle.mark_encode.specs.inner.Scaled.{along_values};
+ghost use Rattle.mark_encode.specs.inner.Kinds.{along_values};
 
-use crate::channels::{ChannelName, channel_values};
+use crate::channels::ChannelName;
+use crate::prepared::{far_numbers_of, numbers_of};
 use crate::scales::IndexedSet;
 use crate::spans::{Along, span_for};
 use cell_value::Keyed;
@@ -38,10 +39,10 @@ fn along_named<'a>(
     ensures { IfOk result (λ along. along_values along ≡ along_named (channel_values set.now sets.now) near far middle size) }
 {
     Ok(Along {
-        near: channel_values(alloc, set, sets, near)?,
-        far: channel_values(alloc, set, sets, far)?,
-        middle: channel_values(alloc, set, sets, middle)?,
-        size: channel_values(alloc, set, sets, size)?,
+        near: numbers_of(alloc, set, sets, near)?,
+        far: far_numbers_of(alloc, set, sets, far)?,
+        middle: numbers_of(alloc, set, sets, middle)?,
+        size: numbers_of(alloc, set, sets, size)?,
     })
 }
 

@@ -5,10 +5,11 @@ ghost use Rattle.cell_value.specs.State.{greatest_id};
 ghost use Rattle.expr_eval.specs.Answers.{Evaluates};
 ghost use Rattle.mark_encode.specs.Channels.{channel_values};
 ghost use Rattle.mark_encode.specs.Rules.{ends_named, ends_for, rule_values_of, rule_for};
-ghost use Rattle.mark_encode.specs.inner.Scaled.{end_values, rule_values};
+ghost use Rattle.mark_encode.specs.inner.Kinds.{end_values, rule_values};
 
-use crate::channels::{ChannelName, Scaled, channel_values};
-use crate::numbers::number_shown;
+use crate::channels::ChannelName;
+use crate::numbers::{far_shown, number_shown};
+use crate::prepared::{FarNumbers, Numbers, far_numbers_of, numbers_of};
 use crate::scales::IndexedSet;
 use cell_value::Keyed;
 use expr_eval::{EvalError, ParamReader};
@@ -16,14 +17,14 @@ use fixed_num::Num;
 use mark_shapes::{Ends, ends_of, line_between};
 use scene_tree::Shape;
 use std::alloc::Global;
-use text_kit::{OutOfMemory, Seq};
+use text_kit::OutOfMemory;
 use vega_spec::Encode;
 
 /// The values in the channels of one direction of a rule, and how long its plot is.
 #[derive(Drop)]
 pub struct EndChannels<'a> {
-    pub near: Seq<Scaled<'a>>,
-    pub far: Seq<Scaled<'a>>,
+    pub near: Numbers<'a>,
+    pub far: FarNumbers<'a>,
     pub whole: Num,
 }
 
@@ -46,8 +47,8 @@ fn ends_named<'a>(
     ensures { IfOk result (λ ends. end_values ends ≡ ends_named (channel_values set.now sets.now) near far whole) }
 {
     Ok(EndChannels {
-        near: channel_values(alloc, set, sets, near)?,
-        far: channel_values(alloc, set, sets, far)?,
+        near: numbers_of(alloc, set, sets, near)?,
+        far: far_numbers_of(alloc, set, sets, far)?,
         whole,
     })
 }
@@ -78,8 +79,8 @@ fn ends_for<P: ParamReader>(
     requires { row.now.key.id ≤ greatest_id }
     ensures { Evaluates result (ends_for (cell_at row.now) (P.values params.now) (end_values ends.now)) }
 {
-    let near = number_shown(alloc, false, ends.near.as_slice(), row, params)?;
-    let far = number_shown(alloc, true, ends.far.as_slice(), row, params)?;
+    let near = number_shown(alloc, &ends.near, row, params)?;
+    let far = far_shown(alloc, &ends.far, row, params)?;
     Ok(ends_of(ends.whole, near, far))
 }
 

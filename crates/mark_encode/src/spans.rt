@@ -4,23 +4,22 @@ ghost use Rattle.cell_value.specs.Datum.{cell_at};
 ghost use Rattle.cell_value.specs.State.{greatest_id};
 ghost use Rattle.expr_eval.specs.Answers.{Evaluates};
 ghost use Rattle.mark_encode.specs.Spans.{span_for};
-ghost use Rattle.mark_encode.specs.inner.Scaled.{along_values};
+ghost use Rattle.mark_encode.specs.inner.Kinds.{along_values};
 
-use crate::channels::Scaled;
-use crate::numbers::number_shown;
+use crate::numbers::{far_shown, number_shown};
+use crate::prepared::{FarNumbers, Numbers};
 use cell_value::Keyed;
 use expr_eval::{EvalError, ParamReader};
 use mark_shapes::{Span, span_of};
 use std::alloc::Global;
-use text_kit::Seq;
 
 /// The values in the channels of one direction.
 #[derive(Drop)]
 pub struct Along<'a> {
-    pub near: Seq<Scaled<'a>>,
-    pub far: Seq<Scaled<'a>>,
-    pub middle: Seq<Scaled<'a>>,
-    pub size: Seq<Scaled<'a>>,
+    pub near: Numbers<'a>,
+    pub far: FarNumbers<'a>,
+    pub middle: Numbers<'a>,
+    pub size: Numbers<'a>,
 }
 
 /// Where a mark stands along one direction for a row; None where it lacks a place.
@@ -33,10 +32,10 @@ pub fn span_for<P: ParamReader>(
     requires { row.now.key.id ≤ greatest_id }
     ensures { Evaluates result (span_for (cell_at row.now) (P.values params.now) (along_values along.now)) }
 {
-    let near = number_shown(alloc, false, along.near.as_slice(), row, params)?;
-    let far = number_shown(alloc, true, along.far.as_slice(), row, params)?;
-    let middle = number_shown(alloc, false, along.middle.as_slice(), row, params)?;
-    let size = number_shown(alloc, false, along.size.as_slice(), row, params)?;
+    let near = number_shown(alloc, &along.near, row, params)?;
+    let far = far_shown(alloc, &along.far, row, params)?;
+    let middle = number_shown(alloc, &along.middle, row, params)?;
+    let size = number_shown(alloc, &along.size, row, params)?;
     match span_of(near, far, middle, size) {
         Some(span) => Ok(span),
         None => Err(EvalError::Overflow),

@@ -1,25 +1,30 @@
 // Symbols.
-ghost use Rattle.std.specs.Prelude.{◌≡◌, ◌≤◌, IfOk};
+ghost use Rattle.std.specs.Prelude.{◌≡◌, ◌≤◌, false, IfOk};
+ghost use Rattle.std.specs.Option.{option_map};
 ghost use Rattle.cell_value.specs.Datum.{cell_at};
 ghost use Rattle.cell_value.specs.State.{greatest_id};
 ghost use Rattle.expr_eval.specs.Answers.{Evaluates};
-ghost use Rattle.mark_shapes.specs.Symbols.{symbol_with};
+ghost use Rattle.mark_shapes.specs.Symbols.{symbol_of};
 ghost use Rattle.mark_encode.specs.Channels.{channel_values};
+ghost use Rattle.mark_encode.specs.Values.{number_shown, color_shown};
+ghost use Rattle.mark_encode.specs.Places.{place_for};
 ghost use Rattle.mark_encode.specs.Symbols.{symbol_values_of, symbol_for};
-ghost use Rattle.mark_encode.specs.inner.Scaled.{symbol_values};
+ghost use Rattle.mark_encode.specs.inner.Scaled.{scaled_all};
+ghost use Rattle.mark_encode.specs.inner.Fixed.{sized_by, symbol_when};
+ghost use Rattle.mark_encode.specs.inner.Kinds.{place_values, symbol_values};
 
-use crate::channels::{ChannelName, Scaled, channel_values};
-use crate::colors::color_shown;
-use crate::numbers::number_shown;
-use crate::places::{PlaceChannels, place_for, places_named};
+use crate::channels::ChannelName;
+use crate::colors::form_for;
+use crate::numbers::size_for;
+use crate::places::{PlaceChannels, places_named};
+use crate::prepared::{Forms, Sizes, forms_of, sizes_of};
 use crate::scales::IndexedSet;
+use crate::sizes::symbol_sized;
 use cell_value::Keyed;
 use expr_eval::{EvalError, ParamReader};
-use fixed_num::Num;
-use mark_shapes::{Symbol, side_shown, symbol_of};
 use scene_tree::Shape;
 use std::alloc::Global;
-use text_kit::{OutOfMemory, Seq};
+use text_kit::OutOfMemory;
 use vega_spec::Encode;
 
 /// The values in the channels of a symbol.
@@ -27,8 +32,8 @@ use vega_spec::Encode;
 pub struct SymbolChannels<'a> {
     pub across: PlaceChannels<'a>,
     pub down: PlaceChannels<'a>,
-    pub size: Seq<Scaled<'a>>,
-    pub shape: Seq<Scaled<'a>>,
+    pub size: Sizes<'a>,
+    pub shape: Forms<'a>,
 }
 
 /// The values in the channels of a symbol.
@@ -42,25 +47,30 @@ pub fn symbol_channels<'a>(
     Ok(SymbolChannels {
         across: places_named(alloc, set, sets, ChannelName::X, ChannelName::Xc)?,
         down: places_named(alloc, set, sets, ChannelName::Y, ChannelName::Yc)?,
-        size: channel_values(alloc, set, sets, ChannelName::Size)?,
-        shape: channel_values(alloc, set, sets, ChannelName::Shape)?,
+        size: sizes_of(alloc, set, sets, ChannelName::Size)?,
+        shape: forms_of(alloc, set, sets, ChannelName::Shape)?,
     })
 }
 
-// A symbol about a place by the root of its size, if there is one; `Overflow` exactly where a number is out of range.
-fn symbol_at(
+// The symbol of a row, by its place, its size and its form.
+fn symbol_when<P: ParamReader>(
     alloc: Global,
-    form: Symbol,
-    side: Option<Num>,
-    x: Option<Num>,
-    y: Option<Num>,
+    symbol: &SymbolChannels,
+    row: &Keyed,
+    params: &P,
 ) -> Result<Option<Shape>, EvalError>
-    ensures { Evaluates result (symbol_with form side x y) }
+    requires { row.now.key.id ≤ greatest_id }
+    ensures { Evaluates result (symbol_when
+        (place_for (cell_at row.now) (P.values params.now) (place_values symbol.now.across))
+        (place_for (cell_at row.now) (P.values params.now) (place_values symbol.now.down))
+        (sized_by (number_shown false (cell_at row.now) (P.values params.now) (scaled_all symbol.now.size.values)))
+        (option_map symbol_of (color_shown (cell_at row.now) (P.values params.now) (scaled_all symbol.now.shape.values)))) }
 {
-    match mark_shapes::symbol_with(alloc, form, side, x, y)? {
-        Some(shape) => Ok(shape),
-        None => Err(EvalError::Overflow),
-    }
+    let x = crate::places::place_for(alloc, &symbol.across, row, params)?;
+    let y = crate::places::place_for(alloc, &symbol.down, row, params)?;
+    let size = size_for(alloc, &symbol.size, row, params)?;
+    let form = form_for(alloc, &symbol.shape, row, params)?;
+    symbol_sized(alloc, form, size, x, y)
 }
 
 /// The symbol of a row; None where it lacks a place or a size, or its size is negative.
@@ -73,9 +83,5 @@ pub fn symbol_for<P: ParamReader>(
     requires { row.now.key.id ≤ greatest_id }
     ensures { Evaluates result (symbol_for (symbol_values symbol.now) (cell_at row.now) (P.values params.now)) }
 {
-    let x = place_for(alloc, &symbol.across, row, params)?;
-    let y = place_for(alloc, &symbol.down, row, params)?;
-    let size = number_shown(alloc, false, symbol.size.as_slice(), row, params)?;
-    let form = color_shown(alloc, symbol.shape.as_slice(), row, params)?;
-    symbol_at(alloc, symbol_of(form), side_shown(size), x, y)
+    symbol_when(alloc, symbol, row, params)
 }

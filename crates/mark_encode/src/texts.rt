@@ -7,12 +7,14 @@ ghost use Rattle.mark_shapes.specs.Texts.{text_by};
 ghost use Rattle.mark_encode.specs.Channels.{channel_values};
 ghost use Rattle.mark_encode.specs.Texts.{text_cell, cell_on, cell_by, words_for, words_shown};
 ghost use Rattle.mark_encode.specs.Texts.{style_values_of, text_values_of, style_for, text_for};
-ghost use Rattle.mark_encode.specs.inner.Scaled.{scaled_of, scaled_all, style_values, text_values};
+ghost use Rattle.mark_encode.specs.inner.Scaled.{scaled_of, scaled_all};
+ghost use Rattle.mark_encode.specs.inner.Kinds.{style_values, text_values};
 
 use crate::channels::{ChannelName, Scaled, channel_values};
 use crate::colors::{color_on, color_shown};
-use crate::numbers::{number_by, number_shown};
+use crate::numbers::{number_by, number_of_row, number_shown};
 use crate::places::{PlaceChannels, place_for, places_named};
+use crate::prepared::{Numbers, Styles, numbers_of, styles_with};
 use crate::scales::IndexedSet;
 use crate::values::{cell_for, first_met};
 use cell_value::{Cell, Keyed};
@@ -25,22 +27,14 @@ use std::alloc::Global;
 use text_kit::{OutOfMemory, Seq, Text};
 use vega_spec::Encode;
 
-/// The values in the channels that say how a text is set.
-#[derive(Drop)]
-pub struct StyleChannels<'a> {
-    pub size: Seq<Scaled<'a>>,
-    pub align: Seq<Scaled<'a>>,
-    pub baseline: Seq<Scaled<'a>>,
-}
-
 /// The values in the channels of a text.
 #[derive(Drop)]
 pub struct TextChannels<'a> {
     pub across: PlaceChannels<'a>,
     pub down: PlaceChannels<'a>,
-    pub dx: Seq<Scaled<'a>>,
-    pub dy: Seq<Scaled<'a>>,
-    pub style: StyleChannels<'a>,
+    pub dx: Numbers<'a>,
+    pub dy: Numbers<'a>,
+    pub style: Styles<'a>,
     pub words: Seq<Scaled<'a>>,
 }
 
@@ -49,14 +43,14 @@ fn style_channels<'a>(
     alloc: Global,
     set: &'a IndexedSet<'a>,
     sets: &'a Option<Encode>,
-) -> Result<StyleChannels<'a>, OutOfMemory>
+) -> Result<Styles<'a>, OutOfMemory>
     ensures { IfOk result (λ style. style_values style ≡ style_values_of (channel_values set.now sets.now)) }
 {
-    Ok(StyleChannels {
-        size: channel_values(alloc, set, sets, ChannelName::FontSize)?,
-        align: channel_values(alloc, set, sets, ChannelName::Align)?,
-        baseline: channel_values(alloc, set, sets, ChannelName::Baseline)?,
-    })
+    let size = channel_values(alloc, set, sets, ChannelName::FontSize)?;
+    let align = channel_values(alloc, set, sets, ChannelName::Align)?;
+    let baseline = channel_values(alloc, set, sets, ChannelName::Baseline)?;
+    let style = styles_with(alloc, size, align, baseline)?;
+    Ok(style)
 }
 
 /// The values in the channels of a text.
@@ -70,8 +64,8 @@ pub fn text_channels<'a>(
     Ok(TextChannels {
         across: places_named(alloc, set, sets, ChannelName::X, ChannelName::Xc)?,
         down: places_named(alloc, set, sets, ChannelName::Y, ChannelName::Yc)?,
-        dx: channel_values(alloc, set, sets, ChannelName::Dx)?,
-        dy: channel_values(alloc, set, sets, ChannelName::Dy)?,
+        dx: numbers_of(alloc, set, sets, ChannelName::Dx)?,
+        dy: numbers_of(alloc, set, sets, ChannelName::Dy)?,
         style: style_channels(alloc, set, sets)?,
         words: channel_values(alloc, set, sets, ChannelName::Text)?,
     })
@@ -141,20 +135,36 @@ fn words_shown<P: ParamReader>(
     Ok(shown_color(words_for(alloc, scaled, row, params)?))
 }
 
-// How the text of a row is set.
-fn style_for<P: ParamReader>(
+// How the text of a row is set by values.
+fn style_over<P: ParamReader>(
     alloc: Global,
-    style: &StyleChannels,
+    style: &Styles,
     row: &Keyed,
     params: &P,
 ) -> Result<TextStyle, EvalError>
     requires { row.now.key.id ≤ greatest_id }
     ensures { Evaluates result (style_for (style_values style.now) (cell_at row.now) (P.values params.now)) }
 {
-    let size = number_shown(alloc, false, style.size.as_slice(), row, params)?;
+    let size = number_of_row(alloc, false, style.size.as_slice(), row, params)?;
     let align = color_shown(alloc, style.align.as_slice(), row, params)?;
     let baseline = color_shown(alloc, style.baseline.as_slice(), row, params)?;
     Ok(style_of(size, align, baseline))
+}
+
+// How the text of a row is set.
+fn style_for<P: ParamReader>(
+    alloc: Global,
+    style: &Styles,
+    row: &Keyed,
+    params: &P,
+) -> Result<TextStyle, EvalError>
+    requires { row.now.key.id ≤ greatest_id }
+    ensures { Evaluates result (style_for (style_values style.now) (cell_at row.now) (P.values params.now)) }
+{
+    match style.same {
+        Some(found) => Ok(found),
+        None => style_over(alloc, style, row, params),
+    }
 }
 
 // A text at a place by what its channels show; `Overflow` exactly where it is out of range.
@@ -187,8 +197,8 @@ pub fn text_for<P: ParamReader>(
 {
     let x = place_for(alloc, &text.across, row, params)?;
     let y = place_for(alloc, &text.down, row, params)?;
-    let dx = number_shown(alloc, false, text.dx.as_slice(), row, params)?;
-    let dy = number_shown(alloc, false, text.dy.as_slice(), row, params)?;
+    let dx = number_shown(alloc, &text.dx, row, params)?;
+    let dy = number_shown(alloc, &text.dy, row, params)?;
     let style = style_for(alloc, &text.style, row, params)?;
     let words = words_shown(alloc, text.words.as_slice(), row, params)?;
     text_at(alloc, style, x, y, dx, dy, words)

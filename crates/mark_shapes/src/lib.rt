@@ -25,5 +25,5 @@ pub use rules::{Ends, ends_of, line_between};
 pub use runs::{Pass, Stop, points_of};
 pub use shown::{Shown, or_default, shown_color, shown_number, shown_shared};
 pub use spans::{Span, span_of};
-pub use symbols::{Symbol, radius_of, side_shown, symbol_about, symbol_of, symbol_with};
+pub use symbols::{Symbol, radius_of, side_shown, symbol_about, symbol_of};
 pub use texts::{TextStyle, style_of, text_by, words_of_cell};

@@ -4,7 +4,6 @@ ghost use Rattle.std.specs.Str.{bytes_eq};
 ghost use Rattle.fixed_num.specs.Ranges.{in_range};
 ghost use Rattle.mark_shapes.specs.Symbols.{symbol_named, symbol_of, side_of, side_shown, rise_of, reach_at, reach_of, radius_of, place_before, circle_at, square_at};
 ghost use Rattle.mark_shapes.specs.Symbols.{symbol_path, diamond_over, triangle_over, square_about, diamond_about, triangle_about, symbol_about};
-ghost use Rattle.mark_shapes.specs.Symbols.{symbol_with};
 
 use crate::numbers::{difference, half, pixels, sum_of, times};
 use crate::shown::{Shown, or_default};
@@ -281,24 +280,4 @@ pub fn symbol_about(
         Symbol::TriangleUp => triangle_about(alloc, r, x, y),
         Symbol::Diamond => diamond_about(alloc, r, x, y),
     }
-}
-
-/// A symbol about a place, in pixels, by the root of its size: an inner None where it lacks a place or a size, an outer one exactly where a
-/// number is out of range.
-pub fn symbol_with(
-    alloc: Global,
-    form: Symbol,
-    side: Option<Num>,
-    x: Option<Num>,
-    y: Option<Num>,
-) -> Result<Option<Option<Shape>>, OutOfMemory>
-    ensures { IfOk result (λ shape. shape ≡ symbol_with form side x y) }
-{
-    let Some(side) = side else {
-        return Ok(Some(None));
-    };
-    let Some(r) = radius_of(side) else {
-        return Ok(None);
-    };
-    symbol_about(alloc, form, side, r, x, y)
 }

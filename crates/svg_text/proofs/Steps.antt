@@ -320,25 +320,25 @@ pub attributes_joined : (s n1 e v1 q n2 v2 : List ℕ)
     → s ++ (n1 ++ (e ++ (v1 ++ (q ++ (s ++ (n2 ++ (e ++ (v2 ++ (q ++ []))))))))) ≡ (s ++ n1 ++ e ++ v1 ++ q) ++ (s ++ n2 ++ e ++ v2 ++ q)
 attributes_joined s n1 e v1 q n2 v2 = simp (append_assoc, append-nil)
 
--- two, three and four attributes with numbers after the name of an element
+-- two, three and four attributes with numbers after the name of an element, printed two and then the others
 pub two_joined : (o s e q n1 v1 n2 v2 : List ℕ)
-    → o ++ (s ++ (n1 ++ (e ++ (v1 ++ (q ++ (s ++ (n2 ++ (e ++ (v2 ++ (q ++ []))))))))))
-    ≡ o ++ ((s ++ n1 ++ e ++ v1 ++ q) ++ (s ++ n2 ++ e ++ v2 ++ q))
-two_joined o s e q n1 v1 n2 v2 = simp (append_assoc, append-nil)
+    → ((o ++ s ++ n1 ++ e) ++ v1) ++ (((q ++ s ++ n2 ++ e) ++ v2) ++ q) ≡ o ++ ((s ++ n1 ++ e ++ v1 ++ q) ++ (s ++ n2 ++ e ++ v2 ++ q))
+two_joined o s e q n1 v1 n2 v2 = simp append_assoc
 
 pub three_joined : (o p s e q n1 v1 n2 v2 n3 v3 : List ℕ)
-    → o ++ (p ++ (s ++ (n1 ++ (e ++ (v1 ++ (q ++ (s ++ (n2 ++ (e ++ (v2 ++ (q ++ (s ++ (n3 ++ (e ++ (v3 ++ (q ++ []))))))))))))))))
+    → (((o ++ p ++ s ++ n1 ++ e) ++ v1) ++ ((q ++ s ++ n2 ++ e) ++ v2)) ++ (((q ++ s ++ n3 ++ e) ++ v3) ++ q)
     ≡ o ++ (p ++ (s ++ n1 ++ e ++ v1 ++ q) ++ (s ++ n2 ++ e ++ v2 ++ q) ++ (s ++ n3 ++ e ++ v3 ++ q))
-three_joined o p s e q n1 v1 n2 v2 n3 v3 = simp (append_assoc, append-nil)
+three_joined o p s e q n1 v1 n2 v2 n3 v3 = simp append_assoc
 
 pub four_joined : (o p s e q n1 v1 n2 v2 n3 v3 n4 v4 : List ℕ)
-    → o ++ (p ++ (s ++ (n1 ++ (e ++ (v1 ++ (q ++ (s ++ (n2 ++ (e ++ (v2
-    ++ (q ++ (s ++ (n3 ++ (e ++ (v3 ++ (q ++ (s ++ (n4 ++ (e ++ (v4 ++ (q ++ [])))))))))))))))))))))
+    → (((o ++ p ++ s ++ n1 ++ e) ++ v1) ++ ((q ++ s ++ n2 ++ e) ++ v2))
+    ++ (((q ++ s ++ n3 ++ e) ++ v3) ++ (((q ++ s ++ n4 ++ e) ++ v4) ++ q))
     ≡ o ++ (p ++ (s ++ n1 ++ e ++ v1 ++ q) ++ (s ++ n2 ++ e ++ v2 ++ q) ++ (s ++ n3 ++ e ++ v3 ++ q) ++ (s ++ n4 ++ e ++ v4 ++ q))
-four_joined o p s e q n1 v1 n2 v2 n3 v3 n4 v4 = simp (append_assoc, append-nil)
+four_joined o p s e q n1 v1 n2 v2 n3 v3 n4 v4 = simp append_assoc
 
-pub pair_joined : (before x k y : List ℕ) → before ++ (x ++ (k ++ (y ++ []))) ≡ before ++ (x ++ k ++ y)
-pair_joined before x k y = simp (append_assoc, append-nil)
+-- two numbers after a text
+pub pair_joined : (before x k y : List ℕ) → (before ++ x) ++ (k ++ y) ≡ before ++ (x ++ k ++ y)
+pair_joined before x k y = simp append_assoc
 
 pub head_joined : (p s nw e w q nh h nv z g : List ℕ)
     → p ++ (s

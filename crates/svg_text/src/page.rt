@@ -123,6 +123,7 @@ fn put_parts<K: Sink>(out: &mut K, page: &mut Page, bytes: &[u8]) -> Result<(), 
 }
 
 // Prints the bytes by way of the page, and hands it on where it is full.
+#[inline(always)]
 pub fn put<K: Sink>(out: &mut K, page: &mut Page, bytes: &[u8]) -> Result<(), WriteFault>
     ensures { Prints K.faults K.held out.old page.old out.new page.new result bytes.now }
 {

@@ -1,5 +1,5 @@
 // Texts in pieces, printed by way of a page.
-ghost use Rattle.std.specs.Prelude.{◌≡◌, encode_utf8};
+ghost use Rattle.std.specs.Prelude.{◌≡◌, ◌++◌, encode_utf8, codes};
 ghost use Rattle.std.specs.List.{flat_map, list_all};
 ghost use Rattle.fixed_num.specs.Decimal.{spelling};
 ghost use Rattle.svg_text.specs.inner.Pieces.{piece_text, is_plain};
@@ -23,6 +23,7 @@ pub enum Piece<'a> {
 }
 
 // The text as it stands.
+#[inline(always)]
 pub fn put_text<K: Sink>(out: &mut K, page: &mut Page, text: &str) -> Result<(), WriteFault>
     ensures { Prints K.faults K.held out.old page.old out.new page.new result text.now }
 {
@@ -36,6 +37,68 @@ fn put_number<K: Sink>(out: &mut K, page: &mut Page, number: Num) -> Result<(), 
     let mut buf = [0; 32];
     let len = number.write_decimal(&mut buf);
     put(out, page, &buf[..len])
+}
+
+// A text, and a number after it.
+#[inline(always)]
+pub fn put_after<K: Sink>(
+    out: &mut K,
+    page: &mut Page,
+    before: &str,
+    number: Num,
+) -> Result<(), WriteFault>
+    ensures { Prints K.faults K.held out.old page.old out.new page.new result (before.now ++ spelling number) }
+{
+    put_text(out, page, before)?;
+    put_number(out, page, number)
+}
+
+// Two numbers, each after a text.
+#[inline(always)]
+pub fn put_two<K: Sink>(
+    out: &mut K,
+    page: &mut Page,
+    first: &str,
+    x: Num,
+    second: &str,
+    y: Num,
+) -> Result<(), WriteFault>
+    ensures { Prints K.faults K.held out.old page.old out.new page.new result
+        ((first.now ++ spelling x) ++ (second.now ++ spelling y)) }
+{
+    put_after(out, page, first, x)?;
+    put_after(out, page, second, y)
+}
+
+// A number after a text, and a closing quote.
+#[inline(always)]
+pub fn put_last<K: Sink>(
+    out: &mut K,
+    page: &mut Page,
+    before: &str,
+    number: Num,
+) -> Result<(), WriteFault>
+    ensures { Prints K.faults K.held out.old page.old out.new page.new result ((before.now ++ spelling number) ++ codes "\"") }
+{
+    put_after(out, page, before, number)?;
+    put_text(out, page, "\"")
+}
+
+// Two numbers, each after a text, and a closing quote.
+#[inline(always)]
+pub fn put_last_two<K: Sink>(
+    out: &mut K,
+    page: &mut Page,
+    first: &str,
+    x: Num,
+    second: &str,
+    y: Num,
+) -> Result<(), WriteFault>
+    ensures { Prints K.faults K.held out.old page.old out.new page.new result
+        ((first.now ++ spelling x) ++ ((second.now ++ spelling y) ++ codes "\"")) }
+{
+    put_after(out, page, first, x)?;
+    put_last(out, page, second, y)
 }
 
 // The character as it stands.
@@ -108,6 +171,14 @@ fn put_escaped<K: Sink>(out: &mut K, page: &mut Page, text: &Text) -> Result<(),
         return put_text(out, page, text.as_str());
     }
     put_escapes(out, page, text)
+}
+
+// The text in XML, and a closing quote.
+pub fn put_quoted<K: Sink>(out: &mut K, page: &mut Page, text: &Text) -> Result<(), WriteFault>
+    ensures { Prints K.faults K.held out.old page.old out.new page.new result (xml_text text.now ++ codes "\"") }
+{
+    put_escaped(out, page, text)?;
+    put_text(out, page, "\"")
 }
 
 // The piece.

@@ -8,7 +8,7 @@ ghost use Rattle.svg_text.specs.SceneText.{xml_text, attribute, fill_text, outli
 ghost use Rattle.svg_text.specs.SceneText.{end_text, item_text, origin_text, panel_text, head_text, svg_of};
 
 use crate::page::{Page, hand_on};
-use crate::pieces::{Piece, put_pieces, put_text};
+use crate::pieces::{Piece, put_pieces, put_quoted, put_text};
 use crate::shapes::put_shape;
 use chart_io::{Sink, WriteFault};
 use fixed_num::Num;
@@ -19,15 +19,8 @@ use text_kit::{Seq, Text};
 fn put_filled<K: Sink>(out: &mut K, page: &mut Page, fill: &Text) -> Result<(), WriteFault>
     ensures { Prints K.faults K.held out.old page.old out.new page.new result (attribute (codes "fill") (xml_text fill.now)) }
 {
-    put_pieces(
-        out,
-        page,
-        &[
-            Piece::Plain(" fill=\""),
-            Piece::Escaped(fill),
-            Piece::Plain("\""),
-        ],
-    )
+    put_text(out, page, " fill=\"")?;
+    put_quoted(out, page, fill)
 }
 
 // No fill.

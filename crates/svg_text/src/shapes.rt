@@ -8,7 +8,7 @@ ghost use Rattle.svg_text.specs.SceneText.{pair_text, point_text, path_text, pat
 ghost use Rattle.svg_text.specs.SceneText.{weight_text, letters_text, words_text, circle_text, shape_text};
 
 use crate::page::Page;
-use crate::pieces::{Piece, put_pieces, put_text};
+use crate::pieces::{Piece, put_last, put_last_two, put_pieces, put_text, put_two};
 use chart_io::{Sink, WriteFault};
 use fixed_num::Num;
 use scene_tree::{Anchor, Point, Shape};
@@ -45,21 +45,8 @@ fn put_rect<K: Sink>(
 ) -> Result<(), WriteFault>
     ensures { Prints K.faults K.held out.old page.old out.new page.new result (codes "<" ++ shape_text (Rect x y width height)) }
 {
-    put_pieces(
-        out,
-        page,
-        &[
-            Piece::Plain("<rect x=\""),
-            Piece::Number(x),
-            Piece::Plain("\" y=\""),
-            Piece::Number(y),
-            Piece::Plain("\" width=\""),
-            Piece::Number(width),
-            Piece::Plain("\" height=\""),
-            Piece::Number(height),
-            Piece::Plain("\""),
-        ],
-    )
+    put_two(out, page, "<rect x=\"", x, "\" y=\"", y)?;
+    put_last_two(out, page, "\" width=\"", width, "\" height=\"", height)
 }
 
 // A circle, without its colours and its end.
@@ -72,19 +59,8 @@ fn put_circle<K: Sink>(
 ) -> Result<(), WriteFault>
     ensures { Prints K.faults K.held out.old page.old out.new page.new result (codes "<" ++ circle_text x y r) }
 {
-    put_pieces(
-        out,
-        page,
-        &[
-            Piece::Plain("<circle cx=\""),
-            Piece::Number(x),
-            Piece::Plain("\" cy=\""),
-            Piece::Number(y),
-            Piece::Plain("\" r=\""),
-            Piece::Number(r),
-            Piece::Plain("\""),
-        ],
-    )
+    put_two(out, page, "<circle cx=\"", x, "\" cy=\"", y)?;
+    put_last(out, page, "\" r=\"", r)
 }
 
 // A line, without its colours and its end.
@@ -98,21 +74,8 @@ fn put_line<K: Sink>(
 ) -> Result<(), WriteFault>
     ensures { Prints K.faults K.held out.old page.old out.new page.new result (codes "<" ++ shape_text (Line x1 y1 x2 y2)) }
 {
-    put_pieces(
-        out,
-        page,
-        &[
-            Piece::Plain("<line x1=\""),
-            Piece::Number(x1),
-            Piece::Plain("\" y1=\""),
-            Piece::Number(y1),
-            Piece::Plain("\" x2=\""),
-            Piece::Number(x2),
-            Piece::Plain("\" y2=\""),
-            Piece::Number(y2),
-            Piece::Plain("\""),
-        ],
-    )
+    put_two(out, page, "<line x1=\"", x1, "\" y1=\"", y1)?;
+    put_last_two(out, page, "\" x2=\"", x2, "\" y2=\"", y2)
 }
 
 // Two numbers with a comma between them, after a text.
@@ -125,16 +88,7 @@ fn put_pair<K: Sink>(
 ) -> Result<(), WriteFault>
     ensures { Prints K.faults K.held out.old page.old out.new page.new result (before.now ++ pair_text x y) }
 {
-    put_pieces(
-        out,
-        page,
-        &[
-            Piece::Plain(before),
-            Piece::Number(x),
-            Piece::Plain(","),
-            Piece::Number(y),
-        ],
-    )
+    put_two(out, page, before, x, ",", y)
 }
 
 // The step of a path.
@@ -214,17 +168,7 @@ fn put_turned<K: Sink>(out: &mut K, page: &mut Page, x: Num, y: Num) -> Result<(
 fn put_upright<K: Sink>(out: &mut K, page: &mut Page, x: Num, y: Num) -> Result<(), WriteFault>
     ensures { Prints K.faults K.held out.old page.old out.new page.new result (codes "<text" ++ place_text false x y) }
 {
-    put_pieces(
-        out,
-        page,
-        &[
-            Piece::Plain("<text x=\""),
-            Piece::Number(x),
-            Piece::Plain("\" y=\""),
-            Piece::Number(y),
-            Piece::Plain("\""),
-        ],
-    )
+    put_last_two(out, page, "<text x=\"", x, "\" y=\"", y)
 }
 
 // The start of a text, with its place.

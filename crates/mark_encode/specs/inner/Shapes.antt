@@ -9,7 +9,7 @@ use Rattle.mark_encode.specs.Rects.{rect_for}
 use Rattle.mark_encode.specs.Rules.{rule_for}
 use Rattle.mark_encode.specs.Symbols.{symbol_for}
 use Rattle.mark_encode.specs.Texts.{text_for}
-use Rattle.mark_encode.specs.inner.Scaled.{along_values, rule_values, symbol_values, text_values}
+use Rattle.mark_encode.specs.inner.Kinds.{along_values, rule_values, symbol_values, text_values}
 
 -- the shape of a row, by the values in the channels of its mark
 abbrev pub shape_by : ShapeChannels → CellAt → Values → Option (Option Shape)
