@@ -21,7 +21,7 @@ use std::alloc::Global;
 use std::io;
 use text_kit::{OutOfMemory, Text};
 use vega_charts::{DrawError, drawing_of};
-use vega_copies::{charts_are_tested, is_chart};
+use vega_copies::is_chart;
 use vega_spec::VgSpec;
 use written::is_written_again;
 
@@ -35,7 +35,6 @@ fn drawn(
     requires chart { is_chart g.now ≡ true }
     requires sources { AreSources sources.now }
 {
-    charts_are_tested();
     drawing_of(alloc, g, sources, params)
 }
 

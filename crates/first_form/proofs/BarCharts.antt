@@ -4,7 +4,7 @@ use Rattle.vega_spec.specs.Names.{sources_here, mark_sources_here, mark_sources,
 use Rattle.vega_spec.specs.declared.spec.Group.{Group, Group-F, out-Group, out-roll-Group, fold-roll-Group}
 use Rattle.vega_spec.specs.declared.spec.VgMark.{VgMark, VgMark-F, out-VgMark, out-roll-VgMark, fold-roll-VgMark}
 use Rattle.vega_copies.specs.Outlines.{Object, Opened, Marks, NoMarks, AMark, object_here, opened, numbered, outline_of}
-use Rattle.vega_copies.specs.Tested.{is_outline, has_sizes, are_new}
+use Rattle.vega_copies.specs.Tested.{keeps_object, is_plain_object, all_objects, is_outline, has_sizes, are_new}
 use Rattle.vega_copies.specs.inner.Outlined.{marks_in, marks_of, is_group, plain_of}
 use Rattle.vega_copies.proofs.OutlineLemmas.{opened_object, opened_marks, plain_from}
 use Rattle.first_form.specs.declared.form.FirstForm.{FirstForm}
@@ -50,4 +50,6 @@ named_sources form =
         ∙ fold-roll-Group (List (List ℕ)) (List (List ℕ)) sources_here mark_sources_here no_parts
 
 pub bars_are_charts : BarsAreCharts
-bars_are_charts form = λ i. is_outline (outlined form i) && (has_sizes (bars_of form) && are_new [] (named_sources form i))
+bars_are_charts form = λ i.
+    (is_plain_object (outlined form i).object && all_objects is_plain_object (outlined form i).marks)
+    && (is_outline keeps_object (outlined form i) && (has_sizes (bars_of form) && are_new [] (named_sources form i)))

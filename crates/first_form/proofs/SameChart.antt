@@ -54,7 +54,7 @@ use Rattle.vega_lists.specs.Scopes.{Scope, no_lists, with_list}
 use Rattle.vega_scales.specs.Domains.{column_of}
 use Rattle.vega_scales.specs.declared.scaled.Scaled.{Scaled}
 use Rattle.vega_scales.specs.declared.scaled.Scaled.TheVariants.{Cells}
-use Rattle.vega_scales.specs.Scales.{between}
+use Rattle.vega_scales.specs.Scales.{between, domain_of}
 use Rattle.mark_shapes.specs.declared.looks.Look.{Look}
 use Rattle.mark_shapes.specs.declared.shown.Shown.TheVariants.{Absent}
 use Rattle.mark_shapes.specs.declared.spans.Span.{Span}
@@ -67,11 +67,12 @@ use Rattle.mark_encode.specs.Values.{share_of_band, moved}
 use Rattle.mark_encode.specs.Items.{item_for, items_for}
 use Rattle.vega_signals.specs.Settling.{values_inside}
 use Rattle.plot_scenes.specs.declared.scenes.Drawing.{Drawing}
-use Rattle.vega_charts.specs.Sizes.{size_in, size_of}
+use Rattle.vega_drawing.specs.Sizes.{size_in, size_of}
 use Rattle.vega_copies.specs.Scopes.{Names, names_at_top}
-use Rattle.vega_charts.specs.Scales.{ScaleHere, own_scale, and_outer, with_domains}
-use Rattle.vega_charts.specs.Copies.{Frame, with_scales}
-use Rattle.vega_charts.specs.Tops.{of_chart, round_top, sized_top, top_frame}
+use Rattle.vega_drawing.specs.Scales.{ScaleHere, with_domains}
+use Rattle.vega_copies.specs.Facts.{facts_here}
+use Rattle.vega_drawing.specs.Frames.{Frame}
+use Rattle.vega_drawing.specs.Tops.{round_top, top_frame}
 use Rattle.vega_charts.specs.Charts.{drawing_of}
 use Rattle.vega_charts.specs.OnePlotLaws.{items_of_marks}
 use Rattle.vega_charts.proofs.OnePlotLaw.{laws}
@@ -335,38 +336,43 @@ module _ (form : FirstForm) where
   abbrev scales_here : List Cell → ℤ × ℤ → List ScaleHere
   scales_here cells domain = scale_along cells ∷ scale_up (between domain) ∷ []
 
-  abbrev scales_by : List Datum → Option (ℤ × ℤ) → Option (List ScaleHere)
-  scales_by rows domain = all_found (Some (scale_along (cells_along rows)) ∷ option_map scale_up (option_map between domain) ∷ [])
+  abbrev domains_here : List Cell → ℤ × ℤ → List Scaled
+  domains_here cells domain = Cells cells ∷ between domain ∷ []
 
-  scales_opened : (rows : List Datum)
-      → all_found (map (own_scale (of_chart None) (names_over rows)) (x_scale_of form ∷ y_scale_of form ∷ []))
-      ≡ scales_by (scope_over rows form.name) (domain_up (scope_over rows form.name))
-  scales_opened rows = refl
+  abbrev domains_by : List Datum → Option (ℤ × ℤ) → Option (List Scaled)
+  domains_by rows domain = all_found (Some (Cells (cells_along rows)) ∷ option_map between domain ∷ [])
 
-  scales_known : (rows : List Datum) (cells : List Cell) (domain : ℤ × ℤ) → cells_along rows ≡ cells → domain_up rows ≡ Some domain
-      → all_found (map (own_scale (of_chart None) (names_over rows)) (x_scale_of form ∷ y_scale_of form ∷ [])) ≡ Some (scales_here cells domain)
-  scales_known rows cells domain along up =
-      scales_opened rows
-      ∙ ap (λ rows. scales_by rows (domain_up rows)) (the_rows rows)
-      ∙ ap (scales_by rows) up
-      ∙ ap (λ cells. Some (scales_here cells domain)) along
+  abbrev domains_over : List Datum → Option (List Scaled)
+  domains_over rows = all_found (map (domain_of no_params (scope_over rows)) (x_scale_of form ∷ y_scale_of form ∷ []))
+
+  domains_opened : (rows : List Datum) → domains_over rows ≡ domains_by (scope_over rows form.name) (domain_up (scope_over rows form.name))
+  domains_opened rows = refl
+
+  domains_known : (rows : List Datum) (cells : List Cell) (domain : ℤ × ℤ) → cells_along rows ≡ cells → domain_up rows ≡ Some domain
+      → domains_over rows ≡ Some (domains_here cells domain)
+  domains_known rows cells domain along up =
+      domains_opened rows
+      ∙ ap (λ rows. domains_by rows (domain_up rows)) (the_rows rows)
+      ∙ ap (domains_by rows) up
+      ∙ ap (λ cells. Some (domains_here cells domain)) along
 
   -- ---- the frame
 
   abbrev frame_over : List Datum → List ScaleHere → ℤ → Frame
   frame_over rows scales width = record (round_top (names_over rows)) { scales = scales; width = width; height = plot_height }
 
-  abbrev frame_with : List Datum → Option (List ScaleHere) → Option Frame
-  frame_with rows own =
-      option_map (λ own. with_scales (round_top (names_over rows)) (names_over rows) (and_outer [] own)) own
-      >>= sized_top (Some (size.Signal width_expr)) (Some (size.Number plot_height))
+  abbrev frame_with : List Datum → Option (List Scaled) → Option Frame
+  frame_with rows domains =
+      option_map (λ domains. record { cells = None; names = names_over rows; domains = domains }) domains
+      >>= top_frame (Some (size.Signal width_expr)) (Some (size.Number plot_height)) (bars_object form)
 
   framed : (rows : List Datum) (cells : List Cell) (domain : ℤ × ℤ) → length cells ≤ 1000 → cells_along rows ≡ cells
-      → domain_up rows ≡ Some domain → top_frame (bars_of form).width (bars_of form).height (names_over rows) (bars_object form)
+      → domain_up rows ≡ Some domain
+      → (facts_here None (bars_object form) (names_over rows) >>= top_frame (bars_of form).width (bars_of form).height (bars_object form))
       ≡ Some (frame_over rows (scales_here cells domain) (plot_width (length cells)))
   framed rows cells domain few along up =
       let values = with_domains (scales_here cells domain) no_params in
-      ap (frame_with rows) (scales_known rows cells domain along up)
+      ap (frame_with rows) (domains_known rows cells domain along up)
       ∙ ap (λ o. o >>= λ width. Some (frame_over rows (scales_here cells domain) width)) (width_size values (length cells) refl few)
 
   -- ---- the bars

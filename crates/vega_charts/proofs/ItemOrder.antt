@@ -29,9 +29,10 @@ use Rattle.mark_encode.specs.Orders.{rows_in_order}
 use Rattle.mark_encode.specs.Paths.{PathValues, stops_for, path_look_for, path_over, is_closed, path_values_of}
 use Rattle.mark_encode.specs.Items.{shape_for, picked_key, items_with, item_for, is_path, items_by}
 use Rattle.vega_copies.specs.Outlines.{Marks, NoMarks, AMark, AGroup, PlainMark, numbered}
-use Rattle.vega_charts.specs.Scales.{set_of}
-use Rattle.vega_charts.specs.Copies.{Frame}
-use Rattle.vega_charts.specs.Items.{items_in_plot, rows_of_mark, by_unit, in_unit_order}
+use Rattle.vega_drawing.specs.Scales.{set_of}
+use Rattle.vega_drawing.specs.Frames.{Frame}
+use Rattle.vega_charts.specs.Items.{items_in_plot, rows_of_mark}
+use Rattle.vega_drawing.specs.Units.{by_unit, in_unit_order}
 use Rattle.vega_charts.specs.Laws.{has_no_groups}
 use Rattle.vega_charts.specs.OnePlotLaws.{items_of_marks}
 

@@ -1,8 +1,8 @@
 -- Why one plot is drawn as a plot with its guides.
-use Rattle.std.proofs.Common.{◌≡◌, ℕ, ℤ, pos, Bool, true, false, if◌then◌else◌, Option, Some, None, List, [], ◌∷◌, ◌++◌, map, refl, sym, ap}
+use Rattle.std.proofs.Common.{◌≡◌, ℕ, ℤ, pos, Bool, true, false, if◌then◌else◌, Option, Some, None, List, [], ◌++◌, map, refl, sym, ap}
 use Rattle.std.proofs.Common.{subst, flat_map, ◌∙◌, append-nil}
 use Rattle.std.specs.Prelude.{IfSome, is_some}
-use Rattle.std.specs.Option.{option_map}
+use Rattle.std.specs.Option.{option_map, option_map_or}
 use Rattle.std.specs.List.{filter_map, enumerate_from}
 use Rattle.fixed_num.specs.Ranges.{◌>>=◌, all_found}
 use Rattle.cell_value.specs.declared.cell.Cell.{Cell}
@@ -31,16 +31,24 @@ use Rattle.plot_scenes.specs.Axes.{axes_at}
 use Rattle.plot_scenes.specs.Legends.{blocks_of}
 use Rattle.plot_scenes.specs.Scenes.{drawing_with}
 use Rattle.plot_scenes.specs.Views.{placed_plot}
-use Rattle.vega_charts.specs.Sizes.{size_of, padding_round}
+use Rattle.vega_drawing.specs.Sizes.{size_of, padding_round}
 use Rattle.vega_copies.specs.Outlines.{Object, Marks, NoMarks, AMark, AGroup, first_unit, PlainMark}
 use Rattle.vega_copies.specs.Scopes.{Names, keeps_signals}
-use Rattle.vega_charts.specs.Scales.{ScaleHere, own_scale, and_outer, AxisHere, axes_here}
-use Rattle.vega_charts.specs.Copies.{Frame, with_scales, inside_of, as_grid, sizing_values}
-use Rattle.vega_charts.specs.Items.{items_in_plot, rows_of_mark, items_in_copy, in_unit_order}
-use Rattle.vega_charts.specs.Plots.{axes_over, own_axes, legend_channels, legend_in_channel, legends_in, Inside, items_inside, and_inside}
-use Rattle.vega_charts.specs.Plots.{with_guides, drawn_in, scales_of_plot, plot_of, view_with, view_of, views_in}
-use Rattle.vega_charts.specs.Tops.{of_chart, round_top, sized_top, top_frame}
-use Rattle.vega_charts.specs.Scenes.{scales_of_chart, drawing_over}
+use Rattle.vega_copies.specs.Facts.{Facts, Found, NoneFound, FoundOf, NoCopies, CopyFound, behind_first, facts_here, found_in}
+use Rattle.vega_scales.specs.declared.scaled.Scaled.{Scaled}
+use Rattle.vega_scales.specs.Scales.{domain_of}
+use Rattle.vega_drawing.specs.Scales.{AxisHere, axes_here}
+use Rattle.vega_drawing.specs.Frames.{Frame, as_grid, sizing_values, inside_of}
+use Rattle.vega_drawing.specs.Grids.{grid_of}
+use Rattle.vega_charts.specs.Items.{items_in_plot, rows_of_mark, items_in_copy}
+use Rattle.vega_drawing.specs.Units.{in_unit_order}
+use Rattle.vega_drawing.specs.Guides.{axes_over, own_axes, legend_channels, legend_in_channel, legends_in}
+use Rattle.vega_drawing.specs.Insides.{Inside, items_inside, and_inside, with_guides, drawn_in}
+use Rattle.vega_drawing.specs.Plots.{plot_of, scales_of_plot}
+use Rattle.vega_drawing.specs.Tops.{of_chart, round_top, sized_top, top_frame}
+use Rattle.vega_drawing.specs.Views.{spacing_of, grid_round, grid_here, views_in, view_of}
+use Rattle.vega_drawing.specs.Drawings.{scales_of_chart}
+use Rattle.vega_charts.specs.Scenes.{drawing_over}
 use Rattle.vega_charts.specs.Laws.{has_no_groups}
 use Rattle.vega_charts.specs.OnePlotLaws.{items_of_marks, scene_of_plot, HasNoGuides}
 use Rattle.vega_charts.proofs.ItemOrder.{found_both}
@@ -61,25 +69,29 @@ sized_by frame is None height = tt
 sized_by frame is (Some w) None = tt
 sized_by frame is (Some w) (Some h) = record { axes = is.axes; cells = is.cells; headers = is.headers; x = is.x; y = is.y }
 
-top_by : (names : Names) (width height : Option Size) (b : Bool) (own : Option (List ScaleHere))
-    → IfSome ((if b then option_map (λ own. with_scales (round_top names) names (and_outer [] own)) own else None) >>= sized_top width height) IsTop
-top_by names width height false own = tt
-top_by names width height true None = tt
-top_by names width height true (Some own) =
-    let frame = with_scales (round_top names) names (and_outer [] own) in
+-- the top by its layout
+abbrev top_with : Option Size → Option Size → Object → Option Layout → Facts → Option Frame
+top_with width height o layout facts =
+    let frame = inside_of (of_chart layout) (round_top facts.names) o facts in
+    if is_some layout then Some (as_grid o frame) else sized_top width height frame
+
+abbrev facts_by : Names → Bool → Option (List Scaled) → Option Facts
+facts_by names b domains = if b then option_map (λ domains. record { cells = None; names = names; domains = domains }) domains else None
+
+top_by : (names : Names) (width height : Option Size) (o : Object) (b : Bool) (domains : Option (List Scaled))
+    → IfSome (facts_by names b domains >>= top_with width height o None) IsTop
+top_by names width height o false domains = tt
+top_by names width height o true None = tt
+top_by names width height o true (Some domains) =
+    let frame = inside_of (of_chart None) (round_top names) o (record { cells = None; names = names; domains = domains }) in
     sized_by frame (record { axes = refl; cells = refl; headers = refl; x = refl; y = refl }) (size_of (sizing_values frame) width)
     (size_of (sizing_values frame) height)
 
--- the top by its layout
-abbrev top_laid : Option Size → Option Size → Names → Object → Option Layout → Option Frame
-top_laid width height names o layout =
-    inside_of (of_chart layout) (round_top names) names o >>= λ frame. if is_some layout then Some (as_grid o frame) else sized_top width height frame
-
 pub is_top : (width height : Option Size) (names : Names) (o : Object) (frame : Frame) → o.layout ≡ None
-    → top_frame width height names o ≡ Some frame → IsTop frame
+    → (facts_here None o names >>= top_frame width height o) ≡ Some frame → IsTop frame
 is_top width height names o frame plain is =
-    subst (λ o. IfSome o IsTop) (sym (ap (top_laid width height names o) plain) ∙ is)
-    (top_by names width height (keeps_signals names o) (all_found (map (own_scale (of_chart None) names) o.scales)))
+    subst (λ o. IfSome o IsTop) (sym (ap (λ layout. facts_here None o names >>= top_with width height o layout) plain) ∙ is)
+    (top_by names width height o (keeps_signals names o) (all_found (map (domain_of names.values names.lists) o.scales)))
 
 -- ---- the items
 
@@ -90,15 +102,29 @@ in_copy unit m frame own is found =
     ∙ (λ i. all_found (map (moved_item (is.x i) (is.y i)) own))
     ∙ all_stay own
 
-pub drawn_items : (sources : List Dataset) (marks : Marks) (frame : Frame) (items : List Item) → IsTop frame → has_no_groups marks ≡ true
-    → items_of_marks frame marks ≡ Some items → drawn_in sources marks frame ≡ Some (items_inside items)
-drawn_items sources NoMarks frame items is none e = ap (option_map items_inside) e
-drawn_items sources (AMark unit m others) frame items is none e =
+pub drawn_items : (marks : Marks) (found : Found) (frame : Frame) (items : List Item) → IsTop frame → has_no_groups marks ≡ true
+    → items_of_marks frame marks ≡ Some items → drawn_in items_in_copy marks found frame ≡ Some (items_inside items)
+drawn_items NoMarks found frame items is none e = ap (option_map items_inside) e
+drawn_items (AMark unit m others) found frame items is none e =
     let (own, rest, first, behind, joined) = found_both (items_in_plot frame unit m (rows_of_mark frame.names.lists m.from)) (items_of_marks frame others) items e in
     let here = in_copy unit m frame own is first in
-    let there = drawn_items sources others frame rest is none behind in
+    let there = drawn_items others (behind_first found) frame rest is none behind in
     (λ i. here i >>= λ own. there i >>= λ rest. Some (and_inside (items_inside own) rest)) ∙ ap (λ items. Some (items_inside items)) joined
-drawn_items sources (AGroup o inside others) frame items is none e = absurd (cc)
+drawn_items (AGroup o inside others) found frame items is none e = absurd (cc)
+
+-- without groups something is found of marks
+some_found : (sources : List Dataset) (marks : Marks) (names : Names) → has_no_groups marks ≡ true → (found : Found) × (found_in sources marks names ≡ Some found)
+some_found sources NoMarks names none = (NoneFound, refl)
+some_found sources (AMark unit m others) names none =
+    let (rest, is) = some_found sources others names none in (FoundOf NoCopies None rest, ap (option_map (FoundOf NoCopies None)) is)
+some_found sources (AGroup o inside others) names none = absurd (cc)
+
+-- what goes on after facts, where a frame is found of them
+after_facts : (facts : Option Facts) (found : Found) (framed : Facts → Option Frame) (frame : Frame) (rest : Found → Frame → Option Drawing)
+    → (facts >>= framed) ≡ Some frame
+    → ((facts >>= λ facts. Some (record { facts = facts; inside = found })) >>= λ (c : CopyFound). framed c.facts >>= rest c.inside) ≡ rest found frame
+after_facts None found framed frame rest e = absurd (let none : None ≡ Some frame = e in cc)
+after_facts (Some facts) found framed frame rest e = ap (λ frame. frame >>= rest found) e
 
 -- ---- the plot
 
@@ -143,9 +169,9 @@ module _ (g : VgSpec) (sources : List Dataset) (o : Object) (marks : Marks) (fra
     scales = scales_of_plot frame;
   }
 
-  plot_known : IsTop frame → drawn_in sources marks frame ≡ Some (items_inside items) → in_unit_order items ≡ items
-      → plot_of sources o marks frame ≡ (axes_at frame.width frame.height shown >>= λ axes. Some (plot_by axes))
-  plot_known is drawn ordered =
+  plot_known : (found : Found) → IsTop frame → drawn_in items_in_copy marks found frame ≡ Some (items_inside items) → in_unit_order items ≡ items
+      → plot_of items_in_copy o marks found frame ≡ (axes_at frame.width frame.height shown >>= λ axes. Some (plot_by axes))
+  plot_known found is drawn ordered =
       ap (λ d. option_map (with_guides o frame) d >>= plot_with frame.axes frame.headers frame.cells) drawn
       ∙ (λ i. plot_with (is.axes i) (is.headers i) (is.cells i) (record { axes = append-nil shown i; legends = append-nil legends i; items = items }))
       ∙ (λ i. axes_at frame.width frame.height shown >>= λ axes. Some (record (plot_by axes) { items = ordered i }))
@@ -167,16 +193,27 @@ module _ (g : VgSpec) (sources : List Dataset) (o : Object) (marks : Marks) (fra
   by_axes None = refl
   by_axes (Some axes) = alone padding (scales_of_chart frame) (plot_by axes) refl refl ∙ by_blocks axes (blocks_of legends)
 
-  pub drawn_over : (names : Names) → o.layout ≡ None → has_no_groups marks ≡ true → top_frame g.width g.height names o ≡ Some frame
+  -- what is drawn of a view of the top
+  abbrev rest_drawn : Found → Frame → Option Drawing
+  rest_drawn found frame = view_of items_in_copy o marks found frame >>= λ view. drawing_with padding (scales_of_chart frame) view
+
+  abbrev from_facts : CopyFound → Option Drawing
+  from_facts c = top_frame g.width g.height o c.facts >>= rest_drawn c.inside
+
+  pub drawn_over : (names : Names) → o.layout ≡ None → has_no_groups marks ≡ true → (facts_here None o names >>= top_frame g.width g.height o) ≡ Some frame
       → items_of_marks frame marks ≡ Some items → in_unit_order items ≡ items
       → option_map (λ (d : Drawing). d.scene) (drawing_over g sources (record { object = o; marks = marks }) names)
       ≡ scene_of_plot g o marks frame items
   drawn_over names plain none framed found ordered =
       let is = is_top g.width g.height names o frame plain framed in
-      ap (λ f. option_map (λ (d : Drawing). d.scene) (f >>= λ frame. view_of sources o marks frame >>= λ view.
-      drawing_with padding (scales_of_chart frame) view)) framed
-      ∙ ap (λ l. scene_drawn (view_with sources o marks frame l (λ grid. views_in sources marks frame grid 0))) plain
-      ∙ ap (λ p. scene_drawn (option_map placed_plot p)) (plot_known is (drawn_items sources marks frame items is none found) ordered)
+      let (inside, inside_is) = some_found sources marks names none in
+      ap (λ (found : Option Found). option_map (λ (d : Drawing). d.scene)
+      ((facts_here None o names >>= λ facts. found >>= λ inside. Some (record { facts = facts; inside = inside })) >>= from_facts)) inside_is
+      ∙ ap (option_map (λ (d : Drawing). d.scene))
+      (after_facts (facts_here None o names) inside (top_frame g.width g.height o) frame rest_drawn framed)
+      ∙ ap (λ l. scene_drawn (option_map_or (λ (l : Layout). option_map (grid_round o frame (spacing_of l) (grid_of l inside).columns)
+      (views_in items_in_copy marks inside frame (grid_here o inside) 0)) l (option_map placed_plot (plot_of items_in_copy o marks inside frame)))) plain
+      ∙ ap (λ p. scene_drawn (option_map placed_plot p)) (plot_known inside is (drawn_items marks inside frame items is none found) ordered)
       ∙ by_axes (axes_at frame.width frame.height shown)
 
   -- ---- without guides

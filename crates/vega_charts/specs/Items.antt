@@ -1,20 +1,16 @@
 -- The items that marks draw in a plot.
-use Rattle.std.specs.Prelude.{◌≡◌, refl, ℕ, pos, Option, Some, None, List, [], ◌∷◌, map, unwrap_or}
-use Rattle.std.specs.declared.cmp.Ordering.{Ordering}
-use Rattle.std.specs.Ordering.{nat_cmp}
+use Rattle.std.specs.Prelude.{ℕ, Option, Some, None, List, [], map}
 use Rattle.fixed_num.specs.Ranges.{◌>>=◌, all_found}
 use Rattle.cell_value.specs.Datum.{Datum}
-use Rattle.plain_orders.specs.Orders.{in_order}
 use Rattle.scene_tree.specs.declared.scene.Item.{Item}
-use Rattle.scene_tree.specs.declared.shape.Shape.TheVariants.{Rect}
 use Rattle.scene_tree.specs.Moves.{moved_item}
 use Rattle.mark_encode.specs.Items.{items_in_order}
 use Rattle.vega_spec.specs.declared.marks.MarkFrom.{MarkFrom}
 use Rattle.vega_spec.specs.declared.marks.MarkFrom.TheVariants as from
 use Rattle.vega_lists.specs.Scopes.{Scope}
 use Rattle.vega_copies.specs.Outlines.{PlainMark}
-use Rattle.vega_charts.specs.Scales.{set_of}
-use Rattle.vega_charts.specs.Copies.{Frame}
+use Rattle.vega_drawing.specs.Scales.{set_of}
+use Rattle.vega_drawing.specs.Frames.{Frame}
 
 -- the items of a mark of this number in a plot, over rows and the scales of the plot by their names: in the order of the mark's sort, of a
 -- line or an area one path
@@ -34,30 +30,3 @@ abbrev pub items_in_copy : ℕ → PlainMark → Frame → Option (List Item)
 items_in_copy unit m frame = do
   items ← items_in_plot frame unit m (rows_of_mark frame.names.lists m.from)
   all_found (map (moved_item frame.x frame.y) items)
-
--- items by the numbers of their marks, those of one mark as they stand
-abbrev pub unit_of : Item → ℕ
-unit_of item = unwrap_or item.unit 0
-
-abbrev pub by_unit : Item → Item → Ordering
-by_unit a b = nat_cmp (unit_of a) (unit_of b)
-
-abbrev pub in_unit_order : List Item → List Item
-in_unit_order items = in_order by_unit items
-
--- The rule at work.
-
-abbrev an_item : ℕ → ℕ → Item
-an_item unit x = record {
-  shape = Rect (pos x) (pos 0) (pos 1) (pos 1);
-  fill = None;
-  stroke = None;
-  stroke_width = pos 1;
-  opacity = pos 1;
-  unit = Some unit;
-  key = None;
-}
-
-items_by_their_marks : in_unit_order (an_item 1 1 ∷ an_item 0 2 ∷ an_item 1 3 ∷ an_item 0 4 ∷ [])
-    ≡ an_item 0 2 ∷ an_item 0 4 ∷ an_item 1 1 ∷ an_item 1 3 ∷ []
-items_by_their_marks = refl

@@ -1,10 +1,4 @@
-pub mod Sizes
-pub mod Scales
-pub mod Copies
 pub mod Items
-pub mod Grids
-pub mod Tops
-pub mod Plots
 pub mod Scenes
 pub mod Panels
 pub mod Charts

@@ -1,5 +1,5 @@
 -- What holds of a chart that is one plot: its picture is that of a plot with its guides.
-use Rattle.std.specs.Prelude.{◌≡◌, true, pos, Option, Some, None, List, [], ◌++◌}
+use Rattle.std.specs.Prelude.{◌≡◌, true, Option, Some, None, List, [], ◌++◌}
 use Rattle.fixed_num.specs.Ranges.{◌>>=◌}
 use Rattle.cell_value.specs.State.{Dataset}
 use Rattle.expr_eval.specs.Values.{Values}
@@ -11,13 +11,14 @@ use Rattle.vega_spec.specs.declared.spec.VgSpec.{VgSpec}
 use Rattle.vega_signals.specs.Settling.{Valued}
 use Rattle.plot_scenes.specs.OnePlot.{picture_of_plot, plain_scene, IsSpace}
 use Rattle.plot_scenes.specs.declared.scenes.Drawing.{Drawing}
-use Rattle.vega_charts.specs.Sizes.{padding_round}
+use Rattle.vega_drawing.specs.Sizes.{padding_round}
 use Rattle.vega_copies.specs.Outlines.{Object, Marks, NoMarks, AMark, AGroup, outline_of, first_unit}
 use Rattle.vega_copies.specs.Scopes.{Names, names_at_top}
-use Rattle.vega_charts.specs.Copies.{Frame}
+use Rattle.vega_copies.specs.Facts.{facts_here}
+use Rattle.vega_drawing.specs.Frames.{Frame}
 use Rattle.vega_charts.specs.Items.{items_in_plot, rows_of_mark}
-use Rattle.vega_charts.specs.Plots.{axes_over, own_axes, legends_in}
-use Rattle.vega_charts.specs.Tops.{top_frame}
+use Rattle.vega_drawing.specs.Guides.{axes_over, own_axes, legends_in}
+use Rattle.vega_drawing.specs.Tops.{top_frame}
 use Rattle.vega_charts.specs.Charts.{drawing_of}
 use Rattle.vega_charts.specs.Laws.{has_no_groups}
 
@@ -44,7 +45,7 @@ pub record IsOnePlot (g : VgSpec) (stores : Values) (params : Valued) (sources :
   pub layout : o.layout ≡ None
   pub no_groups : has_no_groups marks ≡ true
   pub named : names_at_top stores params sources o ≡ Some names
-  pub framed : top_frame g.width g.height names o ≡ Some frame
+  pub framed : (facts_here None o names >>= top_frame g.width g.height o) ≡ Some frame
   pub found : items_of_marks frame marks ≡ Some items
 
 -- it is drawn as a plot with its guides

@@ -1,54 +1,41 @@
 // What is drawn of a whole specification.
-ghost use Rattle.std.specs.Prelude.{◌≡◌, ◌∷◌, ◌++◌, [], true, pos, map, All, IfOk, IfSome, OnOk};
-ghost use Rattle.std.specs.List.{filter};
+ghost use Rattle.std.specs.Prelude.{◌≡◌, ◌∷◌, [], true, map};
 ghost use Rattle.cell_value.specs.State.{dataset_of};
 ghost use Rattle.expr_eval.specs.Answers.{Evaluates};
 ghost use Rattle.expr_eval.specs.Plain.{no_values};
-ghost use Rattle.scale_kit.specs.Scale.{IsPixel, AreScales};
 ghost use Rattle.scene_tree.specs.Outcome.{in_reach};
-ghost use Rattle.vega_guides.specs.Shown.{IsCount};
 ghost use Rattle.vega_lists.specs.Held.{AreAllRows, AreSources};
-ghost use Rattle.vega_charts.specs.Sizes.{padding_round};
-ghost use Rattle.plot_scenes.specs.Scenes.{drawing_with};
-ghost use Rattle.plot_scenes.specs.Views.{HasLegends};
 ghost use Rattle.vega_spec.specs.declared.spec.Group.{out-Group};
-ghost use Rattle.vega_charts.specs.Answers.{Comes};
-ghost use Rattle.vega_copies.specs.Built.{KeepsRules};
-ghost use Rattle.vega_charts.specs.Charts.{drawing_of};
-ghost use Rattle.vega_charts.specs.Scales.{and_outer, scale_in, set_of};
-ghost use Rattle.vega_charts.specs.Scenes.{drawing_over, scales_of_chart};
-ghost use Rattle.vega_copies.specs.Scopes.{keeps_signals};
-ghost use Rattle.vega_copies.specs.inner.Made.{HaveCopies};
-ghost use Rattle.vega_copies.specs.inner.Standing.{MayStand};
-ghost use Rattle.vega_charts.specs.inner.Framed.{frame_seen, IsFrame};
-ghost use Rattle.vega_charts.specs.inner.Kept.{axis_seen, kept_seen, scale_seen, AreKeptAxes, IsKeptScale};
+ghost use Rattle.vega_copies.specs.Outlines.{object_here, outline_of};
+ghost use Rattle.vega_copies.specs.Tested.{KeepsRules};
+ghost use Rattle.vega_copies.specs.inner.FactsMade.{lists_on, top_made};
+ghost use Rattle.vega_copies.specs.inner.FactsSeen.{copy_seen, FactsFit};
+ghost use Rattle.vega_copies.specs.inner.Kept.{KeepsAll};
 ghost use Rattle.vega_copies.specs.inner.Levels.{names_at, rows_at, AreNames};
+ghost use Rattle.vega_copies.specs.inner.Made.{levels_behind, HaveCopies};
+ghost use Rattle.vega_copies.specs.inner.Outlined.{marks_in, marks_of};
+ghost use Rattle.vega_copies.specs.inner.Standing.{MayStand};
+ghost use Rattle.vega_drawing.specs.Drawings.{drawn_from_facts};
+ghost use Rattle.vega_charts.specs.Answers.{Comes};
+ghost use Rattle.vega_charts.specs.Charts.{drawing_of};
+ghost use Rattle.vega_charts.specs.Items.{items_in_copy};
+ghost use Rattle.vega_charts.specs.Scenes.{drawing_over};
 ghost use Rattle.vega_charts.specs.inner.Outcomes.{answered, can_be_counted, drawn_within, stopped, with_counted};
-ghost use Rattle.vega_copies.specs.inner.Outlined.{marks_in};
-ghost use Rattle.vega_charts.specs.inner.Topped.{drawn_grid, drawn_plot, grid_with_axes, held_top, is_of_chart, names_on_top, rows_on_top};
-ghost use Rattle.vega_charts.specs.inner.Topped.{scaled_grid, scaled_plot, sized_plot, top_of, top_seen, with_axes, IsTop};
+ghost use Rattle.vega_charts.specs.inner.Rows.{AreRowsOnPaths};
+ghost use Rattle.vega_charts.specs.inner.Topped.{names_on_top, rows_on_top, top_of};
 
-use crate::axes::{and_axes, axes_in};
-use crate::frames::{Frame, Sizing};
-use crate::grids::{Place, grid_view, plot_view};
-use crate::scales::{
-    AxisHere, OfChart, ScaleHere, ScaleKept, and_outer, own_scales, scale_in, set_of,
-};
-use crate::sizes::{number, padding_round, size_of};
+use crate::makers::RowItems;
 use cell_value::{Cell, Named};
 use expr_eval::EvalError;
-use fixed_num::Num;
-use guide_kit::GuideError;
-use mark_encode::IndexedSet;
-use plot_scenes::{Drawing, Placed, drawing_with};
-use scale_kit::ScaleIn;
+use plot_scenes::Drawing;
 use std::alloc::Global;
-use text_kit::{OutOfMemory, Seq, Text};
+use text_kit::{Seq, Text};
 use vega_copies::{
-    CopiesMade, Level, NamesAt, count_plots, keeps_signals, level_with, made_in, marks_in,
-    scales_in, with_level,
+    CopiesMade, CopyFacts, Level, NamesAt, count_plots, facts_of, level_with, made_in, marks_in,
+    with_level,
 };
-use vega_spec::{Layout, VgSpec};
+use vega_drawing::drawn;
+use vega_spec::VgSpec;
 
 /// As many plots in facets as a chart may have.
 const MOST_PANELS: u64 = 400;
@@ -64,330 +51,47 @@ pub enum DrawError {
     Memory,
 }
 
-// Adds a scale of the top where it belongs to the whole chart.
-fn push_chart_scale(
+// What is drawn where these are the facts of the top and of the copies in it.
+fn drawing_of_facts<'x>(
     alloc: Global,
-    frame: &Frame,
-    scale: &ScaleHere,
-    out: &mut Seq<ScaleIn>,
-) -> Result<(), OutOfMemory>
-    requires frame { IsFrame frame.now }
-    requires kept { IsKeptScale scale.now.kept.now }
-    ensures { OnOk result (out.new ≡ out.old
-        ++ map (scale_in frame.now.width frame.now.height) (filter is_of_chart (scale_seen scale.now ∷ []))) }
-{
-    if scale.kept.of_chart {
-        out.push(scale_in(alloc, frame.width, frame.height, scale)?)
-    } else {
-        Ok(())
-    }
-}
-
-// The scales of the top that belong to the whole chart, by their names.
-fn scales_of_chart(alloc: Global, frame: &Frame) -> Result<Seq<ScaleIn>, OutOfMemory>
-    requires { IsFrame frame.now }
-    ensures { IfOk result (λ scales. scales ≡ scales_of_chart (frame_seen frame.now)) }
-{
-    let mut out = Seq::new(alloc);
-    for scale in frame.scales {
-        push_chart_scale(alloc, frame, scale, &mut out)?;
-    }
-    Ok(out)
-}
-
-// What is drawn of the view of the top.
-fn drawn(alloc: Global, g: &VgSpec, frame: &Frame, view: Placed) -> Result<Drawing, EvalError>
-    requires frame { IsFrame frame.now }
-    requires legends { HasLegends view }
-    ensures { Evaluates result (drawing_with (padding_round g.now.padding) (scales_of_chart (frame_seen frame.now)) view) }
-{
-    let of_chart = scales_of_chart(alloc, frame)?;
-    match drawing_with(alloc, padding_round(g.padding), of_chart, view) {
-        Ok(drawing) => Ok(drawing),
-        Err(GuideError::Overflow) => Err(EvalError::Overflow),
-        Err(GuideError::Memory) => Err(EvalError::Memory),
-    }
-}
-
-// No length.
-fn no_length() -> Num
-    ensures value { result ≡ pos 0 }
-    ensures pixel { IsPixel result }
-{
-    number(0)
-}
-
-// The top as the one copy of itself, with its size.
-fn top_frame<'s, 'x, 'i>(
-    names: NamesAt<'x>,
-    scales: &'x [ScaleHere<'s, 'x>],
-    set: &'x IndexedSet<'i>,
-    width: Num,
-    height: Num,
-) -> Frame<'s, 'x, 'i>
-    ensures { result ≡ held_top names.entry scales.entry set.entry width height }
-{
-    Frame {
-        names,
-        scales,
-        set,
-        cells: None,
-        width,
-        height,
-        x: number(0),
-        y: number(0),
-    }
-}
-
-// What is drawn of the top where it is a plot of this size.
-fn draw_sized<'s, 'x, 'i>(
-    alloc: Global,
-    g: &'s VgSpec,
-    names: NamesAt<'x>,
-    made: &[CopiesMade],
-    scales: &'x [ScaleHere<'s, 'x>],
-    set: &'x IndexedSet<'i>,
-    width: Num,
-    height: Num,
+    g: &VgSpec,
+    sources: &'x [Named],
+    level: &'x Level,
+    made: &'x [CopiesMade],
+    facts: &CopyFacts,
 ) -> Result<Drawing, EvalError>
-    requires top { IsTop g.now names scales.now made.now }
-    requires set { set.now ≡ set_of width height (map scale_seen scales.now) }
-    requires sound { AreScales set.now }
-    requires width { IsPixel width }
-    requires height { IsPixel height }
-    ensures { Evaluates result (drawn_plot (map dataset_of names.entry.sources.now) g.now
-        (top_seen (names_at names.entry.sources.now names.entry.levels.now) (map scale_seen scales.now) width height)) }
+    requires kept { KeepsAll g.now }
+    requires rows { AreRowsOnPaths sources.now (top_made level.now made.now) }
+    requires fit { FactsFit (object_here (out-Group g.now.group)) (marks_of (marks_in (out-Group g.now.group))) facts.now }
+    ensures { Evaluates result (drawn_from_facts items_in_copy g.now (outline_of g.now)
+        (copy_seen (lists_on sources.now (top_made level.now made.now)) facts.now [] no_values)) }
 {
-    let place = Place {
-        frame: top_frame(names, scales, set, width, height),
-        axes: &[],
-        headers: &[],
-    };
-    match plot_view(alloc, &place, &g.group, made, 0, 0) {
-        Ok(view) => drawn(alloc, g, &place.frame, view),
-        Err(error) => Err(error),
-    }
-}
-
-// What is drawn of the top where it is a plot.
-fn draw_plot<'s>(
-    alloc: Global,
-    g: &'s VgSpec,
-    sizing: &Sizing<'s, '_>,
-    made: &[CopiesMade],
-) -> Result<Drawing, EvalError>
-    requires top { IsTop g.now sizing.now.names sizing.now.scales.now made.now }
-    ensures { Evaluates result (sized_plot (map dataset_of sizing.now.names.sources.now) g.now
-        (names_at sizing.now.names.sources.now sizing.now.names.levels.now) (map scale_seen sizing.now.scales.now)) }
-{
-    let width = match size_of(alloc, &g.width, sizing) {
-        Ok(width) => width,
-        Err(error) => return Err(error),
-    };
-    let height = match size_of(alloc, &g.height, sizing) {
-        Ok(height) => height,
-        Err(error) => return Err(error),
-    };
-    let set = set_of(alloc, width, height, sizing.scales)?;
-    let indexed = IndexedSet::of(alloc, &set)?;
-    draw_sized(
-        alloc,
-        g,
-        sizing.names,
+    let rows = RowItems {
+        sources,
+        level,
         made,
-        sizing.scales,
-        &indexed,
-        width,
-        height,
-    )
-}
-
-// The same where its own scales are known.
-fn plot_with_scales<'s>(
-    alloc: Global,
-    g: &'s VgSpec,
-    names: NamesAt,
-    made: &[CopiesMade],
-    own: &[ScaleKept<'s>],
-) -> Result<Drawing, EvalError>
-    requires kept { KeepsRules g.now }
-    requires names { AreNames names }
-    requires marks { HaveCopies names.sources.now names.levels.now (marks_in (out-Group g.now.group)) made.now }
-    requires own { All IsKeptScale own.now }
-    ensures { Evaluates result (sized_plot (map dataset_of names.entry.sources.now) g.now
-        (names_at names.entry.sources.now names.entry.levels.now) (and_outer [] (map kept_seen own.now))) }
-{
-    let scales = and_outer(alloc, own, &[])?;
-    let sizing = Sizing {
-        names,
-        scales: scales.as_slice(),
     };
-    draw_plot(alloc, g, &sizing, made)
+    drawn(alloc, g, facts, &rows)
 }
 
-// The same where its names are known.
-fn plot_over(
-    alloc: Global,
-    g: &VgSpec,
-    names: NamesAt,
-    made: &[CopiesMade],
-) -> Result<Drawing, EvalError>
-    requires kept { KeepsRules g.now }
-    requires names { AreNames names }
-    requires marks { HaveCopies names.sources.now names.levels.now (marks_in (out-Group g.now.group)) made.now }
-    ensures { Evaluates result (scaled_plot (map dataset_of names.entry.sources.now) g.now
-        (names_at names.entry.sources.now names.entry.levels.now)) }
-{
-    match own_scales(alloc, OfChart::Plot, &names, scales_in(&g.group)) {
-        Ok(own) => plot_with_scales(alloc, g, names, made, own.as_slice()),
-        Err(error) => Err(error),
-    }
-}
-
-// What is drawn of the top where it is a grid, with the axes in it.
-fn draw_axes<'s, 'x, 'i>(
-    alloc: Global,
-    g: &'s VgSpec,
-    layout: &Layout,
-    names: NamesAt<'x>,
-    made: &[CopiesMade],
-    scales: &'x [ScaleHere<'s, 'x>],
-    set: &'x IndexedSet<'i>,
-    axes: &'x [AxisHere<'s, 'x>],
-    size: Num,
-) -> Result<Drawing, EvalError>
-    requires top { IsTop g.now names scales.now made.now }
-    requires set { set.now ≡ set_of size size (map scale_seen scales.now) }
-    requires sound { AreScales set.now }
-    requires axes { AreKeptAxes axes.now }
-    requires columns { IfSome layout.now.columns IsCount }
-    requires size { IsPixel size }
-    ensures { Evaluates result (drawn_grid (map dataset_of names.entry.sources.now) g.now layout.now (with_axes (map axis_seen axes.now)
-        (top_seen (names_at names.entry.sources.now names.entry.levels.now) (map scale_seen scales.now) size size))) }
-{
-    let place = Place {
-        frame: top_frame(names, scales, set, size, size),
-        axes,
-        headers: &[],
-    };
-    match grid_view(alloc, &place, &g.group, made, layout, 0, 0) {
-        Ok(view) => drawn(alloc, g, &place.frame, view),
-        Err(error) => Err(error),
-    }
-}
-
-// What is drawn of the top where it is a grid.
-fn draw_grid<'s>(
-    alloc: Global,
-    g: &'s VgSpec,
-    layout: &Layout,
-    names: NamesAt,
-    made: &[CopiesMade],
-    scales: &[ScaleHere<'s, '_>],
-) -> Result<Drawing, EvalError>
-    requires top { IsTop g.now names scales.now made.now }
-    requires columns { IfSome layout.now.columns IsCount }
-    ensures { Evaluates result (grid_with_axes (map dataset_of names.entry.sources.now) g.now layout.now
-        (names_at names.entry.sources.now names.entry.levels.now) (map scale_seen scales.now)) }
-{
-    let size = no_length();
-    let set = set_of(alloc, size, size, scales)?;
-    let indexed = IndexedSet::of(alloc, &set)?;
-    let axes = and_axes(alloc, &[], scales, axes_in(&g.group))?;
-    draw_axes(
-        alloc,
-        g,
-        layout,
-        names,
-        made,
-        &*scales,
-        &indexed,
-        axes.as_slice(),
-        size,
-    )
-}
-
-// The same where its own scales are known.
-fn grid_with_scales<'s>(
-    alloc: Global,
-    g: &'s VgSpec,
-    layout: &Layout,
-    names: NamesAt,
-    made: &[CopiesMade],
-    own: &[ScaleKept<'s>],
-) -> Result<Drawing, EvalError>
-    requires kept { KeepsRules g.now }
-    requires names { AreNames names }
-    requires marks { HaveCopies names.sources.now names.levels.now (marks_in (out-Group g.now.group)) made.now }
-    requires columns { IfSome layout.now.columns IsCount }
-    requires own { All IsKeptScale own.now }
-    ensures { Evaluates result (grid_with_axes (map dataset_of names.entry.sources.now) g.now layout.now
-        (names_at names.entry.sources.now names.entry.levels.now) (and_outer [] (map kept_seen own.now))) }
-{
-    let scales = and_outer(alloc, own, &[])?;
-    draw_grid(alloc, g, layout, names, made, scales.as_slice())
-}
-
-// The same where its names are known.
-fn grid_over(
-    alloc: Global,
-    g: &VgSpec,
-    layout: &Layout,
-    names: NamesAt,
-    made: &[CopiesMade],
-) -> Result<Drawing, EvalError>
-    requires kept { KeepsRules g.now }
-    requires names { AreNames names }
-    requires marks { HaveCopies names.sources.now names.levels.now (marks_in (out-Group g.now.group)) made.now }
-    requires columns { IfSome layout.now.columns IsCount }
-    ensures { Evaluates result (scaled_grid (map dataset_of names.entry.sources.now) g.now layout.now
-        (names_at names.entry.sources.now names.entry.levels.now)) }
-{
-    match own_scales(alloc, OfChart::Grid, &names, scales_in(&g.group)) {
-        Ok(own) => grid_with_scales(alloc, g, layout, names, made, own.as_slice()),
-        Err(error) => Err(error),
-    }
-}
-
-// What is drawn where the names of the top are known, and each of its signals has a value.
-fn drawing_over(
-    alloc: Global,
-    g: &VgSpec,
-    names: NamesAt,
-    made: &[CopiesMade],
-) -> Result<Drawing, EvalError>
-    requires kept { KeepsRules g.now }
-    requires names { AreNames names }
-    requires marks { HaveCopies names.sources.now names.levels.now (marks_in (out-Group g.now.group)) made.now }
-    requires signals { keeps_signals (names_at names.sources.now names.levels.now) (top_of g.now).object ≡ true }
-    ensures { Evaluates result (drawing_over g.now (map dataset_of names.entry.sources.now) (top_of g.now)
-        (names_at names.entry.sources.now names.entry.levels.now)) }
-{
-    match &g.group.layout {
-        Some(layout) => grid_over(alloc, g, layout, names, made),
-        None => plot_over(alloc, g, names, made),
-    }
-}
-
-// What is drawn where the names of the top are known.
-fn drawing_kept(
+// What is drawn where these copies were made of the marks of the top.
+fn drawing_of_made(
     alloc: Global,
     g: &VgSpec,
     level: &Level,
     names: NamesAt,
     made: &[CopiesMade],
 ) -> Result<Drawing, EvalError>
-    requires kept { KeepsRules g.now }
+    requires kept { KeepsAll g.now }
     requires names { AreNames names }
     requires marks { HaveCopies names.sources.now names.levels.now (marks_in (out-Group g.now.group)) made.now }
-    requires level { names_at names.sources.now names.levels.now ≡ names_on_top names.sources.now level.now }
+    requires level { levels_behind names.levels.now ≡ level.now ∷ [] }
     ensures { Evaluates result (drawing_over g.now (map dataset_of names.entry.sources.now) (top_of g.now)
         (names_at names.entry.sources.now names.entry.levels.now)) }
 {
-    if keeps_signals(&[], level, &g.group) {
-        drawing_over(alloc, g, names, made)
-    } else {
-        Err(EvalError::Overflow)
+    match facts_of(alloc, &names, level, &g.group, made) {
+        Ok(facts) => drawing_of_facts(alloc, g, names.sources, level, made, &facts),
+        Err(error) => Err(error),
     }
 }
 
@@ -418,16 +122,16 @@ fn drawing_made(
     level: &Level,
     names: NamesAt,
 ) -> Result<Drawing, EvalError>
-    requires kept { KeepsRules g.now }
+    requires kept { KeepsAll g.now }
     requires names { AreNames names }
     requires marks { MayStand (rows_at names.sources.now names.levels.now) (marks_in (out-Group g.now.group)) }
-    requires level { names_at names.sources.now names.levels.now ≡ names_on_top names.sources.now level.now }
+    requires level { levels_behind names.levels.now ≡ level.now ∷ [] }
     requires counted { can_be_counted (map dataset_of names.sources.now) g.now (names_at names.sources.now names.levels.now) ≡ true }
     ensures { Evaluates result (drawing_over g.now (map dataset_of names.entry.sources.now) (top_of g.now)
         (names_at names.entry.sources.now names.entry.levels.now)) }
 {
     match made_in(alloc, &names, marks_in(&g.group)) {
-        Ok(made) => drawing_kept(alloc, g, level, names, made.as_slice()),
+        Ok(made) => drawing_of_made(alloc, g, level, names, made.as_slice()),
         Err(error) => Err(error),
     }
 }
@@ -440,10 +144,10 @@ fn drawing_counted(
     names: NamesAt,
     plots: u64,
 ) -> Result<Drawing, DrawError>
-    requires kept { KeepsRules g.now }
+    requires kept { KeepsAll g.now }
     requires names { AreNames names }
     requires marks { MayStand (rows_at names.sources.now names.levels.now) (marks_in (out-Group g.now.group)) }
-    requires level { names_at names.sources.now names.levels.now ≡ names_on_top names.sources.now level.now }
+    requires level { levels_behind names.levels.now ≡ level.now ∷ [] }
     requires counted { can_be_counted (map dataset_of names.sources.now) g.now (names_at names.sources.now names.levels.now) ≡ true }
     ensures { Comes (with_counted plots (in_reach (drawing_over g.now (map dataset_of names.entry.sources.now) (top_of g.now)
         (names_at names.entry.sources.now names.entry.levels.now)))) result }
@@ -462,10 +166,10 @@ fn drawing_within(
     level: &Level,
     names: NamesAt,
 ) -> Result<Drawing, DrawError>
-    requires kept { KeepsRules g.now }
+    requires kept { KeepsAll g.now }
     requires names { AreNames names }
     requires marks { MayStand (rows_at names.sources.now names.levels.now) (marks_in (out-Group g.now.group)) }
-    requires level { names_at names.sources.now names.levels.now ≡ names_on_top names.sources.now level.now }
+    requires level { levels_behind names.levels.now ≡ level.now ∷ [] }
     ensures { Comes (drawn_within (map dataset_of names.entry.sources.now) g.now
         (names_at names.entry.sources.now names.entry.levels.now)) result }
 {
@@ -488,7 +192,7 @@ fn drawing_at(
     sources: &[Named],
     level: &Level,
 ) -> Result<Drawing, DrawError>
-    requires kept { KeepsRules g.now }
+    requires kept { KeepsAll g.now }
     requires sources { AreSources sources.now }
     requires rows { AreAllRows (rows_on_top sources.now level.now) }
     requires marks { MayStand (rows_on_top sources.now level.now) (marks_in (out-Group g.now.group)) }

@@ -1,20 +1,10 @@
-//! What is drawn of whole Vega specifications: their scales, facets, plots, grids and legends, from the copies of their groups.
+//! What is drawn of whole Vega specifications: their copies are made over rows and counted, their facts told, and drawn with the items of
+//! their marks over rows.
 #![tactic(auto)]
 
-mod axes;
 mod charts;
-mod frames;
-mod grids;
-mod headers;
-mod inside;
 mod laws;
-mod layouts;
-mod legends;
-mod plots;
-mod scales;
-mod sizes;
-mod spots;
-mod units;
+mod makers;
 
 pub use charts::{DrawError, drawing_of};
 pub use laws::{laws_of_charts, laws_of_one_plot};

@@ -15,7 +15,7 @@ use Rattle.vega_lists.specs.Products.{Products, KeysFit}
 use Rattle.vega_copies.specs.declared.copies.CopyOf.{CopyOf}
 use Rattle.vega_copies.specs.declared.names.NamesAt.{NamesAt}
 use Rattle.vega_copies.specs.Outlines.{facet_in}
-use Rattle.vega_copies.specs.Built.{with_part_products, products_in_copy}
+use Rattle.vega_copies.specs.Fitting.{with_part_products, products_in_copy}
 use Rattle.vega_copies.specs.inner.Levels.{rows_at, parts_over, AreParts}
 use Rattle.vega_copies.specs.inner.Copied.{IsCopy}
 use Rattle.vega_copies.specs.inner.Counted.{bare_part, bare_named, parts_of_bare, bare_copy}

@@ -1,10 +1,10 @@
--- Where the test of a chart holds, it has a meaning and keeps the rules.
+-- What follows of the rules that a specification keeps.
 use Rattle.std.proofs.Common.{◌≡◌, ℕ, ◌+◌, ◌*◌, ◌^◌, ◌<◌, ◌&&◌, ◌||◌, ℤ, pos, ◌≤ℤ◌, Bool, true, false, IsTrue, IfSome, List, [], ◌∷◌, Option}
-use Rattle.std.proofs.Common.{Some, None, unwrap_or, nat_lt, refl, sym, subst, arith}
+use Rattle.std.proofs.Common.{Some, None, unwrap_or, nat_lt, sym, subst, arith}
 use Rattle.std.specs.Option.{option_map_or}
 use Rattle.std.specs.List.{All, list_all}
 use Rattle.std.proofs.lemmas.Int.{ints}
-use Rattle.std.proofs.lemmas.Bool.{false≢true, and_parts as both, and_from as together}
+use Rattle.std.proofs.lemmas.Bool.{false≢true, and_parts as both}
 use Rattle.std.proofs.lemmas.Bool.Decides.{nat_tests}
 use Rattle.std.proofs.lemmas.List.Elements.{All-cons, All-nil}
 use Rattle.fixed_num.specs.Number.{million}
@@ -26,12 +26,11 @@ use Rattle.vega_scales.specs.Scales as scaling
 use Rattle.vega_signals.specs.Signals.{data_of}
 use Rattle.vega_guides.specs.Tested.{is_kept_axis}
 use Rattle.vega_guides.specs.Shown.{IsAxis, IsCount}
-use Rattle.vega_copies.specs.Built.{IsSizeKept}
 use Rattle.vega_copies.specs.Outlines.{Object, Marks, NoMarks, AMark, AGroup, outline_of, count_marks, count_groups}
-use Rattle.vega_copies.specs.Built.{is_plain_object, are_plain, KeepsObject, KeepsMarks, KeepsRules}
+use Rattle.vega_copies.specs.inner.Kept.{IsSizeKept, KeepsObject, KeepsMarks, KeepsAll}
 use Rattle.vega_copies.specs.Fitting.{folds_fit}
 use Rattle.vega_copies.specs.Tested.{is_padding, is_pixel, is_range, is_set, has_places, is_scale, is_count, is_size, is_space}
-use Rattle.vega_copies.specs.Tested.{is_object, are_objects, are_few, is_outline, has_sizes, are_new, ChartsAreTested}
+use Rattle.vega_copies.specs.Tested.{keeps_object, all_objects, are_few, is_outline, has_sizes, are_new, keeps_rules, is_built, is_chart, KeepsRules}
 use Rattle.vega_copies.proofs.FitLaw as fit
 use Rattle.vega_copies.proofs.NewNames.{apart}
 use Rattle.vega_copies.proofs.OutlineLemmas.{opened_object}
@@ -106,45 +105,39 @@ module _ (s : VegaScale) (e : is_scale s ≡ true) where
         ends = λ other. places (given_ends s.range) (either (is_ordinal s) _ d.1 other);
       }
 
--- what an object keeps, and that it has no selections
-object_kept : (o : Object) → is_object o ≡ true → KeepsObject o × (is_plain_object o ≡ true)
+-- what an object keeps
+object_kept : (o : Object) → keeps_object o ≡ true → KeepsObject o
 object_kept o e =
-    let plain = both (is_plain_object o) _ e in
-    let sets = both (list_all is_set o.sets) _ plain.1 in
+    let sets = both (list_all is_set o.sets) _ e in
     let scales = both (list_all is_scale o.scales) _ sets.1 in
-    let axes = both (list_all is_kept_axis o.axes) _ scales.1 in (
-      record {
-        sets = each is_set (OfTransforms is_kept) kept_set o.sets sets.0;
-        scales = each is_scale (λ s. IsTrue (scaling.is_built s)) built_scale o.scales scales.0;
-        domains = each is_scale (λ (s : VegaScale). IsTrue (is_domain_built s.domain)) built_domain o.scales scales.0;
-        bounds = each is_scale KeepsBounds kept_bounds o.scales scales.0;
-        axes = each is_kept_axis IsAxis kept_axis o.axes axes.0;
-        columns = counted (o.layout >>= λ (l : Layout). l.columns) axes.1;
-      },
-      plain.0,
-    )
+    let axes = both (list_all is_kept_axis o.axes) _ scales.1 in
+    record {
+      sets = each is_set (OfTransforms is_kept) kept_set o.sets sets.0;
+      scales = each is_scale (λ s. IsTrue (scaling.is_built s)) built_scale o.scales scales.0;
+      domains = each is_scale (λ (s : VegaScale). IsTrue (is_domain_built s.domain)) built_domain o.scales scales.0;
+      bounds = each is_scale KeepsBounds kept_bounds o.scales scales.0;
+      axes = each is_kept_axis IsAxis kept_axis o.axes axes.0;
+      columns = counted (o.layout >>= λ (l : Layout). l.columns) axes.1;
+    }
 
 -- the same of each object among marks
-marks_kept : (marks : Marks) → are_objects marks ≡ true → KeepsMarks marks × (are_plain marks ≡ true)
-marks_kept NoMarks e = (tt, refl)
+marks_kept : (marks : Marks) → all_objects keeps_object marks ≡ true → KeepsMarks marks
+marks_kept NoMarks e = tt
 marks_kept (AMark unit mark others) e = marks_kept others e
 marks_kept (AGroup o inside others) e =
-    let own = both (is_object o) _ e in
-    let parts = both (are_objects inside) (are_objects others) own.1 in
-    let here = object_kept o own.0 in
-    let deeper = marks_kept inside parts.0 in
-    let later = marks_kept others parts.1 in
-    ((here.0, deeper.0, later.0), together (is_plain_object o) _ here.1 (together (are_plain inside) _ deeper.1 later.1))
+    let own = both (keeps_object o) _ e in
+    let parts = both (all_objects keeps_object inside) (all_objects keeps_object others) own.1 in
+    (object_kept o own.0, marks_kept inside parts.0, marks_kept others parts.1)
 
 few : (n : ℕ) → nat_lt n (2 ^ 32) ≡ true → n < 2 ^ 32
 few n e = grind (arith, nat_tests)
 
-pub law : ChartsAreTested
-law g e =
+pub rules_kept : (g : VgSpec) → KeepsRules g → KeepsAll g
+rules_kept g e =
     let top = outline_of g in
-    let parts = both (is_outline top) (has_sizes g && are_new [] (sources_of g)) e in
-    let object = both (is_object top.object) _ parts.0 in
-    let marks = both (are_objects top.marks) _ object.1 in
+    let parts = both (is_outline keeps_object top) (has_sizes g && are_new [] (sources_of g)) e in
+    let object = both (keeps_object top.object) _ parts.0 in
+    let marks = both (all_objects keeps_object top.marks) _ object.1 in
     let counts = both (are_few top.marks) (folds_fit top.object.sets top.marks) marks.1 in
     let numbers = both (nat_lt (count_marks top.marks) (2 ^ 32)) (nat_lt (1 + count_groups top.marks) (2 ^ 32)) counts.0 in
     let folds = fit.law top.object.sets top.marks counts.1 in
@@ -152,27 +145,30 @@ law g e =
     let width = both (is_size g.width) _ others.0 in
     let height = both (is_size g.height) (option_map_or is_space g.padding true) width.1 in
     let space = space_kept g.padding height.1 in
-    let own = object_kept top.object object.0 in
-    let deeper = marks_kept top.marks marks.0 in (
-      record {
-        top = own.0;
-        marks = deeper.0;
-        folds = folds.0;
-        folds_inside = folds.1;
-        few_marks = few (count_marks top.marks) numbers.0;
-        few_groups = few (1 + count_groups top.marks) numbers.1;
-        width = size_kept g.width width.0;
-        height = size_kept g.height height.0;
-        padding_low = space.0;
-        padding_high = space.1;
-        apart = apart (sources_of g) others.1;
-      },
-      holds _ (together (is_plain_object top.object) (are_plain top.marks) own.1 deeper.1),
-    )
+    record {
+      top = object_kept top.object object.0;
+      marks = marks_kept top.marks marks.0;
+      folds = folds.0;
+      folds_inside = folds.1;
+      few_marks = few (count_marks top.marks) numbers.0;
+      few_groups = few (1 + count_groups top.marks) numbers.1;
+      width = size_kept g.width width.0;
+      height = size_kept g.height height.0;
+      padding_low = space.0;
+      padding_high = space.1;
+      apart = apart (sources_of g) others.1;
+    }
+
+-- a chart breaks no rule
+pub breaks_none : (g : VgSpec) → is_chart g ≡ true → KeepsRules g
+breaks_none g e = (both (is_built g) (keeps_rules g) e).1
+
+pub chart_kept : (g : VgSpec) → is_chart g ≡ true → KeepsAll g
+chart_kept g e = rules_kept g (breaks_none g e)
 
 -- what the data sets of the top keep
-pub sets_of_top : (g : VgSpec) → KeepsRules g → All (OfTransforms is_kept) (data_of (out-Group g.group))
+pub sets_of_top : (g : VgSpec) → KeepsAll g → All (OfTransforms is_kept) (data_of (out-Group g.group))
 sets_of_top g h = subst (λ (o : Object). All (OfTransforms is_kept) o.sets) (opened_object g.group) h.top.sets
 
-pub folds_of_top : (g : VgSpec) → KeepsRules g → FoldsFit no_folds (data_of (out-Group g.group))
+pub folds_of_top : (g : VgSpec) → KeepsAll g → FoldsFit no_folds (data_of (out-Group g.group))
 folds_of_top g h = subst (λ (o : Object). FoldsFit no_folds o.sets) (opened_object g.group) h.folds

@@ -35,7 +35,7 @@ use Rattle.vega_copies.specs.declared.copies.CopyOf.{CopyOf}
 use Rattle.vega_copies.specs.declared.names.NamesAt.{NamesAt}
 use Rattle.vega_copies.specs.Outlines.{facet_in}
 use Rattle.vega_copies.specs.Facets.{Copy, part_named, copy_with, only_copy, copies_of, divided_by, rows_divided, second_of_two, across_by}
-use Rattle.vega_copies.specs.Built.{with_part_products, products_in_copy}
+use Rattle.vega_copies.specs.Fitting.{with_part_products, products_in_copy}
 use Rattle.vega_copies.specs.inner.Counted.{copies_with_rows}
 use Rattle.vega_copies.specs.inner.Levels.{rows_at, rows_behind, parts_over, AreNames, AreParts}
 use Rattle.vega_copies.specs.inner.Outlined.{group_object}

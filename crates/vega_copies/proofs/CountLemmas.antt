@@ -52,10 +52,6 @@ module _ {X : Type 0} (f : X → Option ℕ) (xs : List X) (i : ℕ) (x : X) (wi
       ap (λ k. counted_from k (map f (drop (i + 1) xs))) is
       ∙ one_more count n (f x) (map f (drop (i + 1) xs)) whole e (ap (counted_from count) (sym left) ∙ so_far)
 
-  pub stops_at : (count : ℕ) (whole : Option ℕ) (error : EvalError) → counted_from count (map f (drop i xs)) ≡ whole → Evaluates {X = ℕ} (Err error) (f x)
-      → Evaluates {X = ℕ} (Err error) whole
-  stops_at count whole error so_far e = one_stops count (f x) (map f (drop (i + 1) xs)) whole error (ap (counted_from count) (sym left) ∙ so_far) e
-
 -- sums that stop at a greatest number
 pub capped : (most c a k : ℕ) → min (min (c + min a most) most + k) most ≡ min (c + (a + k)) most
 capped most c a k = grind arith
@@ -166,11 +162,6 @@ pub none_with_itself : (b : Bool) (inside : Option ℕ) (error : EvalError) → 
 none_with_itself b None Overflow e = refl
 none_with_itself b (Some k) Overflow e = absurd (cc)
 none_with_itself b inside Memory e = tt
-
--- a mark that is no group
-pub plain_counts : (sources : List Dataset) (in_facet in_grid : Bool) (names : Names) (m : VgMark) → is_group (out-VgMark m) ≡ false
-    → plots_alone sources in_facet in_grid names m ≡ Some 0
-plain_counts sources in_facet in_grid names m e = ap (λ row. counted (plots_in_facets sources row in_facet in_grid names)) (plain_first m (marks_of []) e)
 
 -- names that are lacking count nothing
 names_stop : (b : Bool) (inside : Names → Option ℕ) (found : Option Names) (error : EvalError) → Evaluates {X = Names} (Err error) found

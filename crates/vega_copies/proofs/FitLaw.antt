@@ -12,8 +12,8 @@ use Rattle.vega_spec.specs.declared.transforms.Transform.{Transform}
 use Rattle.vega_lists.specs.Transforms.{transforms_of}
 use Rattle.vega_lists.specs.Products.{Products, no_folds, fold_length, fold_product, fold_products, most_folded, ProductsFit, FoldsFit, with_product, begun_product, and_its_product, products_after}
 use Rattle.vega_copies.specs.Outlines.{Marks, NoMarks, AMark, AGroup}
-use Rattle.vega_copies.specs.Built.{products_in_copy, FoldsFitIn}
-use Rattle.vega_copies.specs.Fitting.{fitted, products_fitted, folds_fit_in, folds_fit}
+use Rattle.vega_copies.specs.Fitting.{fitted, products_fitted, products_in_copy, folds_fit_in, folds_fit}
+use Rattle.vega_copies.specs.inner.Kept.{FoldsFitIn}
 
 abbrev pub is_small : ℕ → Type 0
 is_small product = product ≤ most_folded

@@ -7,10 +7,14 @@ pub mod StandLemmas
 pub mod NewNames
 pub mod ProductLemmas
 pub mod TreeLemmas
+pub mod DepthLemmas
 pub mod FitLaw
 pub mod ChartLaw
 pub mod PassLaw
 pub mod MadeLemmas
+pub mod SeenFacts
+pub mod FactsLemmas
+pub mod PathLemmas
 pub mod PanelLemmas
 pub mod BareLemmas
 pub mod AlikeLemmas

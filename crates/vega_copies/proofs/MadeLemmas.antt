@@ -1,5 +1,5 @@
 -- Trees of copies: marks one after the other, and the copies of a group.
-use Rattle.std.proofs.Common.{◌≡◌, ℕ, ◌+◌, ◌<◌, Bool, true, false, cond, Some, None, List, [], ◌∷◌, ◌++◌, map, length, drop, take, get_or, Bor, refl, sym, ap, ◌∙◌, subst, append-nil, append_assoc, add-one, Global}
+use Rattle.std.proofs.Common.{◌≡◌, ℕ, ◌+◌, ◌<◌, Bool, true, false, Some, List, [], ◌∷◌, ◌++◌, map, length, drop, take, get_or, Bor, refl, sym, ap, ◌∙◌, subst, append-nil, append_assoc, add-one, Global}
 use Rattle.std.specs.List.{All, AllZip}
 use Rattle.std.proofs.lemmas.List.{drop_more, map-append, nil_from_length}
 use Rattle.std.specs.declared.vec.IntoIter.{IntoIter}
@@ -18,11 +18,11 @@ use Rattle.vega_copies.specs.declared.made.CopyMade.{CopyMade, CopyMade-F, out-C
 use Rattle.vega_copies.specs.declared.names.Level.{Level}
 use Rattle.vega_copies.specs.declared.names.NamesAt.{NamesAt}
 use Rattle.vega_copies.specs.Outlines.{Marks, object_here}
-use Rattle.vega_copies.specs.Scopes.{Names, names_in_object, keeps_signals}
+use Rattle.vega_copies.specs.Scopes.{Names, names_in_object}
 use Rattle.vega_copies.specs.CopyNames.{names_in_copy}
 use Rattle.vega_copies.specs.Facets.{Copy, copies_of, columns_across}
 use Rattle.vega_copies.specs.inner.Copied.{copy_seen}
-use Rattle.vega_copies.specs.inner.Levels.{parts_over, rows_at, names_at, names_over, names_with_level, rows_with_level, kept_names, AreLevels}
+use Rattle.vega_copies.specs.inner.Levels.{parts_over, rows_at, names_at, names_over, names_with_level, rows_with_level, AreLevels}
 use Rattle.vega_copies.specs.inner.Made.{levels_behind, rows_under, names_under, made_seen, IsGroupMade, IsNoGroup, AreMade, OneMade, IsCopyMade, HaveCopies}
 use Rattle.vega_copies.specs.inner.Outlined.{marks_in, marks_of, is_group, group_object}
 use Rattle.vega_copies.specs.inner.Standing.{MayStand, MarksMayFold}
@@ -237,11 +237,6 @@ pub stand_with : (outer : NamesAt) (level : Level) (levels : List (Bor Level)) (
     → levels_behind levels ≡ level ∷ levels_behind outer.levels.now → MayStand (rows_with_level outer level) marks → MayStand (rows_at outer.sources.now levels) marks
 stand_with outer level levels marks more stand = subst (λ rows. MayStand rows marks) (sym (rows_entered outer level levels more)) stand
 
-pub made_with : (outer : NamesAt) (level : Level) (levels : List (Bor Level)) (marks : List VgMark) (found : List CopiesMade)
-    → levels_behind levels ≡ level ∷ levels_behind outer.levels.now → AllZip (OneMade outer.sources.now (levels_behind levels)) marks found
-    → AllZip (OneMade outer.sources.now (level ∷ levels_behind outer.levels.now)) marks found
-made_with outer level levels marks found more each = subst (λ l. AllZip (OneMade outer.sources.now l) marks found) more each
-
 -- ---- copies that are entered
 
 module _ (sources : List Named) (outer : List (Bor Level)) (m : VgMark) (made : CopyMade) (is : IsCopyMade sources (levels_behind outer) (out-VgMark m) made) where
@@ -252,16 +247,6 @@ module _ (sources : List Named) (outer : List (Bor Level)) (m : VgMark) (made : 
   names_in_made number =
       ap (λ (names : Names). names_in_copy (map dataset_of sources) names (group_object number (out-VgMark m)) (made_seen made)) (names_are_under sources outer)
       ∙ is.names
-
-  -- the same where each of its own signals has a value, or one has none
-  pub kept_in_made : (number : ℕ) (b : Bool)
-      → keeps_signals (names_under sources ((out-CopyMade made).level ∷ levels_behind outer)) (group_object number (out-VgMark m)) ≡ b
-      → kept_names (group_object number (out-VgMark m))
-      (names_in_copy (map dataset_of sources) (names_at sources outer) (group_object number (out-VgMark m)) (made_seen made))
-      ≡ cond b (Some (names_under sources ((out-CopyMade made).level ∷ levels_behind outer))) None
-  kept_in_made number b keeps =
-      ap (kept_names (group_object number (out-VgMark m))) (names_in_made number)
-      ∙ ap (λ b. cond b (Some (names_under sources ((out-CopyMade made).level ∷ levels_behind outer))) None) keeps
 
   module _ (levels : List (Bor Level)) (more : levels_behind levels ≡ (out-CopyMade made).level ∷ levels_behind outer) where
     -- the names where its level is the innermost
@@ -295,11 +280,6 @@ module _ (sources : List Named) (levels : List (Bor Level)) (m : VgMark) (found 
   copies_are number =
       (copies_made sources (levels_behind levels) m found e one).copies
       ∙ ap (λ (names : Names). copies_of names.lists (group_object number (out-VgMark m))) (sym (names_are_under sources levels))
-
-  pub across_is : (number : ℕ) → (out-CopiesMade found).across ≡ columns_across (names_at sources levels).lists (group_object number (out-VgMark m))
-  across_is number =
-      (copies_made sources (levels_behind levels) m found e one).across
-      ∙ ap (λ (names : Names). columns_across names.lists (group_object number (out-VgMark m))) (sym (names_are_under sources levels))
 
   pub each_copy_made : All (IsCopyMade sources (levels_behind levels) (out-VgMark m)) (out-CopiesMade found).copies
   each_copy_made = (copies_made sources (levels_behind levels) m found e one).sound

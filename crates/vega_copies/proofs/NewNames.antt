@@ -1,12 +1,12 @@
 -- Names that stand once each.
-use Rattle.std.proofs.Common.{◌≡◌, ℕ, ◌+◌, ◌<◌, Bool, true, false, cond, not, ◌&&◌, ◌||◌, List, [], ◌∷◌, ◌++◌, length, take, drop, get_or}
+use Rattle.std.proofs.Common.{◌≡◌, ℕ, ◌+◌, ◌<◌, Bool, true, false, cond, not, ◌&&◌, ◌||◌, List, [], ◌∷◌, ◌++◌, length, get_or}
 use Rattle.std.proofs.Common.{refl, sym, ap, subst, ◌∙◌, append_assoc, arith}
 use Rattle.std.specs.Prelude.{◌≢◌}
 use Rattle.std.specs.List.{list_any, AllPairs}
 use Rattle.std.specs.Str.{bytes_eq}
 use Rattle.std.proofs.lemmas.Bool.Decides.{same_from_decides, Decides-like}
-use Rattle.std.proofs.lemmas.List.{append-nil, drop_more, take_more}
-use Rattle.std.proofs.lemmas.List.Folds.{list_any_more, list_any_at}
+use Rattle.std.proofs.lemmas.List.{append-nil}
+use Rattle.std.proofs.lemmas.List.Folds.{list_any_at}
 use Rattle.std.proofs.lemmas.List.Quantifiers.{all_pairs_push}
 use Rattle.std.proofs.lemmas.Slice.Eq.{bytes_eq-Decides}
 use Rattle.vega_copies.specs.Tested.{are_new}
@@ -25,33 +25,6 @@ pub added : (q name field : List ℕ) (old new : Bool) → name ≡ field → ne
     → new ≡ (old || bytes_eq q field)
 added q name field old new same after =
     after ∙ chosen_or (bytes_eq name q) old ∙ ap (λ (b : Bool). old || b) (bytes_eq-flips name q ∙ ap (bytes_eq q) same)
-
-module _ (names : List (List ℕ)) (i : ℕ) (name : List ℕ) (within : i < length names) (is : name ≡ get_or names i name) where
-  at_name : drop i names ≡ name ∷ drop (i + 1) names
-  at_name = drop_more names i name within ∙ ap (λ name. name ∷ drop (i + 1) names) (sym is)
-
-  to_name : take (i + 1) names ≡ take i names ++ name ∷ []
-  to_name = take_more names i name within ∙ ap (λ name. take i names ++ name ∷ []) (sym is)
-
-  -- a name that was seen
-  pub seen_again : (whole : Bool) → list_any (bytes_eq name) (take i names) ≡ true → are_new (take i names) (drop i names) ≡ whole
-      → false ≡ whole
-  seen_again whole seen rest =
-      let here : are_new (take i names) (drop i names) ≡ false = rw (at_name, seen) refl in
-      sym here ∙ rest
-
-  -- one that wasn't
-  pub one_new : (whole : Bool) → list_any (bytes_eq name) (take i names) ≡ false → are_new (take i names) (drop i names) ≡ whole
-      → are_new (take (i + 1) names) (drop (i + 1) names) ≡ whole
-  one_new whole unseen rest =
-      let here : are_new (take i names) (drop i names) ≡ are_new (take i names ++ name ∷ []) (drop (i + 1) names) = rw
-      (at_name, unseen) refl in
-      ap (λ before. are_new before (drop (i + 1) names)) to_name ∙ sym here ∙ rest
-
-  pub seen_more : (q : List ℕ) (old new : Bool) → old ≡ list_any (bytes_eq q) (take i names) → new ≡ (old || bytes_eq q name)
-      → new ≡ list_any (bytes_eq q) (take (i + 1) names)
-  seen_more q old new was after =
-      after ∙ (λ j. was j || bytes_eq q (is j)) ∙ sym (list_any_more (bytes_eq q) names i name within)
 
 both : (a b : Bool) → (not a && b) ≡ true → (a ≡ false) × (b ≡ true)
 both true b h = absurd (cc)

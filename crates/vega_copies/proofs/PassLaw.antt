@@ -1,4 +1,4 @@
--- What has a meaning and keeps the rules passes the test of a chart.
+-- What keeps what the crates below ask for keeps the rules.
 use Rattle.std.proofs.Common.{◌≡◌, ℕ, ◌+◌, ◌*◌, ◌^◌, ◌<◌, ◌≤◌, ◌&&◌, ◌||◌, zero, suc, ℤ, pos, ◌≤ℤ◌, Bool, true, false, cond, not, IsTrue, IfSome, List, [], ◌∷◌, ◌++◌, Option}
 use Rattle.std.proofs.Common.{Some, None, unwrap_or, nat_lt, nat_le, length, get_or, refl, sym, ap, subst, ◌∙◌, arith, append_assoc}
 use Rattle.std.specs.Prelude.{◌≢◌}
@@ -6,7 +6,7 @@ use Rattle.std.specs.Option.{option_map, option_map_or}
 use Rattle.std.specs.List.{All, AllPairs, list_all, list_any}
 use Rattle.std.specs.Str.{bytes_eq}
 use Rattle.std.proofs.lemmas.Int.{ints}
-use Rattle.std.proofs.lemmas.Bool.{false≢true, and_from as both, and_parts as parts}
+use Rattle.std.proofs.lemmas.Bool.{false≢true, and_from as both}
 use Rattle.std.proofs.lemmas.Bool.Decides.{nat_tests}
 use Rattle.std.proofs.lemmas.List.Elements.{All-head, All-tail}
 use Rattle.std.proofs.lemmas.Slice.Eq.{bytes_eq-Decides}
@@ -18,6 +18,7 @@ use Rattle.vega_spec.specs.declared.guides.Layout.{Layout}
 use Rattle.vega_spec.specs.declared.scales.Scale.{Scale as VegaScale}
 use Rattle.vega_spec.specs.declared.spec.Size.{Size}
 use Rattle.vega_spec.specs.declared.spec.Size.TheVariants as size
+use Rattle.vega_spec.specs.declared.spec.VgSpec.{VgSpec}
 use Rattle.vega_spec.specs.Names.{sources_of}
 use Rattle.vega_lists.specs.Transforms.{transforms_of, is_kept, OfTransforms}
 use Rattle.vega_lists.specs.Products.{Products, no_folds, fold_length, fold_product, fold_products, most_folded, ProductsFit, FoldsFit, with_product, begun_product, and_its_product, products_after}
@@ -26,12 +27,11 @@ use Rattle.vega_scales.specs.Scales.{given_ends, is_domain_built, is_ordinal, Ke
 use Rattle.vega_scales.specs.Scales as scaling
 use Rattle.vega_guides.specs.Tested.{is_kept_axis}
 use Rattle.vega_guides.specs.Shown.{IsAxis, IsCount}
-use Rattle.vega_copies.specs.Built.{IsSizeKept}
 use Rattle.vega_copies.specs.Outlines.{Object, Marks, NoMarks, AMark, AGroup, outline_of, count_marks, count_groups}
-use Rattle.vega_copies.specs.Built.{is_plain_object, are_plain, products_in_copy, FoldsFitIn, KeepsObject, KeepsMarks}
-use Rattle.vega_copies.specs.Fitting.{fitted, products_fitted, folds_fit_in, folds_fit}
+use Rattle.vega_copies.specs.inner.Kept.{IsSizeKept, FoldsFitIn, KeepsObject, KeepsMarks, KeepsAll}
+use Rattle.vega_copies.specs.Fitting.{fitted, products_fitted, products_in_copy, folds_fit_in, folds_fit}
 use Rattle.vega_copies.specs.Tested.{is_padding, is_pixel, is_range, is_set, has_places, is_scale, is_count, has_columns, is_size, is_space}
-use Rattle.vega_copies.specs.Tested.{is_object, are_objects, are_few, is_outline, has_sizes, are_new, ChartsPass}
+use Rattle.vega_copies.specs.Tested.{keeps_object, all_objects, are_few, is_outline, has_sizes, are_new, KeepsRules}
 use Rattle.vega_copies.proofs.FitLaw.{is_small}
 
 -- where each has a property, each passes a test
@@ -93,22 +93,19 @@ kept_scale s built domain bounds =
     (both (option_map_or is_padding s.padding_outer true) (has_places s) (given s.padding_outer bounds.outer)
     (either (is_ordinal s) _ (λ other. places (given_ends s.range) (bounds.ends other)))))))
 
-object_passes : (o : Object) → KeepsObject o → is_plain_object o ≡ true → is_object o ≡ true
-object_passes o h plain =
-    both (is_plain_object o) _ plain
-    (both (list_all is_set o.sets) _ (each is_set (OfTransforms is_kept) kept_set o.sets h.sets)
+pub object_passes : (o : Object) → KeepsObject o → keeps_object o ≡ true
+object_passes o h =
+    both (list_all is_set o.sets) _ (each is_set (OfTransforms is_kept) kept_set o.sets h.sets)
     (both (list_all is_scale o.scales) _ (each_three o.scales h.scales h.domains h.bounds kept_scale)
     (both (list_all is_kept_axis o.axes) (has_columns o.layout) (each is_kept_axis IsAxis (λ a k. counted a.tick_count k) o.axes h.axes)
-    (counted (o.layout >>= λ (l : Layout). l.columns) h.columns))))
+    (counted (o.layout >>= λ (l : Layout). l.columns) h.columns)))
 
-marks_pass : (marks : Marks) → KeepsMarks marks → are_plain marks ≡ true → are_objects marks ≡ true
-marks_pass NoMarks h plain = refl
-marks_pass (AMark unit mark others) h plain = marks_pass others h plain
-marks_pass (AGroup o inside others) h plain =
-    let own = parts (is_plain_object o) (are_plain inside && are_plain others) plain in
-    let deeper = parts (are_plain inside) (are_plain others) own.1 in
-    both (is_object o) (are_objects inside && are_objects others) (object_passes o h.0 own.0)
-    (both (are_objects inside) (are_objects others) (marks_pass inside h.1 deeper.0) (marks_pass others h.2 deeper.1))
+pub marks_pass : (marks : Marks) → KeepsMarks marks → all_objects keeps_object marks ≡ true
+marks_pass NoMarks h = refl
+marks_pass (AMark unit mark others) h = marks_pass others h
+marks_pass (AGroup o inside others) h =
+    both (keeps_object o) (all_objects keeps_object inside && all_objects keeps_object others) (object_passes o h.0)
+    (both (all_objects keeps_object inside) (all_objects keeps_object others) (marks_pass inside h.1) (marks_pass others h.2))
 
 few : (n : ℕ) → n < 2 ^ 32 → nat_lt n (2 ^ 32) ≡ true
 few n h = grind (arith, nat_tests)
@@ -185,18 +182,25 @@ new_from before (name ∷ names) h =
     fresh (list_any (bytes_eq name) before) (are_new (before ++ name ∷ []) names) (not_among name before (apart name names before h))
     (new_from (before ++ name ∷ []) names (subst (AllPairs (λ a b. a ≢ b)) (sym (append_assoc before (name ∷ []) names)) h))
 
-pub law : ChartsPass
-law g h built =
+-- the folds of an object, and those of the groups in it
+pub folds_pass : (sets : List DataSet) (marks : Marks) → FoldsFit no_folds sets → FoldsFitIn (products_after no_folds sets) marks → folds_fit sets marks ≡ true
+folds_pass sets marks h inside = object_fits no_folds sets marks h (fit (products_after no_folds sets) marks inside)
+
+-- the sizes of a picture
+pub sizes_pass : (g : VgSpec) → IsSizeKept g.width → IsSizeKept g.height → pos 0 ≤ℤ unwrap_or g.padding (pos 0)
+    → unwrap_or g.padding (pos 0) ≤ℤ pos (1000 * million) → has_sizes g ≡ true
+sizes_pass g width height low high =
+    both (is_size g.width) _ (size_kept g.width width)
+    (both (is_size g.height) (option_map_or is_space g.padding true) (size_kept g.height height) (space_kept g.padding low high))
+
+pub rules_pass : (g : VgSpec) → KeepsAll g → KeepsRules g
+rules_pass g h =
     let top = outline_of g in
-    let plain = parts (is_plain_object top.object) (are_plain top.marks) built in
-    both (is_outline top) (has_sizes g && are_new [] (sources_of g))
-    (both (is_object top.object) _ (object_passes top.object h.top plain.0)
-    (both (are_objects top.marks) _ (marks_pass top.marks h.marks plain.1)
+    both (is_outline keeps_object top) (has_sizes g && are_new [] (sources_of g))
+    (both (keeps_object top.object) _ (object_passes top.object h.top)
+    (both (all_objects keeps_object top.marks) _ (marks_pass top.marks h.marks)
     (both (are_few top.marks) (folds_fit top.object.sets top.marks)
     (both (nat_lt (count_marks top.marks) (2 ^ 32)) (nat_lt (1 + count_groups top.marks) (2 ^ 32)) (few (count_marks top.marks) h.few_marks)
     (few (1 + count_groups top.marks) h.few_groups))
-    (object_fits no_folds top.object.sets top.marks h.folds (fit (products_after no_folds top.object.sets) top.marks h.folds_inside)))))
-    (both (has_sizes g) (are_new [] (sources_of g))
-    (both (is_size g.width) _ (size_kept g.width h.width)
-    (both (is_size g.height) _ (size_kept g.height h.height) (space_kept g.padding h.padding_low h.padding_high)))
-    (new_from [] (sources_of g) h.apart))
+    (folds_pass top.object.sets top.marks h.folds h.folds_inside))))
+    (both (has_sizes g) (are_new [] (sources_of g)) (sizes_pass g h.width h.height h.padding_low h.padding_high) (new_from [] (sources_of g) h.apart))

@@ -17,8 +17,7 @@ use Rattle.vega_spec.specs.declared.data.DataSet.{DataSet}
 use Rattle.vega_lists.specs.Transforms.{transforms_of}
 use Rattle.vega_lists.specs.Products.{Products, no_folds, with_product, begun_product}
 use Rattle.vega_copies.specs.Outlines.{Marks}
-use Rattle.vega_copies.specs.Built.{with_part_products}
-use Rattle.vega_copies.specs.Fitting.{fitted, products_fitted, folds_fit_in, folds_fit}
+use Rattle.vega_copies.specs.Fitting.{fitted, products_fitted, with_part_products, folds_fit_in, folds_fit}
 use Rattle.vega_copies.specs.inner.Tested.{Places, own_product, products_over, products_at}
 
 either : (b : Bool) (product outer : ℕ) (old : Option ℕ) → unwrap_or (cond b (Some product) old) outer ≡ cond b product (unwrap_or old outer)

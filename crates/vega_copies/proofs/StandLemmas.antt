@@ -9,7 +9,7 @@ use Rattle.cell_value.specs.State.{Dataset, dataset_of}
 use Rattle.vega_spec.specs.declared.spec.Group.{out-Group}
 use Rattle.vega_spec.specs.declared.spec.VgMark.{VgMark, out-VgMark}
 use Rattle.vega_lists.specs.Held.{AreAllRows, scope_read}
-use Rattle.vega_lists.specs.Inside.{RowsByName, rows_inside, AllKeysFit, SetsMayFold}
+use Rattle.vega_lists.specs.Inside.{RowsByName, rows_inside, AllKeysFit}
 use Rattle.vega_lists.specs.Products.{Products, products_after}
 use Rattle.vega_lists.specs.Scopes.{Scope}
 use Rattle.vega_lists.specs.Transforms.{OfTransforms, is_kept}
@@ -22,7 +22,8 @@ use Rattle.vega_copies.specs.Outlines.{Object, Marks, NoMarks, AMark, AGroup, Pl
 use Rattle.vega_copies.specs.Scopes.{names_in_object}
 use Rattle.vega_copies.specs.Facets.{with_parts}
 use Rattle.vega_copies.specs.CopyNames.{names_in_copy}
-use Rattle.vega_copies.specs.Built.{KeepsObject, KeepsMarks, FoldsFitIn, products_in_copy}
+use Rattle.vega_copies.specs.Fitting.{products_in_copy}
+use Rattle.vega_copies.specs.inner.Kept.{KeepsObject, KeepsMarks, FoldsFitIn}
 use Rattle.vega_copies.specs.inner.Levels.{parts_over, rows_at, values_at, names_at, names_over, names_with_level, rows_with_level, AreNames, AreLevels}
 use Rattle.vega_copies.specs.inner.Copied.{copy_seen, IsCopy}
 use Rattle.vega_copies.specs.inner.Outlined.{marks_in, marks_of, is_group, plain_of, group_object, object_numbered, AreFew}
@@ -154,21 +155,6 @@ marks_kept rows m e stand =
 pub sets_kept : (rows : RowsByName) (m : VgMark) → is_group (out-VgMark m) ≡ true → MayStand rows (m ∷ [])
     → All (OfTransforms is_kept) (data_of (out-Group (out-VgMark m).group))
 sets_kept rows m e stand = (object_kept rows 0 m e stand).sets
-
--- the folds of a group in a copy
-pub sets_fold : (names : NamesAt) (m : VgMark) (copy : CopyOf) → is_group (out-VgMark m) ≡ true
-    → MayStand (rows_at names.sources.now names.levels.now) (m ∷ []) → IsCopy names (out-VgMark m) copy
-    → SetsMayFold (parts_over copy.parts (rows_at names.sources.now names.levels.now)) (data_of (out-Group (out-VgMark m).group))
-sets_fold names m copy e stand sound = by_folds stand.folds
-  where
-    by_fit : (products : Products) → AllKeysFit products (rows_at names.sources.now names.levels.now)
-        → FoldsFitIn products (AGroup (group_object 0 (out-VgMark m)) (marks_of (marks_in (out-Group (out-VgMark m).group))) NoMarks)
-        → SetsMayFold (parts_over copy.parts (rows_at names.sources.now names.levels.now)) (data_of (out-Group (out-VgMark m).group))
-    by_fit products keys (fit, below, rest) = (products_in_copy (facet_in (out-VgMark m).from) products, sound.folds products keys, fit)
-
-    by_folds : MarksMayFold (rows_at names.sources.now names.levels.now) (marks_of (m ∷ []))
-        → SetsMayFold (parts_over copy.parts (rows_at names.sources.now names.levels.now)) (data_of (out-Group (out-VgMark m).group))
-    by_folds (products, keys, fit) = by_fit products keys (as_group (FoldsFitIn products) m e fit)
 
 -- ---- one more level of names
 

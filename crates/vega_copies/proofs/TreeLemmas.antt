@@ -7,12 +7,12 @@ use Rattle.vega_spec.specs.declared.spec.Group.{out-Group}
 use Rattle.vega_spec.specs.declared.spec.VgMark.{VgMark, out-VgMark}
 use Rattle.vega_spec.specs.declared.spec.VgSpec.{VgSpec}
 use Rattle.vega_lists.specs.Products.{Products, no_folds}
-use Rattle.vega_copies.specs.Outlines.{Marks, NoMarks, AMark, AGroup, opened, outline_of, object_here, numbered, count_marks, count_groups}
-use Rattle.vega_copies.specs.Built.{products_in_copy}
-use Rattle.vega_copies.specs.Fitting.{products_fitted, folds_fit_in, folds_fit}
-use Rattle.vega_copies.specs.Tested.{is_object, are_objects, are_few, is_outline}
+use Rattle.vega_copies.specs.Outlines.{Object, Marks, NoMarks, AMark, AGroup, opened, outline_of, object_here, numbered, count_marks, count_groups}
+use Rattle.vega_spec.specs.Names.{sources_of}
+use Rattle.vega_copies.specs.Fitting.{products_in_copy, products_fitted, folds_fit_in, folds_fit}
+use Rattle.vega_copies.specs.Tested.{keeps_object, is_plain_object, all_objects, are_few, is_outline, has_sizes, are_new, is_chart}
 use Rattle.vega_copies.specs.inner.Outlined.{marks_in, is_group, marks_of}
-use Rattle.vega_copies.specs.inner.Tested.{group_folds_fit, group_is_kept}
+use Rattle.vega_copies.specs.inner.Tested.{is_object, are_objects, group_folds_fit, group_is_kept}
 use Rattle.vega_copies.proofs.OutlineLemmas.{plain_first, group_first, opened_object, opened_marks, group_counted, group_grouped}
 
 and_true : (a : Bool) → (a && true) ≡ a
@@ -157,7 +157,7 @@ groups_numbered unit number (AGroup o inside others) = λ i.
     suc (groups_numbered unit (suc number) inside i + groups_numbered (unit + count_marks inside) (suc number + count_groups inside) others i)
 
 -- the test of the top is that of its members and its marks
-outline_tested : (g : VgSpec) → is_outline (outline_of g)
+outline_tested : (g : VgSpec) → is_outline is_object (outline_of g)
     ≡ (is_object (object_here (out-Group g.group)) && (are_objects (marks_of (marks_in (out-Group g.group)))
     && (are_few (marks_of (marks_in (out-Group g.group)))
     && folds_fit (object_here (out-Group g.group)).sets (marks_of (marks_in (out-Group g.group))))))
@@ -187,12 +187,53 @@ none_left true false c fit e = refl
 none_left false b c fit e = refl
 
 pub outline_by_folds : (g : VgSpec) → true ≡ all_kept g
-    → folds_fit (object_here (out-Group g.group)).sets (marks_of (marks_in (out-Group g.group))) ≡ is_outline (outline_of g)
+    → folds_fit (object_here (out-Group g.group)).sets (marks_of (marks_in (out-Group g.group))) ≡ is_outline is_object (outline_of g)
 outline_by_folds g e =
     sym (outline_tested g ∙ folds_left (is_object (object_here (out-Group g.group))) (are_objects (marks_of (marks_in (out-Group g.group))))
     (are_few (marks_of (marks_in (out-Group g.group)))) _ (sym e))
 
-pub no_outline : (g : VgSpec) → false ≡ all_kept g → false ≡ is_outline (outline_of g)
+pub no_outline : (g : VgSpec) → false ≡ all_kept g → false ≡ is_outline is_object (outline_of g)
 no_outline g e =
     sym (outline_tested g ∙ none_left (is_object (object_here (out-Group g.group))) (are_objects (marks_of (marks_in (out-Group g.group))))
     (are_few (marks_of (marks_in (out-Group g.group)))) _ (sym e))
+
+-- ---- the test of a chart, object by object
+
+both_of_three : (a b c d e f : Bool) → ((a && b) && ((c && d) && (e && f))) ≡ ((a && (c && e)) && (b && (d && f)))
+both_of_three false b c d e f = refl
+both_of_three true true true true true f = refl
+both_of_three true true true true false f = refl
+both_of_three true true true false true f = refl
+both_of_three true true true false false f = refl
+both_of_three true true false d e f = refl
+both_of_three true false true d true f = refl
+both_of_three true false true d false f = refl
+both_of_three true false false d e f = refl
+
+-- two tests of each object are both of each
+all_both : (p q : Object → Bool) (marks : Marks) → all_objects (λ o. p o && q o) marks ≡ (all_objects p marks && all_objects q marks)
+all_both p q NoMarks = refl
+all_both p q (AMark unit m others) = all_both p q others
+all_both p q (AGroup o inside others) =
+    (λ i. (p o && q o) && (all_both p q inside i && all_both p q others i))
+    ∙ both_of_three (p o) (q o) (all_objects p inside) (all_objects q inside) (all_objects p others) (all_objects q others)
+
+both_of_top : (a b c d few rest : Bool) → ((a && b) && ((c && (d && few)) && rest)) ≡ (((a && c) && ((b && d) && few)) && rest)
+both_of_top false b c d few rest = refl
+both_of_top true true c d few rest = refl
+both_of_top true false true d few rest = refl
+both_of_top true false false d few rest = refl
+
+chart_tested : (g : VgSpec) → is_chart g ≡ (is_outline is_object (outline_of g) && (has_sizes g && are_new [] (sources_of g)))
+chart_tested g =
+    let top = outline_of g in
+    both_of_top (is_plain_object top.object) (all_objects is_plain_object top.marks) (keeps_object top.object) (all_objects keeps_object top.marks)
+    (are_few top.marks && folds_fit top.object.sets top.marks) (has_sizes g && are_new [] (sources_of g))
+    ∙ ap (λ objects. (is_object top.object && (objects && (are_few top.marks && folds_fit top.object.sets top.marks)))
+    && (has_sizes g && are_new [] (sources_of g))) (sym (all_both is_plain_object keeps_object top.marks))
+
+pub chart_by_rest : (g : VgSpec) → true ≡ is_outline is_object (outline_of g) → (has_sizes g && are_new [] (sources_of g)) ≡ is_chart g
+chart_by_rest g e = ap (λ outline. outline && (has_sizes g && are_new [] (sources_of g))) e ∙ sym (chart_tested g)
+
+pub no_chart : (g : VgSpec) → false ≡ is_outline is_object (outline_of g) → false ≡ is_chart g
+no_chart g e = ap (λ outline. outline && (has_sizes g && are_new [] (sources_of g))) e ∙ sym (chart_tested g)

@@ -2,8 +2,8 @@ pub mod Outlines
 pub mod Scopes
 pub mod Facets
 pub mod CopyNames
+pub mod Facts
 pub mod Panels
-pub mod Built
 pub mod Fitting
 pub mod Tested
 pub mod inner

@@ -1,6 +1,6 @@
--- Whether a specification has a meaning so far and keeps the rules, as a test.
+-- What a chart asks of a specification: that it has a meaning so far, and breaks no rule.
 use Rattle.std.specs.Prelude.{◌≡◌, refl, codes, false, ℕ, ◌+◌, ◌*◌, ◌^◌, ◌&&◌, ◌||◌, Bool, true, not, IsTrue, ℤ, pos, Option, Some, None, List}
-use Rattle.std.specs.Prelude.{[], ◌∷◌, ◌++◌, nat_lt}
+use Rattle.std.specs.Prelude.{[], ◌∷◌, ◌++◌, nat_lt, is_none}
 use Rattle.std.specs.List.{list_all, list_any}
 use Rattle.std.specs.Str.{bytes_eq}
 use Rattle.std.specs.Option.{option_map_or}
@@ -9,6 +9,7 @@ use Rattle.fixed_num.specs.Ranges.{◌>>=◌, is_within}
 use Rattle.vega_spec.specs.declared.data.DataSet.{DataSet}
 use Rattle.vega_spec.specs.declared.guides.Layout.{Layout}
 use Rattle.vega_spec.specs.declared.scales.Scale.{Scale as VegaScale}
+use Rattle.vega_spec.specs.declared.signals.Signal.{Signal}
 use Rattle.vega_spec.specs.declared.spec.Size.{Size}
 use Rattle.vega_spec.specs.declared.spec.Size.TheVariants as size
 use Rattle.vega_spec.specs.declared.spec.VgSpec.{VgSpec}
@@ -18,7 +19,6 @@ use Rattle.vega_scales.specs.Scales.{given_ends, is_domain_built, is_ordinal}
 use Rattle.vega_scales.specs.Scales as scaling
 use Rattle.vega_guides.specs.Tested.{is_kept_axis}
 use Rattle.vega_copies.specs.Outlines.{Object, Opened, Marks, NoMarks, AMark, AGroup, outline_of, count_marks, count_groups, bare, a_symbol}
-use Rattle.vega_copies.specs.Built.{is_plain_object, IsBuilt, KeepsRules}
 use Rattle.vega_copies.specs.Fitting.{folds_fit}
 
 -- a padding of bands is from 0 to 1, a place from 0 to 10^11 pixels
@@ -63,24 +63,31 @@ is_size (Some (size.Signal e)) = true
 abbrev pub is_space : ℤ → Bool
 is_space n = is_within (pos 0) (pos (1000 * million)) n
 
--- an object has no selections, and what it has is as specifications may have it
-abbrev pub is_object : Object → Bool
-is_object o =
-    is_plain_object o && (list_all is_set o.sets && (list_all is_scale o.scales && (list_all is_kept_axis o.axes && has_columns o.layout)))
+-- what an object has is as specifications may have it
+abbrev pub keeps_object : Object → Bool
+keeps_object o = list_all is_set o.sets && (list_all is_scale o.scales && (list_all is_kept_axis o.axes && has_columns o.layout))
 
--- so is each object among marks
-abbrev pub are_objects : Marks → Bool
-are_objects NoMarks = true
-are_objects (AMark unit mark others) = are_objects others
-are_objects (AGroup o inside others) = is_object o && (are_objects inside && are_objects others)
+-- a signal that does nothing on events is no selection
+abbrev pub is_plain : Signal → Bool
+is_plain s = is_none s.on
+
+-- an object without selections
+abbrev pub is_plain_object : Object → Bool
+is_plain_object o = list_all is_plain o.signals
+
+-- whether each object among marks passes a test
+abbrev pub all_objects : (Object → Bool) → Marks → Bool
+all_objects test NoMarks = true
+all_objects test (AMark unit mark others) = all_objects test others
+all_objects test (AGroup o inside others) = test o && (all_objects test inside && all_objects test others)
 
 -- marks, and objects with the top among them, can be numbered in 32 bits
 abbrev pub are_few : Marks → Bool
 are_few marks = nat_lt (count_marks marks) (2 ^ 32) && nat_lt (1 + count_groups marks) (2 ^ 32)
 
--- all of this holds of the top with its marks, and no path of data sets folds too far
-abbrev pub is_outline : Opened → Bool
-is_outline top = is_object top.object && (are_objects top.marks && (are_few top.marks && folds_fit top.object.sets top.marks))
+-- the top and each object in it pass a test, they can be numbered, and no path of data sets folds too far
+abbrev pub is_outline : (Object → Bool) → Opened → Bool
+is_outline test top = test top.object && (all_objects test top.marks && (are_few top.marks && folds_fit top.object.sets top.marks))
 
 -- the sizes of the picture are as specifications may have them
 abbrev pub has_sizes : VgSpec → Bool
@@ -91,17 +98,23 @@ abbrev pub are_new : List (List ℕ) → List (List ℕ) → Bool
 are_new before [] = true
 are_new before (name ∷ names) = not (list_any (bytes_eq name) before) && are_new (before ++ name ∷ []) names
 
--- whether a specification has a meaning so far and keeps the rules: its sources have names of their own
+-- it breaks no rule, as far as a chart needs it: its sources have names of their own
+abbrev pub keeps_rules : VgSpec → Bool
+keeps_rules g = is_outline keeps_object (outline_of g) && (has_sizes g && are_new [] (sources_of g))
+
+-- it has a meaning so far: it has no selections
+abbrev pub is_built : VgSpec → Bool
+is_built g = is_plain_object (outline_of g).object && all_objects is_plain_object (outline_of g).marks
+
+-- both
 abbrev pub is_chart : VgSpec → Bool
-is_chart g = is_outline (outline_of g) && (has_sizes g && are_new [] (sources_of g))
+is_chart g = is_built g && keeps_rules g
 
--- where the test holds, it keeps the rules and has a meaning so far
-abbrev pub ChartsAreTested : Type 0
-ChartsAreTested = (g : VgSpec) → IsTrue (is_chart g) → KeepsRules g × IsBuilt g
+abbrev pub KeepsRules : VgSpec → Type 0
+KeepsRules g = IsTrue (keeps_rules g)
 
--- what keeps the rules and has a meaning so far passes the test
-abbrev pub ChartsPass : Type 0
-ChartsPass = (g : VgSpec) → KeepsRules g → IsBuilt g → IsTrue (is_chart g)
+abbrev pub IsBuilt : VgSpec → Type 0
+IsBuilt g = IsTrue (is_built g)
 
 -- The rules at work.
 
@@ -118,5 +131,6 @@ of_columns n = record bare { layout = Some (record { padding = None; columns = S
 abbrev with_columns : ℕ → Marks
 with_columns n = AGroup bare (AMark 0 a_symbol (AGroup (of_columns n) NoMarks NoMarks)) NoMarks
 
-columns_of_an_inner_group : (are_objects (with_columns 1000) ≡ true) × (are_objects (with_columns 1001) ≡ false) × (are_objects (with_columns 0) ≡ false)
+columns_of_an_inner_group : (all_objects keeps_object (with_columns 1000) ≡ true) × (all_objects keeps_object (with_columns 1001) ≡ false)
+    × (all_objects keeps_object (with_columns 0) ≡ false)
 columns_of_an_inner_group = (refl, refl, refl)

@@ -5,6 +5,9 @@ pub mod Outlined
 pub mod Copied
 pub mod Alike
 pub mod Counted
+pub mod Kept
 pub mod Standing
 pub mod Made
+pub mod FactsSeen
+pub mod FactsMade
 pub mod Tested

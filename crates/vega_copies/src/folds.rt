@@ -6,8 +6,7 @@ ghost use Rattle.vega_spec.specs.declared.spec.VgMark.{out-VgMark};
 ghost use Rattle.vega_lists.specs.Products.{Products, begun_product, with_product, fold_length};
 ghost use Rattle.vega_signals.specs.Signals.{data_of};
 ghost use Rattle.vega_copies.specs.Outlines.{facet_in};
-ghost use Rattle.vega_copies.specs.Built.{with_part_products, products_in_copy};
-ghost use Rattle.vega_copies.specs.Fitting.{fitted, products_fitted, folds_fit_in, folds_fit};
+ghost use Rattle.vega_copies.specs.Fitting.{fitted, products_fitted, with_part_products, products_in_copy, folds_fit_in, folds_fit};
 ghost use Rattle.vega_copies.specs.inner.Outlined.{marks_in, marks_of};
 ghost use Rattle.vega_copies.specs.inner.Tested.{own_product, products_over, products_at, group_folds_fit};
 

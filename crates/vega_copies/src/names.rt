@@ -118,8 +118,8 @@ fn value_at(levels: &[&Level], name: &str) -> Result<Cell, EvalError>
     Ok(Cell::Null)
 }
 
-// Whether a name has no value.
-fn lacks_at(levels: &[&Level], name: &str) -> bool
+/// Whether a name has no value.
+pub(crate) fn lacks_at(levels: &[&Level], name: &str) -> bool
     ensures { result ≡ lacks (values_at levels.now) name.now }
 {
     for level in levels {

@@ -9,12 +9,11 @@ ghost use Rattle.vega_spec.specs.Names.{sources_of};
 ghost use Rattle.vega_lists.specs.Transforms.{is_kept};
 ghost use Rattle.vega_scales.specs.Ranges.{two_numbers};
 ghost use Rattle.vega_scales.specs.Scales.{given_ends};
-ghost use Rattle.vega_copies.specs.Built.{is_plain};
 ghost use Rattle.vega_copies.specs.Outlines.{object_here, outline_of, count_marks, count_groups};
 ghost use Rattle.vega_copies.specs.Tested.{is_padding, is_pixel, is_range, is_set, has_places, is_scale, is_count, has_columns, is_size, is_space};
-ghost use Rattle.vega_copies.specs.Tested.{is_object, are_objects, are_few, is_outline, has_sizes, are_new, is_chart, ChartsAreTested, ChartsPass};
+ghost use Rattle.vega_copies.specs.Tested.{is_plain, are_few, is_outline, has_sizes, are_new, is_chart};
 ghost use Rattle.vega_copies.specs.inner.Outlined.{marks_in, marks_of};
-ghost use Rattle.vega_copies.specs.inner.Tested.{group_is_kept};
+ghost use Rattle.vega_copies.specs.inner.Tested.{is_object, are_objects, group_is_kept};
 
 use crate::apart::are_new;
 use crate::folds::folds_fit;
@@ -380,7 +379,7 @@ fn are_all_objects(group: &Group) -> bool
 // The same, and no path of data sets folds too far.
 #[tactic(auto, using(crate::proofs::TreeLemmas::outline_by_folds, crate::proofs::TreeLemmas::no_outline))]
 fn is_outline(alloc: Global, g: &VgSpec) -> Result<bool, OutOfMemory>
-    ensures { IfOk result (λ is. is ≡ is_outline (outline_of g.now)) }
+    ensures { IfOk result (λ is. is ≡ is_outline is_object (outline_of g.now)) }
 {
     if are_all_objects(&g.group) {
         Ok(folds_fit(alloc, &g.group)?)
@@ -417,6 +416,7 @@ fn has_sizes_and_names(alloc: Global, g: &VgSpec) -> Result<bool, OutOfMemory>
 
 /// Whether a specification has a meaning so far, and keeps the rules that its chart needs. The time is near linear in the specification,
 /// times how deep groups stand in each other.
+#[tactic(auto, using(crate::proofs::TreeLemmas::chart_by_rest, crate::proofs::TreeLemmas::no_chart))]
 pub fn is_chart(alloc: Global, g: &VgSpec) -> Result<bool, OutOfMemory>
     ensures { IfOk result (λ is. is ≡ is_chart g.now) }
 {
@@ -426,9 +426,3 @@ pub fn is_chart(alloc: Global, g: &VgSpec) -> Result<bool, OutOfMemory>
         Ok(false)
     }
 }
-
-/// The test holds exactly where a specification has a meaning so far and keeps the rules.
-pub fn charts_are_tested()
-    ensures tested { ChartsAreTested }
-    ensures pass { ChartsPass }
-{}

@@ -27,7 +27,7 @@ use Rattle.vega_building.specs.Parts.{members_of, objects_at}
 use Rattle.vega_building.specs.Sources.{data_set_of}
 use Rattle.vega_building.specs.Spec.{marks_in, marks_at}
 use Rattle.vega_lists.specs.Products.{Products, FoldsFit, products_after}
-use Rattle.vega_copies.specs.Built.{FoldsFitIn}
+use Rattle.vega_copies.specs.inner.Kept.{FoldsFitIn}
 use Rattle.vega_copies.specs.inner.Outlined.{marks_of}
 use Rattle.vega_standing.proofs.Trees.{Each}
 use Rattle.vega_standing.proofs.Stands.{Stands, parts_in, parts_of_items, parts_of_members}

@@ -22,7 +22,9 @@ use Rattle.vega_building.specs.Sources.{data_set_of}
 use Rattle.vega_building.specs.Spec.{spec_of, spec_with, marks_at}
 use Rattle.vega_lists.specs.Products.{Products, no_folds, products_after, FoldsFit}
 use Rattle.vega_copies.specs.Outlines.{Object, outline_of, opened, numbered, Marks, NoMarks, AMark, AGroup, count_marks, count_groups}
-use Rattle.vega_copies.specs.Built.{FoldsFitIn, products_in_copy}
+use Rattle.vega_copies.specs.Fitting.{products_in_copy}
+use Rattle.vega_copies.specs.inner.Kept.{FoldsFitIn}
+use Rattle.vega_copies.proofs.PassLaw.{folds_pass}
 use Rattle.vega_copies.specs.inner.Outlined.{marks_of}
 use Rattle.vega_copies.proofs.OutlineLemmas.{opened_object, opened_marks}
 use Rattle.vega_standing.specs.OwnNames.{HasOwnNames}
@@ -37,7 +39,7 @@ use Rattle.vega_standing.proofs.ObjectFolds.{DullButTwo, TwoLoud, two_loud}
 use Rattle.vega_standing.proofs.FoldWalk.{MarksGo, object_fits}
 use Rattle.vega_standing.proofs.MarkFolds.{marks_go}
 use Rattle.vega_standing.proofs.GroupFolds.{deep_tree}
-use Rattle.vega_standing.proofs.Top.{IsTop, the_top}
+use Rattle.vega_standing.proofs.Top.{IsTop, FoldsKeep, the_top}
 
 abbrev top_rule : Rule → Bool
 top_rule r = (is_dull r.shape || bytes_eq r.name (codes "marks")) || bytes_eq r.name (codes "data")
@@ -82,7 +84,7 @@ one : 1 ≤ 8
 one = omega arith
 
 -- the folds of a specification that is read fit
-pub folds_kept : (tree : Json) → HasOwnNames tree → first_fault_of tree ≡ None → KeepsFolds (spec_of tree)
+pub folds_kept : (tree : Json) → HasOwnNames tree → first_fault_of tree ≡ None → FoldsKeep (spec_of tree)
 folds_kept tree own e =
     let t : IsTop tree = the_top tree own e in
     let ms : List Member = t.members in
@@ -97,17 +99,23 @@ folds_kept tree own e =
     ap (λ (o : Object). o.sets) (opened_object g.group) ∙ ap (λ (x : Group-F Group VgMark). unwrap_or x.data_ []) is in
     let marks : (opened g.group).marks ≡ marks_of (unwrap_or (marks_at ms (codes "marks")) []) =
     opened_marks g.group ∙ ap (λ (x : Group-F Group VgMark). marks_of (unwrap_or x.marks [])) is in
-    let kept : KeepsFolds g = record {
+    let kept : FoldsKeep g = record {
       folds = subst (FoldsFit no_folds) (sym sets) fits.0;
       folds_inside = numbered_folds (products_after no_folds (outline_of g).object.sets) 0 1 (opened g.group).marks
           (subst (λ ss. FoldsFitIn (products_after no_folds ss) (opened g.group).marks) (sym sets)
           (subst (FoldsFitIn (products_after no_folds (unwrap_or (objects_at data_set_of ms (codes "data")) []))) (sym marks) fits.1));
     } in
     let same : members_of tree ≡ ms = ap (λ o. unwrap_or (members_in o) []) t.opened in
-    subst (λ m. KeepsFolds (spec_with m)) (sym same) kept
+    subst (λ m. FoldsKeep (spec_with m)) (sym same) kept
   where
     go : (t : IsTop tree) (o : Option (ℕ × Json)) → IfSome o (λ (m : ℕ × Json). Stands (noted 0 TOP tree ∷ []) m.0 MARKS m.1) →
         IfSome o (λ (m : ℕ × Json). MarksGo (parts_of tree) t.rules.twice t.rules.unknown t.rules.folds (noted 0 TOP tree ∷ []) (place_of (noted 0 TOP tree ∷ []) ++ m.0 ∷ []) m.0 m.1)
     go t None s = tt
     go t (Some m) s = marks_go (parts_of tree) t.rules.twice t.rules.unknown t.rules.folds (noted 0 TOP tree) [] m.0 m.1 s
         (deep_tree (parts_of tree) t.rules.twice t.rules.unknown t.rules.folds m.1) refl
+
+pub all_folds_pass : (tree : Json) → HasOwnNames tree → first_fault_of tree ≡ None → KeepsFolds (spec_of tree)
+all_folds_pass tree own e =
+    let g : VgSpec = spec_of tree in
+    let kept : FoldsKeep g = folds_kept tree own e in
+    folds_pass (outline_of g).object.sets (outline_of g).marks kept.folds kept.folds_inside

@@ -41,7 +41,8 @@ use Rattle.vega_building.proofs.Nested.{mark_of-Object}
 use Rattle.vega_lists.specs.Transforms.{transforms_of}
 use Rattle.vega_lists.specs.Products.{Products, ProductsFit, most_folded, begun_product, and_its_product, FoldsFit, products_after}
 use Rattle.vega_copies.specs.Outlines.{Marks, facet_in}
-use Rattle.vega_copies.specs.Built.{FoldsFitIn, products_in_copy}
+use Rattle.vega_copies.specs.Fitting.{products_in_copy}
+use Rattle.vega_copies.specs.inner.Kept.{FoldsFitIn}
 use Rattle.vega_copies.specs.inner.Outlined.{is_group, before_of, marks_of}
 use Rattle.vega_copies.proofs.OutlineLemmas.{plain_first, group_first}
 use Rattle.vega_standing.proofs.Trees.{Each, Inner, of_each, object_of}

@@ -47,7 +47,7 @@ use Rattle.vega_building.specs.Spec.{mark_with, mark_of, marks_in, marks_at}
 use Rattle.vega_building.proofs.Nested.{marks_in-List}
 use Rattle.vega_lists.specs.Products.{Products}
 use Rattle.vega_copies.specs.Outlines.{Marks}
-use Rattle.vega_copies.specs.Built.{FoldsFitIn}
+use Rattle.vega_copies.specs.inner.Kept.{FoldsFitIn}
 use Rattle.vega_copies.specs.inner.Outlined.{is_group, is_group_type, before_of, marks_of}
 use Rattle.vega_standing.proofs.Trees.{Each, list_of}
 use Rattle.vega_standing.proofs.Stands.{EachFrom, Stands, StandsMember, StandsObject, parts_in, parts_of_items, parts_of_members}

@@ -49,9 +49,9 @@ use Rattle.vega_lists.specs.Transforms.{is_kept, OfTransforms}
 use Rattle.vega_scales.specs.Scales.{is_domain_built, KeepsBounds}
 use Rattle.vega_scales.specs.Scales as scaling
 use Rattle.vega_guides.specs.Shown.{IsCount, IsAxis}
-use Rattle.vega_copies.specs.Built.{IsSizeKept}
+use Rattle.vega_copies.specs.inner.Kept.{IsSizeKept}
 use Rattle.vega_copies.specs.Outlines.{object_here}
-use Rattle.vega_copies.specs.Built.{KeepsObject}
+use Rattle.vega_copies.specs.inner.Kept.{KeepsObject}
 use Rattle.vega_standing.proofs.Stands.{Stands, StandsObject, formed}
 use Rattle.vega_standing.proofs.Shapes.{if_taken, form_taken, within, count, ticks, space}
 use Rattle.vega_standing.proofs.Members.{Laid, laid_out, opened_as, reads_kept, list_kept}

@@ -1,6 +1,7 @@
 -- The whole of a specification without faults.
 use Rattle.std.proofs.Common.{◌≡◌, ◌≢◌, ℕ, suc, ◌+◌, ◌<◌, ◌≤◌, ◌^◌, List, [], ◌∷◌, ◌++◌, refl, sym, ap, subst, ◌∙◌, arith}
-use Rattle.std.specs.Prelude.{Option, Some, None, Bool, true, false, codes, unwrap_or, if◌then◌else◌}
+use Rattle.std.specs.Prelude.{Option, Some, None, Bool, true, false, codes, unwrap_or, ◌*◌, ◌≤ℤ◌, pos, if◌then◌else◌}
+use Rattle.fixed_num.specs.Number.{million}
 use Rattle.std.specs.Option.{is_some}
 use Rattle.std.specs.List.{AllPairs}
 use Rattle.json_exact.specs.declared.json.Json.{Json, out-Json}
@@ -50,12 +51,14 @@ use Rattle.vega_spec.specs.declared.spec.VgMark.{VgMark}
 use Rattle.vega_building.specs.Parts.{members_of}
 use Rattle.vega_building.specs.Spec.{spec_of, spec_with, group_with, marks_at}
 use Rattle.vega_spec.specs.Names.{sources_of, sources_in}
+use Rattle.vega_lists.specs.Products.{no_folds, products_after, FoldsFit}
 use Rattle.vega_copies.specs.Outlines.{object_here, outline_of, opened, numbered, Marks, NoMarks, AMark, AGroup, count_marks, count_groups}
-use Rattle.vega_copies.specs.Built.{KeepsObject, KeepsMarks, KeepsRules}
+use Rattle.vega_copies.specs.inner.Kept.{KeepsObject, KeepsMarks, FoldsFitIn, IsSizeKept, KeepsAll}
+use Rattle.vega_copies.proofs.PassLaw.{object_passes as kept_passes, marks_pass, sizes_pass}
 use Rattle.vega_copies.specs.inner.Outlined.{marks_of}
 use Rattle.vega_copies.proofs.OutlineLemmas.{opened_object, opened_marks}
 use Rattle.vega_standing.specs.OwnNames.{HasOwnNames}
-use Rattle.vega_standing.specs.Laws.{KeepsObjects, KeepsFolds, HasFewGroups}
+use Rattle.vega_standing.specs.Laws.{KeepsObjects, HasFewGroups}
 use Rattle.vega_standing.proofs.Stands.{Stands, StandsObject, formed, parts_of_members}
 use Rattle.vega_standing.proofs.Shapes.{if_taken, form_taken}
 use Rattle.vega_standing.proofs.Members.{Laid, laid_out, opened_as}
@@ -130,6 +133,20 @@ no_fault tree e =
     let rules = none_sooner (earliest (rule_faults (parts_of tree))) (first_cycle (parts_of tree)) judged_none in
     (none_first (faults_in vega_schema tree TOP) both.0, break_none (parts_of tree) (none_earliest (rule_faults (parts_of tree)) rules.0))
 
+-- what the objects of a specification keep, in the words of the crates that ask for it
+pub record ObjectsKeep (g : VgSpec) : Type 0 where
+  pub top : KeepsObject (outline_of g).object
+  pub marks : KeepsMarks (outline_of g).marks
+  pub width : IsSizeKept g.width
+  pub height : IsSizeKept g.height
+  pub padding_low : pos 0 ≤ℤ unwrap_or g.padding (pos 0)
+  pub padding_high : unwrap_or g.padding (pos 0) ≤ℤ pos (1000 * million)
+
+-- the same of its folds
+pub record FoldsKeep (g : VgSpec) : Type 0 where
+  pub folds : FoldsFit no_folds (outline_of g).object.sets
+  pub folds_inside : FoldsFitIn (products_after no_folds (outline_of g).object.sets) (outline_of g).marks
+
 -- ---- the top
 
 pub top_taken : (o : Opened) (f : Form) → taken_form vega_schema TOP o ≡ Some f →
@@ -174,7 +191,7 @@ the_top tree own e =
       parts = l.parts ∙ ap (λ x. parts_at (noted 0 TOP tree ∷ []) tree ++ parts_of_members (noted 0 TOP tree ∷ []) x 0 ms.0) is;
     }
 
-top_members : (trail : Trail) (ms : List Member) → StandsObject trail top ms → KeepsObjects (spec_with ms)
+top_members : (trail : Trail) (ms : List Member) → StandsObject trail top ms → ObjectsKeep (spec_with ms)
 unfolding top
 top_members trail ms s =
     let g : VgSpec = spec_with ms in
@@ -193,11 +210,21 @@ top_members trail ms s =
       padding_high = space.1;
     }
 
-pub objects_kept : (tree : Json) → HasOwnNames tree → first_fault_of tree ≡ None → KeepsObjects (spec_of tree)
+objects_kept : (tree : Json) → HasOwnNames tree → first_fault_of tree ≡ None → ObjectsKeep (spec_of tree)
 objects_kept tree own e =
     let t : IsTop tree = the_top tree own e in
     let same : members_of tree ≡ t.members = ap (λ o. unwrap_or (members_in o) []) t.opened in
-    subst (λ ms. KeepsObjects (spec_with ms)) (sym same) (top_members (noted 0 TOP tree ∷ []) t.members t.object)
+    subst (λ ms. ObjectsKeep (spec_with ms)) (sym same) (top_members (noted 0 TOP tree ∷ []) t.members t.object)
+
+pub objects_pass : (tree : Json) → HasOwnNames tree → first_fault_of tree ≡ None → KeepsObjects (spec_of tree)
+objects_pass tree own e =
+    let g : VgSpec = spec_of tree in
+    let k : ObjectsKeep g = objects_kept tree own e in
+    record {
+      top = kept_passes (outline_of g).object k.top;
+      marks = marks_pass (outline_of g).marks k.marks;
+      sizes = sizes_pass g k.width k.height k.padding_low k.padding_high;
+    }
 
 -- ---- names and counts
 
@@ -229,10 +256,10 @@ counted trail ms here whole s is rules =
     }
 
 -- where its folds fit and its groups are few, a specification that is read keeps all rules
-pub rules_kept : (tree : Json) → HasOwnNames tree → first_fault_of tree ≡ None → KeepsFolds (spec_of tree) → HasFewGroups (spec_of tree) → KeepsRules (spec_of tree)
+pub rules_kept : (tree : Json) → HasOwnNames tree → first_fault_of tree ≡ None → FoldsKeep (spec_of tree) → HasFewGroups (spec_of tree) → KeepsAll (spec_of tree)
 rules_kept tree own e folds few =
     let t : IsTop tree = the_top tree own e in
-    let k : KeepsObjects (spec_of tree) = objects_kept tree own e in
+    let k : ObjectsKeep (spec_of tree) = objects_kept tree own e in
     let same : members_of tree ≡ t.members = ap (λ o. unwrap_or (members_in o) []) t.opened in
     let c : Counted (spec_of tree) = subst (λ ms. Counted (spec_with ms)) (sym same)
     (counted (noted 0 TOP tree ∷ []) t.members (parts_at (noted 0 TOP tree ∷ []) tree) (parts_of tree) t.object t.parts t.rules) in

@@ -1,6 +1,7 @@
 -- What is read keeps all rules.
 use Rattle.std.proofs.Common.{◌≡◌, ℕ, ◌≤◌, ◌^◌, List, length, refl, subst}
 use Rattle.std.specs.Prelude.{Option, Some, None, true, Ok}
+use Rattle.std.proofs.lemmas.Bool.{and_from}
 use Rattle.json_exact.specs.declared.json.Json.{Json}
 use Rattle.json_exact.specs.Reading.{Reads}
 use Rattle.spec_schema.specs.declared.fault.Fault.{Fault}
@@ -8,9 +9,8 @@ use Rattle.vega_model.specs.Faults.{first_fault_of}
 use Rattle.vega_model.specs.Reading.{read_of, unless_fault}
 use Rattle.vega_spec.specs.declared.spec.VgSpec.{VgSpec}
 use Rattle.vega_building.specs.Spec.{spec_of}
-use Rattle.vega_copies.specs.Built.{KeepsRules, IsBuilt}
-use Rattle.vega_copies.specs.Tested.{is_chart}
-use Rattle.vega_copies.proofs.PassLaw.{law as passes}
+use Rattle.vega_copies.specs.Tested.{is_built, keeps_rules, is_chart, KeepsRules, IsBuilt}
+use Rattle.vega_copies.proofs.PassLaw.{rules_pass}
 use Rattle.vega_standing.specs.OwnNames.{HasOwnNames}
 use Rattle.vega_standing.specs.Laws.{HasFewGroups}
 use Rattle.vega_standing.proofs.ReadTrees.{read_own}
@@ -19,7 +19,7 @@ use Rattle.vega_standing.proofs.Top.{IsTop, the_top, rules_kept}
 use Rattle.vega_standing.proofs.FoldsKept.{folds_kept}
 
 pub all_kept : (tree : Json) → HasOwnNames tree → first_fault_of tree ≡ None → HasFewGroups (spec_of tree) → KeepsRules (spec_of tree)
-all_kept tree own e few = rules_kept tree own e (folds_kept tree own e) few
+all_kept tree own e few = rules_pass (spec_of tree) (rules_kept tree own e (folds_kept tree own e) few)
 
 pub files_kept : (bytes : List ℕ) (tree : Json) → Reads bytes tree → length bytes ≤ 2 ^ 24 → first_fault_of tree ≡ None → KeepsRules (spec_of tree)
 files_kept bytes tree reads small e =
@@ -36,4 +36,4 @@ pub accepted : (bytes : List ℕ) (tree : Json) (g : VgSpec) → Reads bytes tre
 accepted bytes tree g reads small e built =
     let read : (first_fault_of tree ≡ None) × (spec_of tree ≡ g) = read_as (first_fault_of tree) g (spec_of tree) e in
     let kept : KeepsRules g = subst KeepsRules read.1 (files_kept bytes tree reads small read.0) in
-    passes g kept built
+    and_from (is_built g) (keeps_rules g) built kept

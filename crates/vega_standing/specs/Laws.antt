@@ -1,36 +1,29 @@
 -- What holds of specifications that are read.
-use Rattle.std.specs.Prelude.{◌≡◌, ◌≤◌, ℕ, List, length, true, Ok, ◌+◌, ◌*◌, ◌^◌, ◌<◌, None, pos, ◌≤ℤ◌, unwrap_or}
-use Rattle.fixed_num.specs.Number.{million}
+use Rattle.std.specs.Prelude.{◌≡◌, ◌≤◌, ℕ, List, length, true, IsTrue, Ok, ◌+◌, ◌^◌, ◌<◌, None}
 use Rattle.json_exact.specs.declared.json.Json.{Json}
 use Rattle.json_exact.specs.Reading.{Reads}
 use Rattle.vega_spec.specs.declared.spec.VgSpec.{VgSpec}
 use Rattle.vega_building.specs.Spec.{spec_of}
 use Rattle.vega_model.specs.Faults.{first_fault_of}
 use Rattle.vega_model.specs.Reading.{read_of}
-use Rattle.vega_copies.specs.Built.{IsSizeKept}
-use Rattle.vega_lists.specs.Products.{no_folds, products_after, FoldsFit}
 use Rattle.vega_copies.specs.Outlines.{outline_of, count_groups}
-use Rattle.vega_copies.specs.Built.{KeepsObject, KeepsMarks, FoldsFitIn, IsBuilt, KeepsRules}
-use Rattle.vega_copies.specs.Tested.{is_chart}
+use Rattle.vega_copies.specs.Fitting.{folds_fit}
+use Rattle.vega_copies.specs.Tested.{keeps_object, all_objects, has_sizes, is_chart, IsBuilt, KeepsRules}
 use Rattle.vega_standing.specs.OwnNames.{HasOwnNames}
 
 -- what a specification keeps that its objects keep each by itself
 pub record KeepsObjects (g : VgSpec) : Type 0 where
-  pub top : KeepsObject (outline_of g).object
-  pub marks : KeepsMarks (outline_of g).marks
-  pub width : IsSizeKept g.width
-  pub height : IsSizeKept g.height
-  pub padding_low : pos 0 ≤ℤ unwrap_or g.padding (pos 0)
-  pub padding_high : unwrap_or g.padding (pos 0) ≤ℤ pos (1000 * million)
+  pub top : IsTrue (keeps_object (outline_of g).object)
+  pub marks : IsTrue (all_objects keeps_object (outline_of g).marks)
+  pub sizes : IsTrue (has_sizes g)
 
 -- where a tree has no fault and no object in it has a name twice, the specification that it says keeps this
 abbrev pub ObjectsAreKept : Type 0
 ObjectsAreKept = (tree : Json) → HasOwnNames tree → first_fault_of tree ≡ None → KeepsObjects (spec_of tree)
 
 -- the product of the lengths of the folds on the path of each of its data sets is 8 at most
-pub record KeepsFolds (g : VgSpec) : Type 0 where
-  pub folds : FoldsFit no_folds (outline_of g).object.sets
-  pub folds_inside : FoldsFitIn (products_after no_folds (outline_of g).object.sets) (outline_of g).marks
+abbrev pub KeepsFolds : VgSpec → Type 0
+KeepsFolds g = IsTrue (folds_fit (outline_of g).object.sets (outline_of g).marks)
 
 -- where a tree has no fault and no object in it has a name twice, the folds of the specification that it says fit
 abbrev pub FoldsAreKept : Type 0

@@ -16,7 +16,7 @@ use Rattle.vega_lists.specs.Inside.{AllKeysFit}
 use Rattle.vega_lists.specs.Products.{Products}
 use Rattle.vega_copies.specs.declared.names.NamesAt.{NamesAt}
 use Rattle.vega_copies.specs.Outlines.{facet_in}
-use Rattle.vega_copies.specs.Built.{products_in_copy}
+use Rattle.vega_copies.specs.Fitting.{products_in_copy}
 use Rattle.vega_copies.specs.Facets.{Copy}
 use Rattle.vega_copies.specs.inner.Levels.{rows_at, rows_behind, parts_over, AreParts}
 

@@ -51,9 +51,9 @@ abbrev pub plots_of_copy : List Dataset → Bool → Bool → VgMark-F Group VgM
 plots_of_copy sources in_facet in_grid m names copy =
     option_map (λ n. (if is_panel in_facet in_grid m then 1 else 0) + n) (plots_in_copy sources in_facet m names copy)
 
--- a result that stops only where plots can't be counted
-abbrev pub Stops : {X : Type 0} → Result X EvalError → Option ℕ → Type 0
-Stops result plots = IfErr result (λ e. Evaluates {X = ℕ} (Err e) plots)
+-- a result that stops only where nothing is found
+abbrev pub Stops : {X Y : Type 0} → Result X EvalError → Option Y → Type 0
+Stops {X} {Y} result found = IfErr result (λ e. Evaluates {X = Y} (Err e) found)
 
 -- how many each of some copies is, or holds
 abbrev pub plots_of_all : List Dataset → Bool → Bool → VgMark-F Group VgMark → Names → List Copy → List (Option ℕ)

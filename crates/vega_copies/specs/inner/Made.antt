@@ -1,16 +1,14 @@
 -- The copies of groups as a tree that was made, as definitions see it.
-use Rattle.std.specs.Prelude.{◌≡◌, not, true, Some, None, List, [], ◌∷◌, map}
+use Rattle.std.specs.Prelude.{◌≡◌, Some, None, List, [], ◌∷◌, map}
 use Rattle.std.specs.Borrow.{Bor}
-use Rattle.std.specs.List.{All, AllZip, list_all}
+use Rattle.std.specs.List.{All, AllZip}
 use Rattle.cell_value.specs.State.{dataset_of}
 use Rattle.cell_value.specs.declared.state.Named.{Named}
 use Rattle.expr_eval.specs.Plain.{no_values}
 use Rattle.expr_eval.specs.Values.{Values}
 use Rattle.vega_lists.specs.Held.{scope_read, AreAllRows}
 use Rattle.vega_lists.specs.Inside.{RowsByName, no_rows, rows_inside}
-use Rattle.vega_signals.specs.Lacking.{lacks}
 use Rattle.vega_signals.specs.Settling.{values_inside}
-use Rattle.vega_spec.specs.declared.signals.Signal.{Signal}
 use Rattle.vega_spec.specs.declared.spec.Group.{Group, out-Group}
 use Rattle.vega_spec.specs.declared.spec.VgMark.{VgMark, VgMark-F}
 use Rattle.vega_copies.specs.declared.made.CopiesMade.{CopiesMade, out-CopiesMade}
@@ -86,11 +84,6 @@ abbrev pub IsCopyMade : List Named → List Level → VgMark-F Group VgMark → 
 IsCopyMade sources levels m made =
     let inside = marks_of (marks_in (out-Group m.group)) in
     IsMade sources (group_object 0 m) inside (AreMade sources inside) levels made
-
--- each signal of a copy of a group itself has a value in it
-abbrev pub KeepsSignals : List Level → VgMark-F Group VgMark → CopyMade → Type 0
-KeepsSignals levels m made =
-    list_all (λ (s : Signal). not (lacks (values_under ((out-CopyMade made).level ∷ levels)) s.name)) (group_object 0 m).signals ≡ true
 
 -- Marks that keep the rules, with what was made of each, where these are the levels of names.
 pub record HaveCopies (sources : List Named) (levels : List (Bor Level)) (marks : List VgMark) (found : List CopiesMade) : Type 0 where

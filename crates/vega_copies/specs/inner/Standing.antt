@@ -4,7 +4,7 @@ use Rattle.vega_spec.specs.declared.spec.VgMark.{VgMark}
 use Rattle.vega_lists.specs.Inside.{RowsByName, AllKeysFit}
 use Rattle.vega_lists.specs.Products.{Products}
 use Rattle.vega_copies.specs.Outlines.{Marks}
-use Rattle.vega_copies.specs.Built.{KeepsMarks, FoldsFitIn}
+use Rattle.vega_copies.specs.inner.Kept.{KeepsMarks, FoldsFitIn}
 use Rattle.vega_copies.specs.inner.Outlined.{marks_of}
 
 -- folds of marks fit over the rows for which names stand

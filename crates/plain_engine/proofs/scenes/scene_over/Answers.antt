@@ -1,11 +1,11 @@
 use Rattle.std.proofs.Common.{ap}
 use Rattle.scene_tree.specs.Outcome.{outcome_map}
 use Rattle.vega_meaning.specs.Charts.{scene_in}
-use Rattle.vega_copies.proofs.ChartLaw.{law}
+use Rattle.vega_copies.proofs.ChartLaw.{breaks_none}
 use Rattle.plain_engine.proofs.scenes.scene_over.Goals as goal
 
 pub drawing_of-requires-clause-kept : goal.drawing_of-requires-clause-kept
-drawing_of-requires-clause-kept c = (law c.args.g.now c.requires.built).0
+drawing_of-requires-clause-kept c = breaks_none c.args.g.now c.requires.built
 
 pub returns-in-Ok : goal.returns-in-Ok
 returns-in-Ok c = ap (outcome_map scene_in) c.in-Ok.ensures

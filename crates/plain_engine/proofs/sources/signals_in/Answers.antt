@@ -5,17 +5,17 @@ use Rattle.vega_spec.specs.declared.spec.Group.{out-Group}
 use Rattle.vega_signals.specs.Signals.{signal_values}
 use Rattle.vega_lists.specs.Held.{AreSources}
 use Rattle.vega_lists.proofs.StateLemmas.{sources_of_state}
-use Rattle.vega_copies.proofs.ChartLaw.{law, sets_of_top, folds_of_top}
+use Rattle.vega_copies.proofs.ChartLaw.{chart_kept, sets_of_top, folds_of_top}
 use Rattle.plain_engine.proofs.sources.signals_in.Goals as goal
 
 pub signal_values-requires-clause-sources : goal.signal_values-requires-clause-sources
 signal_values-requires-clause-sources c = subst AreSources (sym c.as_slice.ensures) (sources_of_state c.args.st.now c.requires.state)
 
 pub signal_values-requires-clause-kept : goal.signal_values-requires-clause-kept
-signal_values-requires-clause-kept c = sets_of_top c.args.g.now (law c.args.g.now c.requires.built).0
+signal_values-requires-clause-kept c = sets_of_top c.args.g.now (chart_kept c.args.g.now c.requires.built)
 
 pub signal_values-requires-clause-folds : goal.signal_values-requires-clause-folds
-signal_values-requires-clause-folds c = folds_of_top c.args.g.now (law c.args.g.now c.requires.built).0
+signal_values-requires-clause-folds c = folds_of_top c.args.g.now (chart_kept c.args.g.now c.requires.built)
 
 pub returns-in-Ok : goal.returns-in-Ok
 returns-in-Ok c =

@@ -24,8 +24,7 @@ drawing_within-requires-clause-marks c =
     c.requires.marks
 
 pub drawing_within-requires-clause-level : goal.drawing_within-requires-clause-level
-drawing_within-requires-clause-level c =
-    names_alike c.args.sources.now c.as_slice.result.now c.args.level.now (ap (map (λ l. l.now)) c.as_slice.ensures ∙ c.in-Ok.ensures)
+drawing_within-requires-clause-level c = ap (map (λ l. l.now)) c.as_slice.ensures ∙ c.in-Ok.ensures
 
 pub returns-in-Ok : goal.returns-in-Ok
 returns-in-Ok c =

@@ -19,8 +19,8 @@ pub made_in-requires-clause-marks : goal.made_in-requires-clause-marks
 made_in-requires-clause-marks c =
     subst (MayStand (rows_at c.args.names.sources.now c.args.names.levels.now)) (sym c.marks_in.ensures) c.requires.marks
 
-pub drawing_kept-requires-clause-marks : goal.drawing_kept-requires-clause-marks
-drawing_kept-requires-clause-marks c =
+pub drawing_of_made-requires-clause-marks : goal.drawing_of_made-requires-clause-marks
+drawing_of_made-requires-clause-marks c =
     let one : VgMark → CopiesMade → Type 0 = OneMade c.args.names.sources.now (levels_behind c.args.names.levels.now) in
     record {
       stand = c.requires.marks;

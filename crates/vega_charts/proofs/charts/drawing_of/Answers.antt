@@ -13,7 +13,11 @@ use Rattle.vega_charts.specs.inner.Outcomes.{stopped, drawn_within}
 use Rattle.vega_charts.specs.inner.Topped.{top_of, names_on_top, rows_on_top}
 use Rattle.vega_charts.proofs.OutcomeLemmas.{from_top, named, not_named, named_by}
 use Rattle.vega_charts.proofs.TopLemmas.{none_are, none_fit, top_kept, top_folds, top_stands}
+use Rattle.vega_copies.proofs.ChartLaw.{rules_kept}
 use Rattle.vega_charts.proofs.charts.drawing_of.Goals as goal
+
+pub drawing_at-requires-clause-kept : goal.drawing_at-requires-clause-kept
+drawing_at-requires-clause-kept c = rules_kept c.args.g.now c.requires.kept
 
 pub level_with-requires-clause-outer : goal.level_with-requires-clause-outer
 level_with-requires-clause-outer c = record { sources_are = c.requires.sources; rows = none_are }
@@ -22,18 +26,18 @@ pub level_with-requires-clause-parts : goal.level_with-requires-clause-parts
 level_with-requires-clause-parts c = subst AreParts (sym c.new.ensures) (All-nil _)
 
 pub level_with-requires-clause-kept : goal.level_with-requires-clause-kept
-level_with-requires-clause-kept c = (top_kept c.args.g.now c.requires.kept).sets
+level_with-requires-clause-kept c = (top_kept c.args.g.now (rules_kept c.args.g.now c.requires.kept)).sets
 
 pub level_with-requires-clause-folds : goal.level_with-requires-clause-folds
 level_with-requires-clause-folds c =
-    subst (λ parts. SetsMayFold (parts_over parts no_rows) (top_of c.args.g.now).object.sets) (sym c.new.ensures) (top_folds c.args.g.now c.requires.kept)
+    subst (λ parts. SetsMayFold (parts_over parts no_rows) (top_of c.args.g.now).object.sets) (sym c.new.ensures) (top_folds c.args.g.now (rules_kept c.args.g.now c.requires.kept))
 
 pub drawing_at-requires-clause-rows : goal.drawing_at-requires-clause-rows
 drawing_at-requires-clause-rows c = c.in-Ok.ensures.rows
 
 pub drawing_at-requires-clause-marks : goal.drawing_at-requires-clause-marks
 drawing_at-requires-clause-marks c =
-    top_stands c.args.g.now c.requires.kept (rows_on_top c.args.sources.now c.in-Ok.level)
+    top_stands c.args.g.now (rules_kept c.args.g.now c.requires.kept) (rows_on_top c.args.sources.now c.in-Ok.level)
     (c.in-Ok.ensures.folds no_folds
     (subst (λ parts. AllKeysFit no_folds (parts_over parts no_rows)) (sym c.new.ensures) none_fit))
 

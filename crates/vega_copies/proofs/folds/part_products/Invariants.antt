@@ -1,6 +1,6 @@
 use Rattle.std.proofs.Common.{◌≡◌, drop, map}
 use Rattle.std.specs.Prelude.{zip}
-use Rattle.vega_copies.specs.Built.{with_part_products}
+use Rattle.vega_copies.specs.Fitting.{with_part_products}
 use Rattle.vega_copies.specs.inner.Tested.{products_over, products_at}
 use Rattle.vega_copies.proofs.folds.part_products.Given as goal
 

@@ -1,7 +1,7 @@
 use Rattle.std.proofs.Common.{Option, map, ap, ◌∙◌}
 use Rattle.vega_spec.specs.declared.marks.Facet.{Facet}
 use Rattle.vega_lists.specs.Products.{Products}
-use Rattle.vega_copies.specs.Built.{products_in_copy}
+use Rattle.vega_copies.specs.Fitting.{products_in_copy}
 use Rattle.vega_copies.specs.inner.Tested.{products_at}
 use Rattle.vega_copies.proofs.folds.products_in_copy.Goals as goal
 

@@ -1,5 +1,5 @@
 use Rattle.std.proofs.Common.{◌≡◌, drop}
-use Rattle.vega_copies.specs.Tested.{are_objects}
+use Rattle.vega_copies.specs.inner.Tested.{are_objects}
 use Rattle.vega_copies.specs.inner.Outlined.{marks_of}
 use Rattle.vega_copies.proofs.tested.+testing.Given as goal
 

@@ -1,5 +1,5 @@
-use Rattle.vega_standing.proofs.Top.{objects_kept}
+use Rattle.vega_standing.proofs.Top.{objects_pass}
 use Rattle.vega_standing.proofs.laws.objects_are_kept.Goals as goal
 
 pub returns : goal.returns
-returns c = objects_kept
+returns c = objects_pass

@@ -7,7 +7,7 @@ use Rattle.param_flow.specs.declared.reply.Reply.TheVariants.{Refused}
 use Rattle.param_flow.specs.declared.reply.Cause.TheVariants as cause
 use Rattle.param_flow.specs.Change.{names_of_change}
 use Rattle.param_flow.specs.Semantics.{has_param}
-use Rattle.vega_copies.proofs.ChartLaw.{law}
+use Rattle.vega_copies.proofs.ChartLaw.{chart_kept}
 use Rattle.vega_meaning.specs.Semantics.{vega_semantics}
 use Rattle.plain_engine.proofs.Places.{has_name}
 use Rattle.plain_engine.proofs.Replies.{not_there, row_refused, replied, changed, meant_by}
@@ -39,7 +39,7 @@ returns-clause-reply c =
     ∙ sym c.in_default-first_bad.ensures in
     subst (λ wanted. IfOk c.change_source.result (λ reply. reply ≡ wanted))
     (replied c.args.self.now.spec c.args.self.now.state c.args.name.now c.args.change.now h.of c.in-Some.index place known good
-    (law c.args.self.now.spec h.chart).0.apart)
+    (chart_kept c.args.self.now.spec h.chart).apart)
     c.change_source.ensures.reply
 
 pub returns-clause-done : goal.returns-clause-done
@@ -52,5 +52,5 @@ returns-clause-done c =
     ∙ sym c.in_default-first_bad.ensures in
     meant_by c.args.self.now.spec (state_of c.args.self.now.state) (state_of c.change_source.new.st) _ _
     (changed c.args.self.now.spec c.args.self.now.state c.args.name.now c.args.change.now h.of c.in-Some.index place known good
-    (law c.args.self.now.spec h.chart).0.apart)
+    (chart_kept c.args.self.now.spec h.chart).apart)
     c.change_source.result c.change_source.ensures.done

@@ -1,8 +1,0 @@
-use Rattle.std.proofs.Common.{◌≡◌, ◌++◌, drop, map}
-use Rattle.vega_charts.specs.Scales.{past}
-use Rattle.vega_charts.specs.inner.Kept.{scale_seen}
-use Rattle.vega_charts.proofs.scales.all_past.Given as goal
-
-abbrev pub invariant-loop-scale : goal.invariant-loop-scale
-invariant-loop-scale l =
-    map scale_seen l.out ++ map (past l.spot) (map scale_seen (drop l.scale-index l.scales)) ≡ map (past l.spot) (map scale_seen l.scales)

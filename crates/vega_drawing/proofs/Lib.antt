@@ -1,0 +1,17 @@
+pub mod AxisLemmas
+pub mod KeptLemmas
+pub mod SeenLemmas
+pub mod UnitLemmas
+pub mod ValueLemmas
+pub mod CellLemmas
+pub mod HeaderLemmas
+pub mod LegendLemmas
+pub mod SetLemmas
+pub mod ShownLemmas
+pub mod DrawnLemmas
+pub mod EnteredLemmas
+pub mod PlotLemmas
+pub mod LayoutLemmas
+pub mod GridLemmas
+pub mod ViewLemmas
+pub mod TopLemmas

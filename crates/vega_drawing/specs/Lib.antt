@@ -1,0 +1,12 @@
+pub mod Sizes
+pub mod Units
+pub mod Scales
+pub mod Frames
+pub mod Guides
+pub mod Insides
+pub mod Plots
+pub mod Grids
+pub mod Views
+pub mod Tops
+pub mod Drawings
+pub mod inner

@@ -1,0 +1,18 @@
+-- What levels of signals stand for.
+use Rattle.std.specs.Prelude.{ℕ, Option, List, [], ◌∷◌, find}
+use Rattle.std.specs.Str.{bytes_eq}
+use Rattle.std.specs.Borrow.{Bor}
+use Rattle.cell_value.specs.declared.cell.Cell.{Cell}
+use Rattle.expr_eval.specs.Plain.{no_values}
+use Rattle.expr_eval.specs.Values.{Values}
+use Rattle.vega_signals.specs.Extents.{Settled}
+use Rattle.vega_signals.specs.Settling.{values_inside}
+
+-- the first signal of a name
+abbrev pub signal_named : Settled → List ℕ → Option (List ℕ × Option Cell)
+signal_named signals name = find (λ (signal : List ℕ × Option Cell). bytes_eq signal.0 name) signals
+
+-- the values of signals where these are the levels, the inner before the outer
+abbrev pub values_over : List (Bor Settled) → Values
+values_over [] = no_values
+values_over (signals ∷ outer) = values_inside signals.now (values_over outer)
