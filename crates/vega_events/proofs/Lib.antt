@@ -1,0 +1,5 @@
+mod HitLemmas
+mod CountLemmas
+mod ScaleLemmas
+mod StoreLemmas
+mod NameLemmas

@@ -1,0 +1,4 @@
+pub mod Scales
+pub mod Events
+pub mod Premises
+pub mod Laws

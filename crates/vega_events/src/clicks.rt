@@ -1,0 +1,226 @@
+// Clicks on selections of a Vega chart.
+ghost use Rattle.std.specs.Prelude.{◌≡◌, ◌≤◌, ◌+◌, ℕ, List, true, map, length, IfOk, All};
+ghost use Rattle.cell_value.specs.Row.{row_of};
+ghost use Rattle.selection_events.specs.Hits.{is_among};
+ghost use Rattle.selection_events.specs.Stores.{store_clicked as clicked_store, store_toggled as toggled_store};
+ghost use Rattle.selection_events.specs.Events.{tuple_of as tuple_in, tuple_at as tuple_there, clicked_at, toggled_at};
+ghost use Rattle.vega_events.specs.Events.{read_in};
+ghost use Rattle.vega_events.specs.Premises.{IsRowOf, ItemIsOfRow, AreKept, count_kept};
+
+use cell_value::{Cell, Row, Steps, StoreOf};
+use fixed_num::Num;
+use param_flow::UnitRows;
+use scene_tree::Panel;
+use selection_events::{Hit, hit_at, store_clicked, store_toggled};
+use std::alloc::Global;
+use std::sync::ledger::Ledger;
+use text_kit::{OutOfMemory, Seq, Text};
+use vega_selections::VgSelection;
+
+// A field of the row that was hit, with its cell.
+#[tactic(auto, using(crate::proofs::HitLemmas::read_is))]
+fn entry_of<R: UnitRows, L: Ledger>(
+    rows: &R,
+    field: &Text,
+    hit: Hit,
+    steps: &mut Steps<L>,
+) -> Result<(Text, Cell), OutOfMemory>
+    requires row { IsRowOf (R.rows rows.now) hit }
+    requires told { R.tells rows.now hit.unit field.now ≡ true }
+    ensures value { IfOk result (λ entry. entry ≡ (field.now, read_in (R.rows rows.now) hit.unit hit.key field.now)) }
+    ensures counted { steps.old ≤ steps.new }
+    ensures once { steps.new ≤ steps.old + 1 }
+{
+    let cell = rows.cell(hit.unit, hit.key, field.as_str(), steps)?;
+    Ok((field.copy()?, cell))
+}
+
+// The fields of the row that was hit, with their cells.
+fn entries_of<R: UnitRows, L: Ledger>(
+    alloc: Global,
+    rows: &R,
+    fields: &[Text],
+    hit: Hit,
+    steps: &mut Steps<L>,
+) -> Result<Seq<(Text, Cell)>, OutOfMemory>
+    requires row { IsRowOf (R.rows rows.now) hit }
+    requires told { All (λ name. R.tells rows.now hit.unit name ≡ true) fields.now }
+    ensures value { IfOk result (λ entries. entries
+        ≡ map (λ field. (field, read_in (R.rows rows.now) hit.unit hit.key field)) fields.now) }
+    ensures counted { steps.old ≤ steps.new }
+    ensures few { steps.new ≤ steps.old + length fields.now }
+{
+    let mut entries = Seq::with_capacity(alloc, fields.len())?;
+    for field in fields {
+        entries.push(entry_of(rows, field, hit, steps)?)?;
+    }
+    Ok(entries)
+}
+
+// The tuple of the row that was hit.
+fn tuple_of<R: UnitRows, L: Ledger>(
+    alloc: Global,
+    rows: &R,
+    fields: &[Text],
+    hit: Hit,
+    steps: &mut Steps<L>,
+) -> Result<Row, OutOfMemory>
+    requires row { IsRowOf (R.rows rows.now) hit }
+    requires told { All (λ name. R.tells rows.now hit.unit name ≡ true) fields.now }
+    ensures value { IfOk result (λ tuple. tuple ≡ tuple_in (read_in (R.rows rows.now)) fields.now hit) }
+    ensures counted { steps.old ≤ steps.new }
+    ensures few { steps.new ≤ steps.old + length fields.now }
+{
+    let entries = entries_of(alloc, rows, fields, hit, steps)?;
+    Row::from_entries(alloc, entries.into_vec())
+}
+
+// The tuple of what is hit at a point of a panel, if something is.
+#[tactic(auto, using(crate::proofs::HitLemmas::hit_is_of_row, crate::proofs::HitLemmas::hit_is_among))]
+fn tuple_at<R: UnitRows, L: Ledger>(
+    alloc: Global,
+    rows: &R,
+    fields: &[Text],
+    units: &[u32],
+    panel: &Panel,
+    x: Num,
+    y: Num,
+    steps: &mut Steps<L>,
+) -> Result<Option<Row>, OutOfMemory>
+    requires items { All (ItemIsOfRow (R.rows rows.now)) panel.now.items }
+    requires told { (unit : ℕ) → is_among units.now unit ≡ true → All (λ name. R.tells rows.now unit name ≡ true) fields.now }
+    ensures value { IfOk result (λ tuple. tuple ≡ tuple_there (read_in (R.rows rows.now)) fields.now units.now panel.now x y) }
+    ensures counted { steps.old ≤ steps.new }
+    ensures few { steps.new ≤ steps.old + length fields.now }
+{
+    match hit_at(alloc, units, panel, x, y)? {
+        Some(hit) => Ok(Some(tuple_of(alloc, rows, fields, hit, steps)?)),
+        None => Ok(None),
+    }
+}
+
+// The store of a selection that keeps these fields after a click.
+fn clicked_with<R: UnitRows, L: Ledger>(
+    alloc: Global,
+    rows: &R,
+    name: &str,
+    fields: &[Text],
+    units: &[u32],
+    panel: &Panel,
+    least: u32,
+    x: Num,
+    y: Num,
+    steps: &mut Steps<L>,
+) -> Result<StoreOf, OutOfMemory>
+    requires items { All (ItemIsOfRow (R.rows rows.now)) panel.now.items }
+    requires told { (unit : ℕ) → is_among units.now unit ≡ true → All (λ name. R.tells rows.now unit name ≡ true) fields.now }
+    ensures value { IfOk result (λ after. after ≡ clicked_store name.now panel.now.facet least
+        (tuple_there (read_in (R.rows rows.now)) fields.now units.now panel.now x y)) }
+    ensures counted { steps.old ≤ steps.new }
+    ensures few { steps.new ≤ steps.old + length fields.now }
+{
+    let tuple = tuple_at(alloc, rows, fields, units, panel, x, y, steps)?;
+    store_clicked(alloc, name, &panel.facet, least, tuple)
+}
+
+/// The store of a selection that has these units in a panel, the least of which is this, after a click there.
+#[tactic(auto, using(crate::proofs::CountLemmas::of_click))]
+pub(crate) fn clicked<R: UnitRows, L: Ledger>(
+    alloc: Global,
+    rows: &R,
+    v: &VgSelection,
+    units: &[u32],
+    panel: &Panel,
+    least: u32,
+    x: Num,
+    y: Num,
+    store: &StoreOf,
+    steps: &mut Steps<L>,
+) -> Result<StoreOf, OutOfMemory>
+    requires items { All (ItemIsOfRow (R.rows rows.now)) panel.now.items }
+    requires told { (unit : ℕ) → is_among units.now unit ≡ true → (fields : List (List ℕ)) → AreKept v.now.selection fields
+        → All (λ name. R.tells rows.now unit name ≡ true) fields }
+    ensures value { IfOk result (λ after. (index : ℕ) → after
+        ≡ clicked_at (read_in (R.rows rows.now)) x y v.now.selection (index, panel.now) least units.now store.now) }
+    ensures counted { steps.old ≤ steps.new }
+    ensures few { steps.new ≤ steps.old + count_kept v.now.selection }
+{
+    match &v.selection.click {
+        Some(fields) => clicked_with(
+            alloc,
+            rows,
+            v.selection.name.as_str(),
+            fields.as_slice(),
+            units,
+            panel,
+            least,
+            x,
+            y,
+            steps,
+        ),
+        None => store.copy(alloc),
+    }
+}
+
+// The store of a selection that keeps these fields after a click with the shift key.
+fn toggled_with<R: UnitRows, L: Ledger>(
+    alloc: Global,
+    rows: &R,
+    fields: &[Text],
+    units: &[u32],
+    panel: &Panel,
+    least: u32,
+    x: Num,
+    y: Num,
+    store: &StoreOf,
+    steps: &mut Steps<L>,
+) -> Result<StoreOf, OutOfMemory>
+    requires items { All (ItemIsOfRow (R.rows rows.now)) panel.now.items }
+    requires told { (unit : ℕ) → is_among units.now unit ≡ true → All (λ name. R.tells rows.now unit name ≡ true) fields.now }
+    ensures value { IfOk result (λ after. after ≡ toggled_store fields.now panel.now.facet least store.now
+        (tuple_there (read_in (R.rows rows.now)) fields.now units.now panel.now x y)) }
+    ensures counted { steps.old ≤ steps.new }
+    ensures few { steps.new ≤ steps.old + length fields.now }
+{
+    let tuple = tuple_at(alloc, rows, fields, units, panel, x, y, steps)?;
+    store_toggled(alloc, fields, &panel.facet, least, store, tuple)
+}
+
+/// The store of a selection that has these units in a panel, the least of which is this, after a click with the shift key there.
+#[tactic(auto, using(crate::proofs::CountLemmas::of_toggle))]
+pub(crate) fn toggled<R: UnitRows, L: Ledger>(
+    alloc: Global,
+    rows: &R,
+    v: &VgSelection,
+    units: &[u32],
+    panel: &Panel,
+    least: u32,
+    x: Num,
+    y: Num,
+    store: &StoreOf,
+    steps: &mut Steps<L>,
+) -> Result<StoreOf, OutOfMemory>
+    requires items { All (ItemIsOfRow (R.rows rows.now)) panel.now.items }
+    requires told { (unit : ℕ) → is_among units.now unit ≡ true → (fields : List (List ℕ)) → AreKept v.now.selection fields
+        → All (λ name. R.tells rows.now unit name ≡ true) fields }
+    ensures value { IfOk result (λ after. (index : ℕ) → after
+        ≡ toggled_at (read_in (R.rows rows.now)) x y v.now.selection (index, panel.now) least units.now store.now) }
+    ensures counted { steps.old ≤ steps.new }
+    ensures few { steps.new ≤ steps.old + count_kept v.now.selection }
+{
+    match &v.selection.toggle {
+        Some(fields) => toggled_with(
+            alloc,
+            rows,
+            fields.as_slice(),
+            units,
+            panel,
+            least,
+            x,
+            y,
+            store,
+            steps,
+        ),
+        None => store.copy(alloc),
+    }
+}

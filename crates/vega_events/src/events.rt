@@ -1,0 +1,244 @@
+// Events of the mouse over a Vega chart.
+ghost use Rattle.std.specs.Prelude.{◌≡◌, ◌≤◌, ◌+◌, ℕ, List, Some, true, if◌then◌else◌, slice_get, IfOk, All};
+ghost use Rattle.std.specs.Option.{option_map};
+ghost use Rattle.scale_kit.specs.Scale.{AreScales};
+ghost use Rattle.selection_events.specs.Hits.{is_among};
+ghost use Rattle.selection_events.specs.Places.{place_at};
+ghost use Rattle.selection_events.specs.Stores.{empty_store as nothing_held};
+ghost use Rattle.vega_selections.specs.Selections.{selections_of as selections_in};
+ghost use Rattle.vega_events.specs.Scales.{inverted_by};
+ghost use Rattle.vega_events.specs.Events.{read_in, begin_of, change_on, store_after, stores_after, params_after};
+ghost use Rattle.vega_events.specs.Premises.{ItemIsOfRow, ItemsAreOfRows, AreKept, IsTold, FieldsAreTold, count_kept, count_all};
+
+use crate::clicks::{clicked, toggled};
+use crate::drags::dragged;
+use cell_value::{Params, Steps, StoreOf};
+use fixed_num::Num;
+use param_flow::{Event, UnitRows};
+use scale_kit::ScaleSet;
+use scene_tree::{Panel, Scene};
+use selection_events::{Drag, PlotOf, empty_store, panel_at, units_in_panel};
+use std::alloc::Global;
+use std::sync::ledger::Ledger;
+use text_kit::{OutOfMemory, Seq, copy_list};
+use vega_selections::{VgSelection, plots_of, selections_of};
+use vega_spec::VgSpec;
+
+// Where an event begins.
+fn begin_of(e: &Event) -> (Num, Num)
+    ensures { result ≡ begin_of e.now }
+{
+    match e {
+        Event::Click { x, y } => (*x, *y),
+        Event::Shift { x, y } => (*x, *y),
+        Event::Double { x, y } => (*x, *y),
+        Event::Drag { x1, y1, .. } => (*x1, *y1),
+    }
+}
+
+// The store of a selection after a double click.
+fn cleared(alloc: Global, v: &VgSelection, store: &StoreOf) -> Result<StoreOf, OutOfMemory>
+    ensures { IfOk result (λ after. after ≡ (if v.now.selection.clears then nothing_held v.now.selection.name else store.now)) }
+{
+    if v.selection.clears {
+        empty_store(alloc, v.selection.name.as_str())
+    } else {
+        store.copy(alloc)
+    }
+}
+
+// The store of a selection that has these units in the panel of an index, the least of which is this, after an event there.
+fn changed<R: UnitRows, L: Ledger>(
+    alloc: Global,
+    set: &ScaleSet,
+    rows: &R,
+    e: &Event,
+    index: usize,
+    panel: &Panel,
+    v: &VgSelection,
+    units: &[u32],
+    least: u32,
+    store: &StoreOf,
+    steps: &mut Steps<L>,
+) -> Result<StoreOf, OutOfMemory>
+    requires scales { AreScales set.now }
+    requires items { All (ItemIsOfRow (R.rows rows.now)) panel.now.items }
+    requires told { (unit : ℕ) → is_among units.now unit ≡ true → (fields : List (List ℕ)) → AreKept v.now.selection fields
+        → All (λ name. R.tells rows.now unit name ≡ true) fields }
+    ensures value { IfOk result (λ after. after ≡ change_on e.now (read_in (R.rows rows.now)) (inverted_by set.now v.now)
+        v.now.selection (index, panel.now) least units.now store.now) }
+    ensures counted { steps.old ≤ steps.new }
+    ensures few { steps.new ≤ steps.old + count_kept v.now.selection }
+{
+    match e {
+        Event::Click { x, y } => clicked(alloc, rows, v, units, panel, least, *x, *y, store, steps),
+        Event::Shift { x, y } => toggled(alloc, rows, v, units, panel, least, *x, *y, store, steps),
+        Event::Double { .. } => cleared(alloc, v, store),
+        Event::Drag { x1, y1, x2, y2 } => {
+            let d = Drag {
+                x1: *x1,
+                y1: *y1,
+                x2: *x2,
+                y2: *y2,
+            };
+            dragged(alloc, set, v, index, panel, least, d, store)
+        }
+    }
+}
+
+// The store of a selection after an event in the panel of an index.
+#[tactic(auto, using(crate::proofs::HitLemmas::told_in_panel))]
+fn store_after<R: UnitRows, L: Ledger>(
+    alloc: Global,
+    plots: &[PlotOf],
+    set: &ScaleSet,
+    rows: &R,
+    e: &Event,
+    index: usize,
+    panel: &Panel,
+    v: &VgSelection,
+    store: &StoreOf,
+    steps: &mut Steps<L>,
+) -> Result<StoreOf, OutOfMemory>
+    requires scales { AreScales set.now }
+    requires items { All (ItemIsOfRow (R.rows rows.now)) panel.now.items }
+    requires told { IsTold (R.tells rows.now) v.now }
+    ensures value { IfOk result (λ after. after
+        ≡ store_after plots.now set.now (R.rows rows.now) e.now (index, panel.now) v.now store.now) }
+    ensures counted { steps.old ≤ steps.new }
+    ensures few { steps.new ≤ steps.old + count_kept v.now.selection }
+{
+    let here = units_in_panel(alloc, plots, &v.selection, panel)?;
+    let units = here.as_slice();
+    match units {
+        [] => store.copy(alloc),
+        [least, ..] => changed(
+            alloc, set, rows, e, index, panel, v, units, *least, store, steps,
+        ),
+    }
+}
+
+// The stores of selections after an event in the panel of an index.
+fn stores_in<R: UnitRows, L: Ledger>(
+    alloc: Global,
+    plots: &[PlotOf],
+    set: &ScaleSet,
+    rows: &R,
+    e: &Event,
+    index: usize,
+    panel: &Panel,
+    selections: &[VgSelection],
+    stores: &[StoreOf],
+    steps: &mut Steps<L>,
+) -> Result<Seq<StoreOf>, OutOfMemory>
+    requires scales { AreScales set.now }
+    requires items { All (ItemIsOfRow (R.rows rows.now)) panel.now.items }
+    requires told { FieldsAreTold (R.tells rows.now) selections.now }
+    ensures value { IfOk result (λ after. after
+        ≡ stores_after plots.now set.now (R.rows rows.now) e.now (Some (index, panel.now)) selections.now stores.now) }
+    ensures counted { steps.old ≤ steps.new }
+    ensures few { steps.new ≤ steps.old + count_all selections.now }
+{
+    let mut out = Seq::with_capacity(alloc, stores.len())?;
+    for (v, store) in selections.iter().zip(stores) {
+        out.push(store_after(alloc, plots, set, rows, e, index, panel, v, store, steps)?)?;
+    }
+    Ok(out)
+}
+
+// The stores of selections after an event that acts in the panel of an index.
+#[tactic(auto, using(crate::proofs::HitLemmas::items_of_panel))]
+fn stores_at<R: UnitRows, L: Ledger>(
+    alloc: Global,
+    plots: &[PlotOf],
+    set: &ScaleSet,
+    scene: &Scene,
+    rows: &R,
+    e: &Event,
+    index: usize,
+    selections: &[VgSelection],
+    stores: &[StoreOf],
+    steps: &mut Steps<L>,
+) -> Result<Seq<StoreOf>, OutOfMemory>
+    requires scales { AreScales set.now }
+    requires items { ItemsAreOfRows (R.rows rows.now) scene.now }
+    requires told { FieldsAreTold (R.tells rows.now) selections.now }
+    ensures value { IfOk result (λ after. after ≡ stores_after plots.now set.now (R.rows rows.now) e.now
+        (option_map (λ panel. (index, panel)) (slice_get scene.now.panels index)) selections.now stores.now) }
+    ensures counted { steps.old ≤ steps.new }
+    ensures few { steps.new ≤ steps.old + count_all selections.now }
+{
+    match scene.panels.get(index) {
+        Some(panel) => stores_in(
+            alloc, plots, set, rows, e, index, panel, selections, stores, steps,
+        ),
+        None => copy_list(alloc, stores),
+    }
+}
+
+// The stores of selections after an event.
+fn stores_by<R: UnitRows, L: Ledger>(
+    alloc: Global,
+    plots: &[PlotOf],
+    set: &ScaleSet,
+    scene: &Scene,
+    rows: &R,
+    e: &Event,
+    selections: &[VgSelection],
+    stores: &[StoreOf],
+    steps: &mut Steps<L>,
+) -> Result<Seq<StoreOf>, OutOfMemory>
+    requires scales { AreScales set.now }
+    requires items { ItemsAreOfRows (R.rows rows.now) scene.now }
+    requires told { FieldsAreTold (R.tells rows.now) selections.now }
+    ensures value { IfOk result (λ after. after ≡ stores_after plots.now set.now (R.rows rows.now) e.now
+        (place_at scene.now (begin_of e.now).0 (begin_of e.now).1) selections.now stores.now) }
+    ensures counted { steps.old ≤ steps.new }
+    ensures few { steps.new ≤ steps.old + count_all selections.now }
+{
+    let (x, y) = begin_of(e);
+    match panel_at(alloc, scene, x, y)? {
+        Some(index) => stores_at(
+            alloc, plots, set, scene, rows, e, index, selections, stores, steps,
+        ),
+        None => copy_list(alloc, stores),
+    }
+}
+
+/// The parameters and the stores of a chart after an event of the mouse, from what is drawn of it: the scene, the scales of its plots, and the
+/// rows that its marks draw. It reads each field that a selection keeps once at most.
+pub fn on_event<R: UnitRows, L: Ledger>(
+    alloc: Global,
+    g: &VgSpec,
+    now: &Params,
+    scales: &ScaleSet,
+    scene: &Scene,
+    rows: &R,
+    e: &Event,
+    steps: &mut Steps<L>,
+) -> Result<Params, OutOfMemory>
+    requires scales { AreScales scales.now }
+    requires items { ItemsAreOfRows (R.rows rows.now) scene.now }
+    requires told { FieldsAreTold (R.tells rows.now) (selections_in g.now) }
+    ensures value { IfOk result (λ after. after ≡ params_after g.now now.now scales.now scene.now (R.rows rows.now) e.now) }
+    ensures counted { steps.old ≤ steps.new }
+    ensures few { steps.new ≤ steps.old + count_all (selections_in g.now) }
+{
+    let selections = selections_of(alloc, g)?;
+    let plots = plots_of(alloc, g)?;
+    let stores = stores_by(
+        alloc,
+        plots.as_slice(),
+        scales,
+        scene,
+        rows,
+        e,
+        selections.as_slice(),
+        now.stores.as_slice(),
+        steps,
+    )?;
+    Ok(Params {
+        params: copy_list(alloc, now.params.as_slice())?,
+        stores,
+    })
+}
