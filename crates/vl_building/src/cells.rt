@@ -4,7 +4,7 @@ ghost use Rattle.json_exact.specs.declared.json.Json.{out-Json};
 ghost use Rattle.vl_building.specs.Values.{scalar_in, scalar_of, needed_scalar, title_in, title_at, nullable_in, nullable_at, texts_in, both_names, names_in, needed_names};
 
 use crate::parts;
-use crate::parts::{Item, Object, Value, list_of};
+use crate::parts::{Item, Items, Object, Value, each};
 use crate::several::Part;
 use cell_value::Cell;
 use json_exact::{Json, Member};
@@ -13,29 +13,30 @@ use text_kit::{OutOfMemory, Text};
 use tree_readers::{member_value, text_of};
 use vl_spec::{Names, Texts};
 
-// A scalar.
-impl Value for Cell {
-    ghost read = { scalar_in };
-
-    fn of_value(_: Global, tree: &Json) -> Result<Option<Cell>, OutOfMemory> {
-        match tree {
-            Json::Null => Ok(Some(Cell::Null)),
-            Json::Flag(flag) => Ok(Some(Cell::Flag(*flag))),
-            Json::Number(number) => Ok(Some(Cell::Number(*number))),
-            Json::Text(text) => text.copy().map(Cell::Text).map(Some),
-            Json::Huge | Json::List(_) | Json::Object(_) => Ok(None),
-        }
-    }
-}
-
 // A scalar, null where an item is none.
 impl Item for Cell {
     ghost item = { scalar_of };
 
-    fn of_item(alloc: Global, tree: &Json) -> Result<Cell, OutOfMemory> {
-        match Cell::of_value(alloc, tree)? {
-            Some(cell) => Ok(cell),
-            None => Ok(Cell::Null),
+    fn of_item(_: Global, tree: &Json) -> Result<Cell, OutOfMemory> {
+        match tree {
+            Json::Flag(flag) => Ok(Cell::Flag(*flag)),
+            Json::Number(number) => Ok(Cell::Number(*number)),
+            Json::Text(text) => Ok(Cell::Text(text.copy()?)),
+            Json::Null | Json::Huge | Json::List(_) | Json::Object(_) => Ok(Cell::Null),
+        }
+    }
+}
+
+// A scalar.
+impl Value for Cell {
+    ghost read = { scalar_in };
+
+    fn of_value(alloc: Global, tree: &Json) -> Result<Option<Cell>, OutOfMemory> {
+        match tree {
+            Json::Null | Json::Flag(_) | Json::Number(_) | Json::Text(_) => Ok(Some(Cell::of_item(
+                alloc, tree,
+            )?)),
+            Json::Huge | Json::List(_) | Json::Object(_) => Ok(None),
         }
     }
 }
@@ -44,8 +45,8 @@ impl Item for Cell {
 pub fn needed_scalar(alloc: Global, members: &[Member], name: &str) -> Result<Cell, OutOfMemory>
     ensures { IfOk result (λ cell. cell ≡ needed_scalar members.now name.now) }
 {
-    match parts::found_at(alloc, members, name)? {
-        Some(cell) => Ok(cell),
+    match member_value(members, name) {
+        Some(tree) => Cell::of_item(alloc, tree),
         None => Ok(Cell::Null),
     }
 }
@@ -57,7 +58,7 @@ impl Value for Option<Text> {
     fn of_value(_: Global, tree: &Json) -> Result<Option<Option<Text>>, OutOfMemory> {
         match tree {
             Json::Null => Ok(Some(None)),
-            Json::Text(text) => text.copy().map(Some).map(Some),
+            Json::Text(text) => Ok(Some(Some(text.copy()?))),
             Json::Flag(_) | Json::Number(_) | Json::Huge | Json::List(_) | Json::Object(_) => Ok(
                 None,
             ),
@@ -83,7 +84,7 @@ fn nullable_in<T: Object>(alloc: Global, tree: &Json) -> Result<Option<Option<T>
 {
     match tree {
         Json::Null => Ok(Some(None)),
-        Json::Object(members) => T::of_members(alloc, members.as_slice()).map(Some).map(Some),
+        Json::Object(members) => Ok(Some(Some(T::of_members(alloc, members.as_slice())?))),
         Json::Flag(_) | Json::Number(_) | Json::Huge | Json::Text(_) | Json::List(_) => Ok(None),
     }
 }
@@ -109,10 +110,11 @@ impl Value for Texts {
 
     fn of_value(alloc: Global, tree: &Json) -> Result<Option<Texts>, OutOfMemory> {
         match tree {
-            Json::Text(text) => text.copy().map(Texts::One).map(Some),
-            Json::List(items) => list_of(alloc, items.as_slice())
-                .map(Texts::Several)
-                .map(Some),
+            Json::Text(text) => Ok(Some(Texts::One(text.copy()?))),
+            Json::List(items) => Ok(Some(Texts::Several(each::<Json, Text, Items>(
+                alloc,
+                items.as_slice(),
+            )?))),
             Json::Null | Json::Flag(_) | Json::Number(_) | Json::Huge | Json::Object(_) => Ok(None),
         }
     }
@@ -137,7 +139,7 @@ impl Value for Names {
 
     fn of_value(alloc: Global, tree: &Json) -> Result<Option<Names>, OutOfMemory> {
         match tree {
-            Json::Text(text) => text.copy().map(Names::One).map(Some),
+            Json::Text(text) => Ok(Some(Names::One(text.copy()?))),
             Json::List(items) => both_names(alloc, items.as_slice()),
             Json::Null | Json::Flag(_) | Json::Number(_) | Json::Huge | Json::Object(_) => Ok(None),
         }

@@ -6,7 +6,7 @@ ghost use Rattle.vl_building.specs.Inside.{member_gives};
 ghost use Rattle.vl_building.specs.Channels.{test_of, channel_with, condition_showing, several_in, as_condition, condition_with, condition_of, conditions_of, conditions_at, channel_of, shown_in, channel_coded, channel_in, encoding_of};
 
 use crate::filters::{needed_filter, param_test_of};
-use crate::parts::{Object, OfMember, given_by, object_with, objects_of};
+use crate::parts::{Object, Objects, OfMember, each, given_by, object_with};
 use json_exact::{Json, Member};
 use std::alloc::Global;
 use text_kit::{Boxed, OutOfMemory, Seq};
@@ -20,9 +20,9 @@ impl Object for Test {
     #[tactic(auto, unfolding(crate::specs::Channels::test_of))]
     fn of_members(alloc: Global, members: &[Member]) -> Result<Test, OutOfMemory> {
         if has_member(members, "test") {
-            needed_filter(alloc, members, "test").map(Test::Filter)
+            Ok(Test::Filter(needed_filter(alloc, members, "test")?))
         } else {
-            param_test_of(alloc, members).map(Test::Param)
+            Ok(Test::Param(param_test_of(alloc, members)?))
         }
     }
 }
@@ -97,7 +97,7 @@ fn one_condition(alloc: Global, members: &[Member]) -> Result<Option<Conditions>
         ≡ Some (conditions.One (condition_with members.now (member_gives as_condition members.now)))) }
 {
     let condition = object_condition(alloc, members)?;
-    Boxed::new(alloc, condition).map(Conditions::One).map(Some)
+    Ok(Some(Conditions::One(Boxed::new(alloc, condition)?)))
 }
 
 // The conditions that items are.
@@ -160,7 +160,7 @@ fn several_in(alloc: Global, name: &str, items: &[Json]) -> Result<Option<Channe
     ensures { IfOk result (λ shows. shows ≡ several_in name.now items.now) }
 {
     if name == "detail" {
-        objects_of(alloc, items).map(ChannelKind::Several).map(Some)
+        Ok(Some(ChannelKind::Several(each::<Json, Channel, Objects>(alloc, items)?)))
     } else {
         Ok(None)
     }
@@ -171,9 +171,10 @@ fn shown_in(alloc: Global, name: &str, tree: &Json) -> Result<Option<ChannelKind
     ensures { IfOk result (λ shows. shows ≡ shown_in name.now (out-Json tree.now)) }
 {
     match tree {
-        Json::Object(members) => Channel::of_members(alloc, members.as_slice())
-            .map(ChannelKind::One)
-            .map(Some),
+        Json::Object(members) => Ok(Some(ChannelKind::One(Channel::of_members(
+            alloc,
+            members.as_slice(),
+        )?))),
         Json::List(items) => several_in(alloc, name, items.as_slice()),
         Json::Null | Json::Flag(_) | Json::Number(_) | Json::Huge | Json::Text(_) => Ok(None),
     }

@@ -1,10 +1,10 @@
 // What a specification has of data and parameters.
-ghost use Rattle.std.specs.Prelude.{◌≡◌, map, IfOk};
+ghost use Rattle.std.specs.Prelude.{◌≡◌, IfOk};
 ghost use Rattle.json_exact.specs.Path.{member_value};
 ghost use Rattle.vl_building.specs.Sources.{parse_of, parse_at, format_of, data_at};
 
 use crate::names::{named_at, named_in};
-use crate::parts::Object;
+use crate::parts::{Object, Reads, each};
 use crate::several::three_parts;
 use json_exact::{Json, Member};
 use std::alloc::Global;
@@ -48,26 +48,19 @@ impl Drop for DataAt {
     }
 }
 
-// How the texts of the field of a member's name are read.
-fn parse_of(member: &Member) -> Result<(Text, ParseKind), OutOfMemory>
-    ensures { IfOk result (λ parse. parse ≡ parse_of member.now) }
-{
-    let name = member.name.copy()?;
-    Ok((name, named_in(&member.value).unwrap_or(ParseKind::Number)))
-}
+// How the texts of the fields of members' names are read.
+struct Parses;
 
-// The same of each member.
-fn parses_of(alloc: Global, members: &[Member]) -> Result<Seq<(Text, ParseKind)>, OutOfMemory>
-    ensures { IfOk result (λ parses. parses ≡ map parse_of members.now) }
-{
-    let mut parses = Seq::new(alloc);
-    for member in members {
-        parses.push(parse_of(member)?)?;
+impl Reads<Member, (Text, ParseKind)> for Parses {
+    ghost reads = { parse_of };
+
+    fn read(_: Global, member: &Member) -> Result<(Text, ParseKind), OutOfMemory> {
+        let name = member.name.copy()?;
+        Ok((name, named_in(&member.value).unwrap_or(ParseKind::Number)))
     }
-    Ok(parses)
 }
 
-// The same under a name.
+// How the texts of fields are read, by the members of the object under a name.
 fn parse_at(
     alloc: Global,
     members: &[Member],
@@ -76,7 +69,10 @@ fn parse_at(
     ensures { IfOk result (λ parses. parses ≡ parse_at members.now name.now) }
 {
     match members_at(members, name) {
-        Some(members) => parses_of(alloc, members.as_slice()).map(Some),
+        Some(members) => Ok(Some(each::<Member, (Text, ParseKind), Parses>(
+            alloc,
+            members.as_slice(),
+        )?)),
         None => Ok(None),
     }
 }
@@ -98,7 +94,7 @@ fn value_at(alloc: Global, members: &[Member], name: &str) -> Result<Option<Json
     ensures { IfOk result (λ tree. tree ≡ member_value members.now name.now) }
 {
     match tree_readers::member_value(members, name) {
-        Some(tree) => tree.copy(alloc).map(Some),
+        Some(tree) => Ok(Some(tree.copy(alloc)?)),
         None => Ok(None),
     }
 }

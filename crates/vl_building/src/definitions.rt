@@ -1,17 +1,19 @@
 // Definitions of channels, apart from their conditions.
-ghost use Rattle.std.specs.Prelude.{◌≡◌, IfOk};
+ghost use Rattle.std.specs.Prelude.{◌≡◌, Some, IfOk};
+ghost use Rattle.vl_spec.specs.declared.orders.Sort.TheVariants as sort;
 ghost use Rattle.vl_spec.specs.declared.definitions.Definition.TheVariants as variant;
-ghost use Rattle.vl_building.specs.Definitions.{bin_settings_of, bin_in, sort_named, field_sort_of, sort_in, sort_at, stacking_in, datum_definition_of, field_definition_of, is_channel_kind, definition_by, definition_of};
+ghost use Rattle.vl_building.specs.Definitions.{bin_settings_of, bin_in, sort_named, field_sort_of, sort_in, sort_at, stacking_in, datum_definition_of, field_definition_of, definition_by, definition_of};
 
 use crate::cells::needed_scalar;
-use crate::deciding::{Deciding, first_deciding};
 use crate::fields::field_at;
 use crate::names::{ByName, named_at};
 use crate::numbers::{bin_step_at, count_at, space_at};
 use crate::parts;
-use crate::parts::{Object, Plain, Value, list_of, plain_at};
+use crate::parts::{Items, Object, Plain, Value, each, plain_at};
 use crate::several::{Part, four_parts, six_parts};
 use crate::tables::{operation_at, time_unit_at};
+use crate::words::first_among;
+use cell_value::Cell;
 use json_exact::{Json, Member};
 use std::alloc::Global;
 use text_kit::OutOfMemory;
@@ -62,16 +64,16 @@ fn sort_named(name: &str) -> Option<Sort>
 
 // An order by an aggregate of a field.
 #[tactic(auto, unfolding(crate::specs::Definitions::field_sort_of))]
-fn field_sort_of(alloc: Global, members: &[Member]) -> Result<FieldSort, OutOfMemory>
-    ensures { IfOk result (λ sort. sort ≡ field_sort_of members.now) }
+fn field_sort_of(alloc: Global, members: &[Member]) -> Result<Option<Sort>, OutOfMemory>
+    ensures { IfOk result (λ order. order ≡ Some (sort.Field (field_sort_of members.now))) }
 {
     let op = operation_at(members, "op");
     let order = named_at(members, "order");
-    Ok(FieldSort {
+    Ok(Some(Sort::Field(FieldSort {
         field: field_at(alloc, members, "field")?,
         op,
         order,
-    })
+    })))
 }
 
 // How the cells of a channel stand.
@@ -82,10 +84,11 @@ impl Value for Sort {
         match tree {
             Json::Null => Ok(Some(Sort::Null)),
             Json::Text(text) => Ok(sort_named(text.as_str())),
-            Json::List(items) => list_of(alloc, items.as_slice()).map(Sort::Listed).map(Some),
-            Json::Object(members) => field_sort_of(alloc, members.as_slice())
-                .map(Sort::Field)
-                .map(Some),
+            Json::List(items) => Ok(Some(Sort::Listed(each::<Json, Cell, Items>(
+                alloc,
+                items.as_slice(),
+            )?))),
+            Json::Object(members) => field_sort_of(alloc, members.as_slice()),
             Json::Flag(_) | Json::Number(_) | Json::Huge => Ok(None),
         }
     }
@@ -169,20 +172,8 @@ fn field_definition_of(alloc: Global, members: &[Member]) -> Result<Definition, 
     }))
 }
 
-// What decides what a definition is.
-struct DefinitionKinds;
-
-impl Deciding for DefinitionKinds {
-    ghost deciding = { is_channel_kind };
-
-    #[tactic(auto, unfolding(crate::specs::Definitions::is_channel_kind))]
-    fn decides(name: &str) -> bool {
-        match name {
-            "value" | "datum" | "field" | "aggregate" | "bin" | "timeUnit" => true,
-            _ => false,
-        }
-    }
-}
+// The members of which the first decides what a definition is.
+const KINDS: [&str; 6] = ["value", "datum", "field", "aggregate", "bin", "timeUnit"];
 
 // A definition by its first deciding member.
 #[tactic(auto, unfolding(crate::specs::Definitions::definition_by))]
@@ -190,7 +181,7 @@ fn definition_by(alloc: Global, kind: &str, members: &[Member]) -> Result<Defini
     ensures { IfOk result (λ definition. definition ≡ definition_by kind.now members.now) }
 {
     match kind {
-        "value" => needed_scalar(alloc, members, "value").map(Definition::Value),
+        "value" => Ok(Definition::Value(needed_scalar(alloc, members, "value")?)),
         "datum" => datum_definition_of(alloc, members),
         _ => field_definition_of(alloc, members),
     }
@@ -200,12 +191,8 @@ fn definition_by(alloc: Global, kind: &str, members: &[Member]) -> Result<Defini
 impl Object for Definition {
     ghost built = { definition_of };
 
-    #[tactic(auto, unfolding(crate::specs::Definitions::definition_of))]
+    #[tactic(auto, unfolding(crate::specs::Definitions::definition_of, crate::specs::Definitions::is_channel_kind))]
     fn of_members(alloc: Global, members: &[Member]) -> Result<Definition, OutOfMemory> {
-        definition_by(
-            alloc,
-            first_deciding::<DefinitionKinds>(members, ""),
-            members,
-        )
+        definition_by(alloc, first_among(members, &KINDS, ""), members)
     }
 }

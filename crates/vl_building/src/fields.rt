@@ -1,19 +1,20 @@
 // The names of fields.
-ghost use Rattle.std.specs.Prelude.{◌≡◌, map, IfOk};
-ghost use Rattle.vl_building.specs.Fields.{field_name, field_at, needed_field, field_of, fields_at, needed_fields};
+ghost use Rattle.std.specs.Prelude.{◌≡◌, IfOk};
+ghost use Rattle.vl_building.specs.Fields.{field_at, needed_field, field_of};
 
 use crate::escapes::field_name;
+use crate::parts::Reads;
 use json_exact::{Json, Member};
 use std::alloc::Global;
-use text_kit::{OutOfMemory, Seq, Text};
-use tree_readers::{items_at, text_in, word_at};
+use text_kit::{OutOfMemory, Text};
+use tree_readers::{text_in, word_at};
 
 /// The field under a name.
 pub fn field_at(alloc: Global, members: &[Member], name: &str) -> Result<Option<Text>, OutOfMemory>
     ensures { IfOk result (λ field. field ≡ field_at members.now name.now) }
 {
     match word_at(members, name) {
-        Some(text) => field_name(alloc, text.as_str()).map(Some),
+        Some(text) => Ok(Some(field_name(alloc, text.as_str())?)),
         None => Ok(None),
     }
 }
@@ -28,51 +29,16 @@ pub fn needed_field(alloc: Global, members: &[Member], name: &str) -> Result<Tex
     }
 }
 
-// The field that an item says, empty where it says none.
-fn field_of(alloc: Global, tree: &Json) -> Result<Text, OutOfMemory>
-    ensures { IfOk result (λ field. field ≡ field_of tree.now) }
-{
-    match text_in(tree) {
-        Some(text) => field_name(alloc, text.as_str()),
-        None => Ok(Text::new(alloc)),
-    }
-}
+/// Fields, each empty where an item says none.
+pub struct Fields;
 
-// The fields that items say.
-fn fields_in(alloc: Global, items: &[Json]) -> Result<Seq<Text>, OutOfMemory>
-    ensures { IfOk result (λ fields. fields ≡ map field_of items.now) }
-{
-    let mut fields = Seq::new(alloc);
-    for tree in items {
-        fields.push(field_of(alloc, tree)?)?;
-    }
-    Ok(fields)
-}
+impl Reads<Json, Text> for Fields {
+    ghost reads = { field_of };
 
-/// The fields of a list under a name.
-pub fn fields_at(
-    alloc: Global,
-    members: &[Member],
-    name: &str,
-) -> Result<Option<Seq<Text>>, OutOfMemory>
-    ensures { IfOk result (λ fields. fields ≡ fields_at members.now name.now) }
-{
-    match items_at(members, name) {
-        Some(items) => fields_in(alloc, items.as_slice()).map(Some),
-        None => Ok(None),
-    }
-}
-
-/// The fields of a list under a name, none where there is no list.
-pub fn needed_fields(
-    alloc: Global,
-    members: &[Member],
-    name: &str,
-) -> Result<Seq<Text>, OutOfMemory>
-    ensures { IfOk result (λ fields. fields ≡ needed_fields members.now name.now) }
-{
-    match items_at(members, name) {
-        Some(items) => fields_in(alloc, items.as_slice()),
-        None => Ok(Seq::new(alloc)),
+    fn read(alloc: Global, tree: &Json) -> Result<Text, OutOfMemory> {
+        match text_in(tree) {
+            Some(text) => field_name(alloc, text.as_str()),
+            None => Ok(Text::new(alloc)),
+        }
     }
 }

@@ -4,13 +4,15 @@ ghost use Rattle.std.specs.Option.{option_and_then};
 ghost use Rattle.json_exact.specs.Inside.{items_in};
 ghost use Rattle.tree_readers.specs.Parts.{found_at};
 ghost use Rattle.json_exact.specs.declared.json.Json.{out-Json};
+ghost use Rattle.vl_spec.specs.declared.filters.Filter.TheVariants as filter;
 ghost use Rattle.vl_building.specs.Inside.{member_gives};
 ghost use Rattle.vl_building.specs.Filters.{param_test_of, bound_in, range_from, range_in, later_comparison, comparison_of, field_test_of, as_filter, text_filter, filters_given, object_filter, filter_of, filters_of, needed_filter};
 
 use crate::cells::needed_scalar;
 use crate::fields::needed_field;
-use crate::parts::{expression_in, needed_list};
+use crate::parts::{Items, expression_or_null, needed_each};
 use crate::tables::time_unit_at;
+use cell_value::Cell;
 use expr_syntax::Expr;
 use fixed_num::Num;
 use json_exact::{Json, Member};
@@ -74,11 +76,11 @@ fn later_comparison(alloc: Global, members: &[Member]) -> Result<Comparison, Out
     ensures { IfOk result (λ comparison. comparison ≡ later_comparison members.now) }
 {
     if has_member(members, "gte") {
-        needed_scalar(alloc, members, "gte").map(Comparison::MoreSame)
+        Ok(Comparison::MoreSame(needed_scalar(alloc, members, "gte")?))
     } else if has_member(members, "range") {
         Ok(range_at(members, "range").unwrap_or(Comparison::Range(None, None)))
     } else if has_member(members, "oneOf") {
-        needed_list(alloc, members, "oneOf").map(Comparison::OneOf)
+        Ok(Comparison::OneOf(needed_each::<Cell, Items>(alloc, members, "oneOf")?))
     } else {
         Ok(Comparison::Valid(tree_readers::flag_at(members, "valid").unwrap_or(true)))
     }
@@ -90,13 +92,13 @@ fn comparison_of(alloc: Global, members: &[Member]) -> Result<Comparison, OutOfM
     ensures { IfOk result (λ comparison. comparison ≡ comparison_of members.now) }
 {
     if has_member(members, "equal") {
-        needed_scalar(alloc, members, "equal").map(Comparison::Equal)
+        Ok(Comparison::Equal(needed_scalar(alloc, members, "equal")?))
     } else if has_member(members, "lt") {
-        needed_scalar(alloc, members, "lt").map(Comparison::Less)
+        Ok(Comparison::Less(needed_scalar(alloc, members, "lt")?))
     } else if has_member(members, "lte") {
-        needed_scalar(alloc, members, "lte").map(Comparison::LessSame)
+        Ok(Comparison::LessSame(needed_scalar(alloc, members, "lte")?))
     } else if has_member(members, "gt") {
-        needed_scalar(alloc, members, "gt").map(Comparison::More)
+        Ok(Comparison::More(needed_scalar(alloc, members, "gt")?))
     } else {
         later_comparison(alloc, members)
     }
@@ -104,17 +106,17 @@ fn comparison_of(alloc: Global, members: &[Member]) -> Result<Comparison, OutOfM
 
 // A test of a field.
 #[tactic(auto, unfolding(crate::specs::Filters::field_test_of))]
-fn field_test_of(alloc: Global, members: &[Member]) -> Result<FieldTest, OutOfMemory>
-    ensures { IfOk result (λ test. test ≡ field_test_of members.now) }
+fn field_test_of(alloc: Global, members: &[Member]) -> Result<Filter, OutOfMemory>
+    ensures { IfOk result (λ test. test ≡ filter.Field (field_test_of members.now)) }
 {
     let time_unit = time_unit_at(members, "timeUnit");
     let field = needed_field(alloc, members, "field")?;
     let comparison = comparison_of(alloc, members)?;
-    Ok(FieldTest {
+    Ok(Filter::Field(FieldTest {
         field,
         time_unit,
         comparison,
-    })
+    }))
 }
 
 // A filter that is a text.
@@ -122,10 +124,7 @@ fn field_test_of(alloc: Global, members: &[Member]) -> Result<FieldTest, OutOfMe
 fn text_filter(alloc: Global, text: &str) -> Result<Filter, OutOfMemory>
     ensures { IfOk result (λ filter. filter ≡ text_filter text.now) }
 {
-    match expression_in(alloc, text)? {
-        Some(e) => Ok(Filter::Expr(e)),
-        None => Ok(Filter::Expr(Expr::Null)),
-    }
+    Ok(Filter::Expr(expression_or_null(alloc, text)?))
 }
 
 /// The filter that a value is.
@@ -149,15 +148,15 @@ fn object_filter(alloc: Global, members: &[Member]) -> Result<Filter, OutOfMemor
     ensures { IfOk result (λ filter. filter ≡ object_filter members.now (member_gives as_filter members.now)) }
 {
     if has_member(members, "and") {
-        filters_at(alloc, members, "and").map(Filter::And)
+        Ok(Filter::And(filters_at(alloc, members, "and")?))
     } else if has_member(members, "or") {
-        filters_at(alloc, members, "or").map(Filter::Or)
+        Ok(Filter::Or(filters_at(alloc, members, "or")?))
     } else if has_member(members, "not") {
         Ok(Filter::Not(Boxed::new(alloc, needed_filter(alloc, members, "not")?)?))
     } else if has_member(members, "field") {
-        field_test_of(alloc, members).map(Filter::Field)
+        field_test_of(alloc, members)
     } else {
-        param_test_of(alloc, members).map(Filter::Param)
+        Ok(Filter::Param(param_test_of(alloc, members)?))
     }
 }
 

@@ -3,12 +3,12 @@ ghost use Rattle.std.specs.Prelude.{◌≡◌, IfOk};
 ghost use Rattle.vl_spec.specs.declared.transforms.Transform.TheVariants as variant;
 ghost use Rattle.vl_building.specs.Transforms.{operation_of, aggregate_of, sort_field_of, window_operation_of, frame_number, frame_end, frame_from, frame_end_of, frame_in, frame_at, window_of, lookup_from, lookup_of};
 
-use crate::fields::{field_at, fields_at, needed_field, needed_fields};
+use crate::fields::{Fields, field_at, needed_field};
 use crate::filters::bound_in;
 use crate::names::named_at;
 use crate::numbers::{is_whole, whole_at};
 use crate::parts;
-use crate::parts::{Object, needed_objects, objects_at};
+use crate::parts::{Object, Objects, each_at, needed_each};
 use crate::tables::{operation_at, window_operation_at};
 use fixed_num::Num;
 use json_exact::{Json, Member};
@@ -42,8 +42,8 @@ pub fn aggregate_of(
 ) -> Result<AggregateTransform, OutOfMemory>
     ensures { IfOk result (λ aggregate. aggregate ≡ aggregate_of name.now members.now) }
 {
-    let groupby = fields_at(alloc, members, "groupby")?;
-    let aggregate = needed_objects(alloc, members, name)?;
+    let groupby = each_at::<Text, Fields>(alloc, members, "groupby")?;
+    let aggregate = needed_each::<Operation, Objects>(alloc, members, name)?;
     Ok(AggregateTransform { aggregate, groupby })
 }
 
@@ -141,9 +141,9 @@ pub fn window_of(alloc: Global, members: &[Member]) -> Result<Transform, OutOfMe
 {
     let frame = frame_at(members, "frame");
     let ignore_peers = flag_at(members, "ignorePeers");
-    let groupby = fields_at(alloc, members, "groupby")?;
-    let sort = objects_at(alloc, members, "sort")?;
-    let window = needed_objects(alloc, members, "window")?;
+    let groupby = each_at::<Text, Fields>(alloc, members, "groupby")?;
+    let sort = each_at::<SortField, Objects>(alloc, members, "sort")?;
+    let window = needed_each::<WindowOperation, Objects>(alloc, members, "window")?;
     Ok(Transform::Window(WindowTransform {
         window,
         groupby,
@@ -164,7 +164,7 @@ fn lookup_from(
 {
     let data_ = Copies::copied(source, alloc)?;
     let key = needed_field(alloc, members, "key")?;
-    let fields = needed_fields(alloc, members, "fields")?;
+    let fields = needed_each::<Text, Fields>(alloc, members, "fields")?;
     Ok(LookupFrom { data_, key, fields })
 }
 

@@ -1,5 +1,6 @@
 // Scales, axes, legends and headers.
-ghost use Rattle.std.specs.Prelude.{◌≡◌, pos, map, IfOk};
+ghost use Rattle.std.specs.Prelude.{◌≡◌, Some, pos, IfOk};
+ghost use Rattle.vl_spec.specs.declared.scales.Domain.TheVariants as domain;
 ghost use Rattle.std.specs.Option.{option_map};
 ghost use Rattle.cell_value.specs.declared.cell.Cell.TheVariants as cell;
 ghost use Rattle.vl_spec.specs.Bounds.{most_look};
@@ -9,7 +10,7 @@ ghost use Rattle.vl_building.specs.Guides.{axis_of, legend_of, header_of, param_
 
 use crate::names::named_at;
 use crate::numbers::{angle_at, share_at, tick_count_at};
-use crate::parts::{Object, Value, list_of};
+use crate::parts::{Items, Object, Reads, Value, each};
 use crate::several::{three_parts, two_parts};
 use crate::tables::{channel_at, scale_kind_at};
 use crate::{numbers, parts};
@@ -70,17 +71,16 @@ impl Object for Header {
     }
 }
 
-impl Object for ParamDomain {
-    ghost built = { param_domain_of };
-
-    #[tactic(auto, unfolding(crate::specs::Guides::param_domain_of))]
-    fn of_members(alloc: Global, members: &[Member]) -> Result<ParamDomain, OutOfMemory> {
-        let encoding = channel_at(members, "encoding");
-        Ok(ParamDomain {
-            param: needed_text(alloc, members, "param")?,
-            encoding,
-        })
-    }
+// The domain that a selection gives.
+#[tactic(auto, unfolding(crate::specs::Guides::param_domain_of))]
+fn param_domain_of(alloc: Global, members: &[Member]) -> Result<Option<Domain>, OutOfMemory>
+    ensures { IfOk result (λ of. of ≡ Some (domain.Param (param_domain_of members.now))) }
+{
+    let encoding = channel_at(members, "encoding");
+    Ok(Some(Domain::Param(ParamDomain {
+        param: needed_text(alloc, members, "param")?,
+        encoding,
+    })))
 }
 
 // A domain: a list of cells, or what a selection gives.
@@ -89,12 +89,11 @@ impl Value for Domain {
 
     fn of_value(alloc: Global, tree: &Json) -> Result<Option<Domain>, OutOfMemory> {
         match tree {
-            Json::List(items) => list_of(alloc, items.as_slice())
-                .map(Domain::Cells)
-                .map(Some),
-            Json::Object(members) => ParamDomain::of_members(alloc, members.as_slice())
-                .map(Domain::Param)
-                .map(Some),
+            Json::List(items) => Ok(Some(Domain::Cells(each::<Json, Cell, Items>(
+                alloc,
+                items.as_slice(),
+            )?))),
+            Json::Object(members) => param_domain_of(alloc, members.as_slice()),
             Json::Null | Json::Flag(_) | Json::Number(_) | Json::Huge | Json::Text(_) => Ok(None),
         }
     }
@@ -115,30 +114,33 @@ fn ranged_in(tree: &Json) -> Result<Option<Cell>, OutOfMemory>
         Json::Null => Ok(Some(Cell::Null)),
         Json::Flag(flag) => Ok(Some(Cell::Flag(*flag))),
         Json::Number(number) => Ok(ranged_number(*number)),
-        Json::Text(text) => text.copy().map(Cell::Text).map(Some),
+        Json::Text(text) => Ok(Some(Cell::Text(text.copy()?))),
         Json::Huge | Json::List(_) | Json::Object(_) => Ok(None),
     }
 }
 
-// An item of a range, null where it is none.
-fn range_item(tree: &Json) -> Result<Cell, OutOfMemory>
-    ensures { IfOk result (λ cell. cell ≡ range_item tree.now) }
+// The number 0.
+fn zero() -> Num
+    ensures { result ≡ pos 0 }
 {
-    match ranged_in(tree)? {
-        Some(cell) => Ok(cell),
-        None => Ok(Cell::Null),
+    match Num::of_millionths(0) {
+        Some(number) => number,
+        None => unreachable!(),
     }
 }
 
-// The items of a range.
-fn range_items(alloc: Global, items: &[Json]) -> Result<Seq<Cell>, OutOfMemory>
-    ensures { IfOk result (λ cells. cells ≡ map range_item items.now) }
-{
-    let mut cells = Seq::new(alloc);
-    for tree in items {
-        cells.push(range_item(tree)?)?;
+// Items of a range, 0 where one is none.
+struct Ranged;
+
+impl Reads<Json, Cell> for Ranged {
+    ghost reads = { range_item };
+
+    fn read(_: Global, tree: &Json) -> Result<Cell, OutOfMemory> {
+        match ranged_in(tree)? {
+            Some(cell) => Ok(cell),
+            None => Ok(Cell::Number(zero())),
+        }
     }
-    Ok(cells)
 }
 
 // The items of a range; an empty list is none.
@@ -148,7 +150,7 @@ fn range_in(alloc: Global, items: &[Json]) -> Result<Option<Seq<Cell>>, OutOfMem
     if items.len() == 0 {
         Ok(None)
     } else {
-        range_items(alloc, items).map(Some)
+        Ok(Some(each::<Json, Cell, Ranged>(alloc, items)?))
     }
 }
 

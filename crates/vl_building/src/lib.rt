@@ -2,10 +2,16 @@
 //! so also a number out of its bounds, a list of another length and an unknown name. The items of lists keep their positions.
 #![tactic(auto)]
 
+// Names, each with what it stands for.
+macro_rules! words {
+    ($($name:literal $value:expr),* $(,)?) => {
+        [$(Word { name: $name, value: $value }),*]
+    };
+}
+
 mod cells;
 mod channels;
 mod data;
-mod deciding;
 mod definitions;
 mod escapes;
 mod fields;
@@ -29,6 +35,7 @@ mod tables;
 mod taken;
 mod transforms;
 mod views;
+mod words;
 
 pub use spec::spec_of;
 pub use taken::readers_keep_the_table;

@@ -1,19 +1,22 @@
 // Marks, parameters and selections.
-ghost use Rattle.std.specs.Prelude.{◌≡◌, IfOk};
+ghost use Rattle.std.specs.Prelude.{◌≡◌, Some, IfOk};
+ghost use Rattle.vl_spec.specs.declared.marks.Mark.TheVariants as mark;
+ghost use Rattle.vl_spec.specs.declared.params.Select.TheVariants as select;
+ghost use Rattle.vl_spec.specs.declared.params.ParamKind.TheVariants as kind;
 ghost use Rattle.vl_building.specs.Marks.{is_sign, sign_size_at, mark_definition_of, mark_named, mark_in, mark_at, clear_in, toggle_in, select_definition_of, select_named, select_in, selection_of, param_kind_of, param_of};
 
-use crate::fields::fields_at;
+use crate::fields::Fields;
 use crate::names::{ByName, named_at, select_event_at};
 use crate::numbers::{count_at, look_at, share_at, shift_at};
 use crate::parts;
-use crate::parts::{Plain, Value, list_at, needed_expression, plain_at};
+use crate::parts::{Items, Plain, Value, each_at, needed_expression, plain_at};
 use crate::several::Part;
 use crate::tables::channels_at;
 use cell_value::Cell;
 use fixed_num::Num;
 use json_exact::{Json, Member};
 use std::alloc::Global;
-use text_kit::OutOfMemory;
+use text_kit::{OutOfMemory, Text};
 use tree_readers::{cell_at, flag_at, has_member, needed_text, text_at};
 use vl_spec::{
     Clear, Mark, MarkDefinition, MarkType, ParamKind, ParamOf, Select, SelectDefinition,
@@ -49,8 +52,8 @@ fn sign_size_at(type_: MarkType, members: &[Member], name: &str) -> Option<Num>
 
 // The type and the look of a mark.
 #[tactic(auto, unfolding(crate::specs::Marks::mark_definition_of))]
-fn mark_definition_of(members: &[Member]) -> Result<MarkDefinition, OutOfMemory>
-    ensures { IfOk result (λ mark. mark ≡ mark_definition_of members.now) }
+fn mark_definition_of(members: &[Member]) -> Result<Option<Mark>, OutOfMemory>
+    ensures { IfOk result (λ of. of ≡ Some (mark.Definition (mark_definition_of members.now))) }
 {
     let type_ = named_at(members, "type").unwrap_or(MarkType::Bar);
     let opacity = share_at(members, "opacity");
@@ -65,7 +68,7 @@ fn mark_definition_of(members: &[Member]) -> Result<MarkDefinition, OutOfMemory>
     let font_size = count_at(members, "fontSize");
     let interpolate = named_at(members, "interpolate");
     let color = text_at(members, "color")?;
-    Ok(MarkDefinition {
+    Ok(Some(Mark::Definition(MarkDefinition {
         type_,
         color,
         opacity,
@@ -79,7 +82,7 @@ fn mark_definition_of(members: &[Member]) -> Result<MarkDefinition, OutOfMemory>
         dy,
         font_size,
         interpolate,
-    })
+    })))
 }
 
 // A mark that is the name of its type.
@@ -96,9 +99,7 @@ impl Value for Mark {
     fn of_value(_: Global, tree: &Json) -> Result<Option<Mark>, OutOfMemory> {
         match tree {
             Json::Text(text) => Ok(mark_named(text.as_str())),
-            Json::Object(members) => mark_definition_of(members.as_slice())
-                .map(Mark::Definition)
-                .map(Some),
+            Json::Object(members) => mark_definition_of(members.as_slice()),
             Json::Null | Json::Flag(_) | Json::Number(_) | Json::Huge | Json::List(_) => Ok(None),
         }
     }
@@ -162,23 +163,23 @@ impl Plain for Toggle {
 
 // The type of a selection, what it keeps and when it changes.
 #[tactic(auto, unfolding(crate::specs::Marks::select_definition_of))]
-fn select_definition_of(alloc: Global, members: &[Member]) -> Result<SelectDefinition, OutOfMemory>
-    ensures { IfOk result (λ select. select ≡ select_definition_of members.now) }
+fn select_definition_of(alloc: Global, members: &[Member]) -> Result<Option<Select>, OutOfMemory>
+    ensures { IfOk result (λ of. of ≡ Some (select.Definition (select_definition_of members.now))) }
 {
     let type_ = named_at(members, "type").unwrap_or(SelectType::Point);
     let on = select_event_at(members, type_, "on");
     let clear = plain_at(members, "clear");
     let toggle = plain_at(members, "toggle");
     let encodings = channels_at(alloc, members, "encodings")?;
-    let fields = fields_at(alloc, members, "fields")?;
-    Ok(SelectDefinition {
+    let fields = each_at::<Text, Fields>(alloc, members, "fields")?;
+    Ok(Some(Select::Definition(SelectDefinition {
         type_,
         fields,
         encodings,
         on,
         clear,
         toggle,
-    })
+    })))
 }
 
 // A selection that is the name of its type.
@@ -195,9 +196,7 @@ impl Value for Select {
     fn of_value(alloc: Global, tree: &Json) -> Result<Option<Select>, OutOfMemory> {
         match tree {
             Json::Text(text) => Ok(select_named(text.as_str())),
-            Json::Object(members) => select_definition_of(alloc, members.as_slice())
-                .map(Select::Definition)
-                .map(Some),
+            Json::Object(members) => select_definition_of(alloc, members.as_slice()),
             Json::Null | Json::Flag(_) | Json::Number(_) | Json::Huge | Json::List(_) => Ok(None),
         }
     }
@@ -205,15 +204,15 @@ impl Value for Select {
 
 // A selection.
 #[tactic(auto, unfolding(crate::specs::Marks::selection_of))]
-fn selection_of(alloc: Global, members: &[Member]) -> Result<Selection, OutOfMemory>
-    ensures { IfOk result (λ selection. selection ≡ selection_of members.now) }
+fn selection_of(alloc: Global, members: &[Member]) -> Result<ParamKind, OutOfMemory>
+    ensures { IfOk result (λ of. of ≡ kind.Select (selection_of members.now)) }
 {
-    let views = list_at(alloc, members, "views")?;
+    let views = each_at::<Text, Items>(alloc, members, "views")?;
     let select = parts::found_at(alloc, members, "select")?;
-    Ok(Selection {
+    Ok(ParamKind::Select(Selection {
         views,
         select: select.unwrap_or(Select::Type(SelectType::Point)),
-    })
+    }))
 }
 
 // What a parameter is, by the first of these members that is there.
@@ -222,9 +221,9 @@ fn param_kind_of(alloc: Global, members: &[Member]) -> Result<ParamKind, OutOfMe
     ensures { IfOk result (λ kind. kind ≡ param_kind_of members.now) }
 {
     if has_member(members, "select") {
-        selection_of(alloc, members).map(ParamKind::Select)
+        selection_of(alloc, members)
     } else if has_member(members, "expr") {
-        needed_expression(alloc, members, "expr").map(ParamKind::Expr)
+        Ok(ParamKind::Expr(needed_expression(alloc, members, "expr")?))
     } else {
         Ok(ParamKind::Value(cell_at(members, "value")?.unwrap_or(Cell::Null)))
     }

@@ -3,6 +3,7 @@ ghost use Rattle.std.specs.Prelude.{◌≡◌};
 ghost use Rattle.vl_spec.specs.declared.params.SelectType.TheVariants as select_type;
 ghost use Rattle.vl_building.specs.Names.{named_at, named_in, order_named, offset_named, format_kind_named, parse_kind_named, mark_type_named, align_named, baseline_named, interpolate_named, select_type_named, select_event_named, field_type_named, scheme_named, sharing_named, side_named, autosize_named};
 
+use crate::words::{Word, word_in};
 use json_exact::{Json, Member};
 use tree_readers::{text_in, word_at};
 use vl_spec::{
@@ -35,153 +36,151 @@ pub fn named_in<T: ByName>(tree: &Json) -> Option<T>
     T::by_name(text_in(tree)?.as_str())
 }
 
+// Directions.
+const ORDERS: [Word<Order>; 2] = words![
+    "ascending" Order::Ascending,
+    "descending" Order::Descending,
+];
+
 impl ByName for Order {
     ghost named = { order_named };
 
     #[tactic(auto, unfolding(crate::specs::Names::order_named))]
     fn by_name(name: &str) -> Option<Order> {
-        match name {
-            "ascending" => Some(Order::Ascending),
-            "descending" => Some(Order::Descending),
-            _ => None,
-        }
+        word_in(&ORDERS, name)
     }
 }
+
+// Where stacks begin.
+const OFFSETS: [Word<Offset>; 3] = words![
+    "zero" Offset::Zero,
+    "normalize" Offset::Normalize,
+    "center" Offset::Center,
+];
 
 impl ByName for Offset {
     ghost named = { offset_named };
 
     #[tactic(auto, unfolding(crate::specs::Names::offset_named))]
     fn by_name(name: &str) -> Option<Offset> {
-        match name {
-            "zero" => Some(Offset::Zero),
-            "normalize" => Some(Offset::Normalize),
-            "center" => Some(Offset::Center),
-            _ => None,
-        }
+        word_in(&OFFSETS, name)
     }
 }
+
+// Types of data files.
+const FORMATS: [Word<FormatKind>; 2] = words![
+    "json" FormatKind::Json,
+    "csv" FormatKind::Csv,
+];
 
 impl ByName for FormatKind {
     ghost named = { format_kind_named };
 
     #[tactic(auto, unfolding(crate::specs::Names::format_kind_named))]
     fn by_name(name: &str) -> Option<FormatKind> {
-        match name {
-            "json" => Some(FormatKind::Json),
-            "csv" => Some(FormatKind::Csv),
-            _ => None,
-        }
+        word_in(&FORMATS, name)
     }
 }
+
+// Readings of texts.
+const PARSES: [Word<ParseKind>; 4] = words![
+    "number" ParseKind::Number,
+    "boolean" ParseKind::Boolean,
+    "string" ParseKind::String,
+    "date" ParseKind::Date,
+];
 
 impl ByName for ParseKind {
     ghost named = { parse_kind_named };
 
     #[tactic(auto, unfolding(crate::specs::Names::parse_kind_named))]
     fn by_name(name: &str) -> Option<ParseKind> {
-        match name {
-            "number" => Some(ParseKind::Number),
-            "boolean" => Some(ParseKind::Boolean),
-            "string" => Some(ParseKind::String),
-            "date" => Some(ParseKind::Date),
-            _ => None,
-        }
+        word_in(&PARSES, name)
     }
 }
+
+// Types of marks.
+const MARK_TYPES: [Word<MarkType>; 10] = words![
+    "bar" MarkType::Bar,
+    "rect" MarkType::Rect,
+    "point" MarkType::Point,
+    "circle" MarkType::Circle,
+    "square" MarkType::Square,
+    "line" MarkType::Line,
+    "area" MarkType::Area,
+    "tick" MarkType::Tick,
+    "rule" MarkType::Rule,
+    "text" MarkType::Text,
+];
 
 impl ByName for MarkType {
     ghost named = { mark_type_named };
 
     #[tactic(auto, unfolding(crate::specs::Names::mark_type_named))]
     fn by_name(name: &str) -> Option<MarkType> {
-        match name {
-            "bar" => Some(MarkType::Bar),
-            "rect" => Some(MarkType::Rect),
-            "point" => Some(MarkType::Point),
-            "circle" => Some(MarkType::Circle),
-            "square" => Some(MarkType::Square),
-            "line" => Some(MarkType::Line),
-            "area" => Some(MarkType::Area),
-            "tick" => Some(MarkType::Tick),
-            "rule" => Some(MarkType::Rule),
-            "text" => Some(MarkType::Text),
-            _ => None,
-        }
+        word_in(&MARK_TYPES, name)
     }
 }
+
+// Where texts are anchored.
+const ALIGNS: [Word<Align>; 3] = words![
+    "left" Align::Left,
+    "center" Align::Center,
+    "right" Align::Right,
+];
 
 impl ByName for Align {
     ghost named = { align_named };
 
     #[tactic(auto, unfolding(crate::specs::Names::align_named))]
     fn by_name(name: &str) -> Option<Align> {
-        match name {
-            "left" => Some(Align::Left),
-            "center" => Some(Align::Center),
-            "right" => Some(Align::Right),
-            _ => None,
-        }
+        word_in(&ALIGNS, name)
     }
 }
+
+// Where the baselines of texts are.
+const BASELINES: [Word<Baseline>; 4] = words![
+    "top" Baseline::Top,
+    "middle" Baseline::Middle,
+    "bottom" Baseline::Bottom,
+    "alphabetic" Baseline::Alphabetic,
+];
 
 impl ByName for Baseline {
     ghost named = { baseline_named };
 
     #[tactic(auto, unfolding(crate::specs::Names::baseline_named))]
     fn by_name(name: &str) -> Option<Baseline> {
-        match name {
-            "top" => Some(Baseline::Top),
-            "middle" => Some(Baseline::Middle),
-            "bottom" => Some(Baseline::Bottom),
-            "alphabetic" => Some(Baseline::Alphabetic),
-            _ => None,
-        }
+        word_in(&BASELINES, name)
     }
 }
+
+// How the points of lines are joined.
+const INTERPOLATES: [Word<Interpolate>; 1] = words![
+    "linear" Interpolate::Linear,
+];
 
 impl ByName for Interpolate {
     ghost named = { interpolate_named };
 
     #[tactic(auto, unfolding(crate::specs::Names::interpolate_named))]
     fn by_name(name: &str) -> Option<Interpolate> {
-        match name {
-            "linear" => Some(Interpolate::Linear),
-            _ => None,
-        }
+        word_in(&INTERPOLATES, name)
     }
 }
+
+// Types of selections.
+const SELECT_TYPES: [Word<SelectType>; 2] = words![
+    "point" SelectType::Point,
+    "interval" SelectType::Interval,
+];
 
 impl ByName for SelectType {
     ghost named = { select_type_named };
 
     #[tactic(auto, unfolding(crate::specs::Names::select_type_named))]
     fn by_name(name: &str) -> Option<SelectType> {
-        match name {
-            "point" => Some(SelectType::Point),
-            "interval" => Some(SelectType::Interval),
-            _ => None,
-        }
-    }
-}
-
-// The event that sets selections of points, by its name.
-fn point_event_named(name: &str) -> Option<SelectEvent>
-    ensures { result ≡ select_event_named select_type.Point name.now }
-{
-    match name {
-        "click" => Some(SelectEvent::Click),
-        _ => None,
-    }
-}
-
-// The event that sets selections of intervals, by its name.
-fn interval_event_named(name: &str) -> Option<SelectEvent>
-    ensures { result ≡ select_event_named select_type.Interval name.now }
-{
-    match name {
-        "[mousedown, mouseup] > mousemove" => Some(SelectEvent::Drag),
-        _ => None,
+        word_in(&SELECT_TYPES, name)
     }
 }
 
@@ -190,8 +189,8 @@ fn select_event_named(type_: SelectType, name: &str) -> Option<SelectEvent>
     ensures { result ≡ select_event_named type_ name.now }
 {
     match type_ {
-        SelectType::Point => point_event_named(name),
-        SelectType::Interval => interval_event_named(name),
+        SelectType::Point => word_in(&POINT_EVENTS, name),
+        SelectType::Interval => word_in(&INTERVAL_EVENTS, name),
     }
 }
 
@@ -202,70 +201,90 @@ pub fn select_event_at(members: &[Member], type_: SelectType, name: &str) -> Opt
     select_event_named(type_, word_at(members, name)?.as_str())
 }
 
+// The event that sets a selection of points.
+const POINT_EVENTS: [Word<SelectEvent>; 1] = words![
+    "click" SelectEvent::Click,
+];
+
+// The event that sets a selection of intervals.
+const INTERVAL_EVENTS: [Word<SelectEvent>; 1] = words![
+    "[mousedown, mouseup] > mousemove" SelectEvent::Drag,
+];
+
+// Kinds of cells.
+const FIELD_TYPES: [Word<FieldType>; 4] = words![
+    "quantitative" FieldType::Quantitative,
+    "temporal" FieldType::Temporal,
+    "ordinal" FieldType::Ordinal,
+    "nominal" FieldType::Nominal,
+];
+
 impl ByName for FieldType {
     ghost named = { field_type_named };
 
     #[tactic(auto, unfolding(crate::specs::Names::field_type_named))]
     fn by_name(name: &str) -> Option<FieldType> {
-        match name {
-            "quantitative" => Some(FieldType::Quantitative),
-            "temporal" => Some(FieldType::Temporal),
-            "ordinal" => Some(FieldType::Ordinal),
-            "nominal" => Some(FieldType::Nominal),
-            _ => None,
-        }
+        word_in(&FIELD_TYPES, name)
     }
 }
+
+// Colour schemes.
+const SCHEMES: [Word<Scheme>; 2] = words![
+    "tableau10" Scheme::Tableau10,
+    "blues" Scheme::Blues,
+];
 
 impl ByName for Scheme {
     ghost named = { scheme_named };
 
     #[tactic(auto, unfolding(crate::specs::Names::scheme_named))]
     fn by_name(name: &str) -> Option<Scheme> {
-        match name {
-            "tableau10" => Some(Scheme::Tableau10),
-            "blues" => Some(Scheme::Blues),
-            _ => None,
-        }
+        word_in(&SCHEMES, name)
     }
 }
+
+// Whether views share a scale.
+const SHARINGS: [Word<Sharing>; 2] = words![
+    "shared" Sharing::Shared,
+    "independent" Sharing::Independent,
+];
 
 impl ByName for Sharing {
     ghost named = { sharing_named };
 
     #[tactic(auto, unfolding(crate::specs::Names::sharing_named))]
     fn by_name(name: &str) -> Option<Sharing> {
-        match name {
-            "shared" => Some(Sharing::Shared),
-            "independent" => Some(Sharing::Independent),
-            _ => None,
-        }
+        word_in(&SHARINGS, name)
     }
 }
+
+// Sides of a plot.
+const SIDES: [Word<Side>; 4] = words![
+    "left" Side::Left,
+    "right" Side::Right,
+    "top" Side::Top,
+    "bottom" Side::Bottom,
+];
 
 impl ByName for Side {
     ghost named = { side_named };
 
     #[tactic(auto, unfolding(crate::specs::Names::side_named))]
     fn by_name(name: &str) -> Option<Side> {
-        match name {
-            "left" => Some(Side::Left),
-            "right" => Some(Side::Right),
-            "top" => Some(Side::Top),
-            "bottom" => Some(Side::Bottom),
-            _ => None,
-        }
+        word_in(&SIDES, name)
     }
 }
+
+// How a picture's size is found.
+const AUTOSIZES: [Word<Autosize>; 1] = words![
+    "pad" Autosize::Pad,
+];
 
 impl ByName for Autosize {
     ghost named = { autosize_named };
 
     #[tactic(auto, unfolding(crate::specs::Names::autosize_named))]
     fn by_name(name: &str) -> Option<Autosize> {
-        match name {
-            "pad" => Some(Autosize::Pad),
-            _ => None,
-        }
+        word_in(&AUTOSIZES, name)
     }
 }

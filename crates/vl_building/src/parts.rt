@@ -3,8 +3,9 @@ ghost use Rattle.std.specs.Prelude.{◌≡◌, ◌++◌, [], Some, None, map, If
 ghost use Rattle.std.specs.Option.{option_to_list, unwrap_or};
 ghost use Rattle.std.specs.List.{filter_map};
 ghost use Rattle.json_exact.specs.declared.json.Json.{out-Json};
-ghost use Rattle.tree_readers.specs.Parts.{found_at, members_of, list_at, objects_at, object_at, text_of};
-ghost use Rattle.vl_building.specs.Expressions.{plain_expression, expression_in, expression_at, needed_expression};
+ghost use Rattle.tree_readers.specs.Parts.{found_at, list_at, object_at, text_of};
+ghost use Rattle.expr_syntax.specs.declared.expr.Expr.TheVariants as expr;
+ghost use Rattle.vl_building.specs.Expressions.{plain_expression, expression_in, needed_expression};
 
 use expr_reading::expression_of;
 use expr_syntax::{Expr, has_domain_length};
@@ -72,24 +73,46 @@ pub trait OfMember: Sized {
         ensures { IfOk result (λ value. value ≡ given member.now) };
 }
 
-/// What each item is.
-pub fn list_of<T: Item + Drop>(alloc: Global, items: &[Json]) -> Result<Seq<T>, OutOfMemory>
-    ensures { IfOk result (λ list. list ≡ map T.item items.now) }
-{
-    let mut list = Seq::new(alloc);
-    for tree in items {
-        list.push(T::of_item(alloc, tree)?)?;
-    }
-    Ok(list)
+/// A reading of values.
+pub trait Reads<X, T> {
+    ghost reads: { X → T };
+
+    /// What a value is.
+    fn read(alloc: Global, value: &X) -> Result<T, OutOfMemory>
+        ensures { IfOk result (λ is. is ≡ reads value.now) };
 }
 
-/// What each item is by its members.
-pub fn objects_of<T: Object + Drop>(alloc: Global, items: &[Json]) -> Result<Seq<T>, OutOfMemory>
-    ensures { IfOk result (λ list. list ≡ map (λ tree. T.built (members_of tree)) items.now) }
+/// Items by what they are.
+pub struct Items;
+
+impl<T: Item> Reads<Json, T> for Items {
+    ghost reads = { T.item };
+
+    fn read(alloc: Global, tree: &Json) -> Result<T, OutOfMemory> {
+        T::of_item(alloc, tree)
+    }
+}
+
+/// Objects by their members.
+pub struct Objects;
+
+impl<T: Object> Reads<Json, T> for Objects {
+    ghost use Rattle.tree_readers.specs.Parts.{members_of};
+
+    ghost reads = { λ tree. T.built (members_of tree) };
+
+    fn read(alloc: Global, tree: &Json) -> Result<T, OutOfMemory> {
+        T::of_members(alloc, tree_readers::members_of(tree))
+    }
+}
+
+/// What each value is in a reading.
+pub fn each<X, T: Drop, R: Reads<X, T>>(alloc: Global, values: &[X]) -> Result<Seq<T>, OutOfMemory>
+    ensures { IfOk result (λ list. list ≡ map R.reads values.now) }
 {
     let mut list = Seq::new(alloc);
-    for tree in items {
-        list.push(T::of_members(alloc, tree_readers::members_of(tree))?)?;
+    for value in values {
+        list.push(R::read(alloc, value)?)?;
     }
     Ok(list)
 }
@@ -134,58 +157,30 @@ pub fn object_with<A: Object, T: Drop>(
     Ok((object, value))
 }
 
-/// What each item of the list under a name is.
-pub fn list_at<T: Item + Drop>(
+/// What each item of the list under a name is in a reading.
+pub fn each_at<T: Drop, R: Reads<Json, T>>(
     alloc: Global,
     members: &[Member],
     name: &str,
 ) -> Result<Option<Seq<T>>, OutOfMemory>
-    ensures { IfOk result (λ list. list ≡ list_at T.item members.now name.now) }
+    ensures { IfOk result (λ list. list ≡ list_at R.reads members.now name.now) }
 {
     match items_at(members, name) {
-        Some(items) => list_of(alloc, items.as_slice()).map(Some),
-        None => Ok(None),
-    }
-}
-
-/// What each item of the list under a name is, none where there is no list.
-pub fn needed_list<T: Item + Drop>(
-    alloc: Global,
-    members: &[Member],
-    name: &str,
-) -> Result<Seq<T>, OutOfMemory>
-    ensures { IfOk result (λ list. list ≡ unwrap_or (list_at T.item members.now name.now) []) }
-{
-    match items_at(members, name) {
-        Some(items) => list_of(alloc, items.as_slice()),
-        None => Ok(Seq::new(alloc)),
-    }
-}
-
-/// What each item of the list under a name is by its members.
-pub fn objects_at<T: Object + Drop>(
-    alloc: Global,
-    members: &[Member],
-    name: &str,
-) -> Result<Option<Seq<T>>, OutOfMemory>
-    ensures { IfOk result (λ list. list ≡ objects_at T.built members.now name.now) }
-{
-    match items_at(members, name) {
-        Some(items) => Ok(Some(objects_of(alloc, items.as_slice())?)),
+        Some(items) => Ok(Some(each::<Json, T, R>(alloc, items.as_slice())?)),
         None => Ok(None),
     }
 }
 
 /// The same, none where there is no list.
-pub fn needed_objects<T: Object + Drop>(
+pub fn needed_each<T: Drop, R: Reads<Json, T>>(
     alloc: Global,
     members: &[Member],
     name: &str,
 ) -> Result<Seq<T>, OutOfMemory>
-    ensures { IfOk result (λ list. list ≡ unwrap_or (objects_at T.built members.now name.now) []) }
+    ensures { IfOk result (λ list. list ≡ unwrap_or (list_at R.reads members.now name.now) []) }
 {
     match items_at(members, name) {
-        Some(items) => objects_of(alloc, items.as_slice()),
+        Some(items) => each::<Json, T, R>(alloc, items.as_slice()),
         None => Ok(Seq::new(alloc)),
     }
 }
@@ -220,7 +215,7 @@ pub fn object_at<T: Object>(
     ensures { IfOk result (λ value. value ≡ object_at T.built members.now name.now) }
 {
     match members_at(members, name) {
-        Some(members) => T::of_members(alloc, members.as_slice()).map(Some),
+        Some(members) => Ok(Some(T::of_members(alloc, members.as_slice())?)),
         None => Ok(None),
     }
 }
@@ -248,8 +243,8 @@ fn plain_expression(e: Expr) -> Option<Expr>
     unless(goes, e)
 }
 
-/// The expression that a text is, none where the length of a domain stands in it.
-pub fn expression_in(alloc: Global, text: &str) -> Result<Option<Expr>, OutOfMemory>
+// The expression that a text is, none where the length of a domain stands in it.
+fn expression_in(alloc: Global, text: &str) -> Result<Option<Expr>, OutOfMemory>
     ensures { IfOk result (λ e. e ≡ expression_in text.now) }
 {
     match expression_of(alloc, text)? {
@@ -258,13 +253,13 @@ pub fn expression_in(alloc: Global, text: &str) -> Result<Option<Expr>, OutOfMem
     }
 }
 
-// The expression under a name.
-fn expression_at(alloc: Global, members: &[Member], name: &str) -> Result<Option<Expr>, OutOfMemory>
-    ensures { IfOk result (λ e. e ≡ expression_at members.now name.now) }
+/// The expression that a text is, null where it is none.
+pub fn expression_or_null(alloc: Global, text: &str) -> Result<Expr, OutOfMemory>
+    ensures { IfOk result (λ e. e ≡ unwrap_or (expression_in text.now) expr.Null) }
 {
-    match word_at(members, name) {
-        Some(text) => expression_in(alloc, text.as_str()),
-        None => Ok(None),
+    match expression_in(alloc, text)? {
+        Some(e) => Ok(e),
+        None => Ok(Expr::Null),
     }
 }
 
@@ -272,8 +267,8 @@ fn expression_at(alloc: Global, members: &[Member], name: &str) -> Result<Option
 pub fn needed_expression(alloc: Global, members: &[Member], name: &str) -> Result<Expr, OutOfMemory>
     ensures { IfOk result (λ e. e ≡ needed_expression members.now name.now) }
 {
-    match expression_at(alloc, members, name)? {
-        Some(e) => Ok(e),
+    match word_at(members, name) {
+        Some(text) => expression_or_null(alloc, text.as_str()),
         None => Ok(Expr::Null),
     }
 }

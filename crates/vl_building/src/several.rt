@@ -3,7 +3,7 @@ ghost use Rattle.std.specs.Prelude.{◌≡◌, IfOk};
 ghost use Rattle.tree_readers.specs.Parts.{list_at, object_at, text_at};
 
 use crate::parts;
-use crate::parts::{Item, Object};
+use crate::parts::{Item, Items, Object};
 use json_exact::Member;
 use std::alloc::Global;
 use text_kit::{OutOfMemory, Seq, Text};
@@ -36,7 +36,7 @@ impl<T: Item + Drop> Part for Option<Seq<T>> {
         members: &[Member],
         name: &str,
     ) -> Result<Option<Seq<T>>, OutOfMemory> {
-        parts::list_at(alloc, members, name)
+        parts::each_at::<T, Items>(alloc, members, name)
     }
 }
 

@@ -1,24 +1,24 @@
 // Transforms of rows.
 ghost use Rattle.std.specs.Prelude.{◌≡◌, IfOk};
 ghost use Rattle.vl_spec.specs.declared.transforms.Transform.TheVariants as variant;
-ghost use Rattle.vl_building.specs.Transforms.{calculate_of, needed_bin, bin_of, time_unit_of, stack_of, fold_of, is_transform_kind, transform_by, transform_of};
+ghost use Rattle.vl_building.specs.Transforms.{calculate_of, needed_bin, bin_of, time_unit_of, stack_of, fold_of, transform_by, transform_of};
 
 use crate::cells::needed_names;
-use crate::deciding::{Deciding, first_deciding};
 use crate::definitions::bin_settings_of;
-use crate::fields::{fields_at, needed_field, needed_fields};
+use crate::fields::{Fields, needed_field};
 use crate::filters::needed_filter;
 use crate::groupings::{aggregate_of, lookup_of, window_of};
 use crate::names::named_at;
-use crate::parts::{needed_expression, objects_at};
+use crate::parts::{Objects, each_at, needed_each, needed_expression};
 use crate::tables::time_unit_at;
+use crate::words::first_among;
 use json_exact::Member;
 use std::alloc::Global;
 use text_kit::{OutOfMemory, Text};
 use tree_readers::{members_at, needed_text, two_texts_at};
 use vl_spec::{
-    Bin, BinTransform, CalculateTransform, FoldTransform, StackTransform, TimeUnitTransform,
-    Transform,
+    Bin, BinTransform, CalculateTransform, FoldTransform, SortField, StackTransform,
+    TimeUnitTransform, Transform,
 };
 
 // `calculate`
@@ -73,8 +73,8 @@ fn stack_of(alloc: Global, members: &[Member]) -> Result<Transform, OutOfMemory>
     ensures { IfOk result (λ t. t ≡ variant.Stack (stack_of members.now)) }
 {
     let offset = named_at(members, "offset");
-    let groupby = fields_at(alloc, members, "groupby")?;
-    let sort = objects_at(alloc, members, "sort")?;
+    let groupby = each_at::<Text, Fields>(alloc, members, "groupby")?;
+    let sort = each_at::<SortField, Objects>(alloc, members, "sort")?;
     let stack = needed_field(alloc, members, "stack")?;
     let as_ = needed_names(alloc, members, "as")?;
     Ok(Transform::Stack(StackTransform {
@@ -91,34 +91,24 @@ fn stack_of(alloc: Global, members: &[Member]) -> Result<Transform, OutOfMemory>
 fn fold_of(alloc: Global, members: &[Member]) -> Result<Transform, OutOfMemory>
     ensures { IfOk result (λ t. t ≡ variant.Fold (fold_of members.now)) }
 {
-    let fold = needed_fields(alloc, members, "fold")?;
+    let fold = needed_each::<Text, Fields>(alloc, members, "fold")?;
     let as_ = two_texts_at(alloc, members, "as")?;
     Ok(Transform::Fold(FoldTransform { fold, as_ }))
 }
 
-// What decides what a transform is.
-struct TransformKinds;
-
-impl Deciding for TransformKinds {
-    ghost deciding = { is_transform_kind };
-
-    #[tactic(auto, unfolding(crate::specs::Transforms::is_transform_kind))]
-    fn decides(name: &str) -> bool {
-        match name {
-            "filter"
-            | "calculate"
-            | "bin"
-            | "timeUnit"
-            | "aggregate"
-            | "joinaggregate"
-            | "stack"
-            | "window"
-            | "lookup"
-            | "fold" => true,
-            _ => false,
-        }
-    }
-}
+// The members of which the first decides what a transform is.
+const KINDS: [&str; 10] = [
+    "filter",
+    "calculate",
+    "bin",
+    "timeUnit",
+    "aggregate",
+    "joinaggregate",
+    "stack",
+    "window",
+    "lookup",
+    "fold",
+];
 
 // A transform by its first deciding member; one without is a filter that no row passes.
 #[tactic(auto, unfolding(crate::specs::Transforms::transform_by))]
@@ -134,20 +124,22 @@ fn transform_by(
         "calculate" => calculate_of(alloc, members),
         "bin" => bin_of(alloc, members),
         "timeUnit" => time_unit_of(alloc, members),
-        "aggregate" => aggregate_of(alloc, "aggregate", members).map(Transform::Aggregate),
-        "joinaggregate" => aggregate_of(alloc, "joinaggregate", members).map(
-            Transform::JoinAggregate,
-        ),
+        "aggregate" => Ok(Transform::Aggregate(aggregate_of(alloc, "aggregate", members)?)),
+        "joinaggregate" => Ok(Transform::JoinAggregate(aggregate_of(
+            alloc,
+            "joinaggregate",
+            members,
+        )?)),
         "stack" => stack_of(alloc, members),
         "window" => window_of(alloc, members),
         "lookup" => lookup_of(alloc, source, members),
         "fold" => fold_of(alloc, members),
-        _ => needed_filter(alloc, members, "filter").map(Transform::Filter),
+        _ => Ok(Transform::Filter(needed_filter(alloc, members, "filter")?)),
     }
 }
 
 /// The transform of these members, a lookup being one in this source.
-#[tactic(auto, unfolding(crate::specs::Transforms::transform_of))]
+#[tactic(auto, unfolding(crate::specs::Transforms::transform_of, crate::specs::Transforms::is_transform_kind))]
 pub fn transform_of(
     alloc: Global,
     source: &Option<Text>,
@@ -155,10 +147,5 @@ pub fn transform_of(
 ) -> Result<Transform, OutOfMemory>
     ensures { IfOk result (λ transform. transform ≡ transform_of source.now members.now) }
 {
-    transform_by(
-        alloc,
-        first_deciding::<TransformKinds>(members, ""),
-        source,
-        members,
-    )
+    transform_by(alloc, first_among(members, &KINDS, ""), source, members)
 }

@@ -5,16 +5,16 @@ ghost use Rattle.vl_spec.specs.declared.views.ViewKind.TheVariants as view_kind;
 ghost use Rattle.tree_readers.specs.Parts.{object_at};
 ghost use Rattle.vl_building.specs.Inside.{member_gives};
 ghost use Rattle.vl_building.specs.Channels.{channel_of, encoding_of};
-ghost use Rattle.vl_building.specs.Views.{child, is_view_kind, other_word, view_word, cross_of, facet_of, unit_of, layer_with, faceted_with, joined_with, as_view, views_given, view_given, kind_by, object_view, views_in, view_of, views_of, no_view};
+ghost use Rattle.vl_building.specs.Views.{child, other_word, view_word, cross_of, facet_of, unit_of, layer_with, faceted_with, joined_with, as_view, views_given, view_given, kind_by, object_view, views_in, view_of, views_of, no_view};
 ghost use Rattle.vl_building.specs.inner.Named.{shown};
 ghost use Rattle.vl_building.specs.inner.Heads.{head_of, view_of_head, views_inside};
 
-use crate::deciding::{Deciding, first_deciding};
 use crate::naming::Named;
 use crate::numbers::{count_at, space_at};
 use crate::parts::{Object, object_with, plain_at};
 use crate::places::{numbers_at, source_of, transforms_at};
 use crate::several::{three_parts, two_parts};
+use crate::words::first_among;
 use crate::{parts, places};
 use json_exact::{Json, Member};
 use std::alloc::Global;
@@ -25,20 +25,8 @@ use vl_spec::{
     Transform, Unit, View, ViewKind,
 };
 
-// What decides what a view is.
-struct ViewKinds;
-
-impl Deciding for ViewKinds {
-    ghost deciding = { is_view_kind };
-
-    #[tactic(auto, unfolding(crate::specs::Views::is_view_kind))]
-    fn decides(name: &str) -> bool {
-        match name {
-            "mark" | "layer" | "facet" | "hconcat" | "vconcat" | "concat" => true,
-            _ => false,
-        }
-    }
-}
+// The members of which the first decides what a view is.
+const KINDS: [&str; 6] = ["mark", "layer", "facet", "hconcat", "vconcat", "concat"];
 
 // What decides where no such member stands: a `spec`, or else `mark`.
 fn other_word(members: &[Member]) -> &'static str
@@ -52,27 +40,27 @@ fn other_word(members: &[Member]) -> &'static str
 }
 
 // The member that decides.
+#[tactic(auto, unfolding(crate::specs::Views::is_view_kind))]
 fn view_word(members: &[Member]) -> &str
     ensures { result.now ≡ view_word members.now }
 {
-    first_deciding::<ViewKinds>(members, other_word(members))
+    first_among(members, &KINDS, other_word(members))
 }
 
-impl Object for CrossFacet {
-    ghost built = { cross_of };
-
-    #[tactic(auto, unfolding(crate::specs::Views::cross_of))]
-    fn of_members(alloc: Global, members: &[Member]) -> Result<CrossFacet, OutOfMemory> {
-        let (row, column) = two_parts(alloc, members, "row", "column")?;
-        Ok(CrossFacet { row, column })
-    }
+// How rows are parted into rows and columns.
+#[tactic(auto, unfolding(crate::specs::Views::cross_of))]
+fn cross_of(alloc: Global, members: &[Member]) -> Result<Facet, OutOfMemory>
+    ensures { IfOk result (λ parted. parted ≡ facet.Cross (cross_of members.now)) }
+{
+    let (row, column) = two_parts(alloc, members, "row", "column")?;
+    Ok(Facet::Cross(CrossFacet { row, column }))
 }
 
 // How rows are parted by one field.
 fn one_facet(alloc: Global, members: &[Member]) -> Result<Facet, OutOfMemory>
     ensures { IfOk result (λ parted. parted ≡ facet.One (channel_of members.now)) }
 {
-    Channel::of_members(alloc, members).map(Facet::One)
+    Ok(Facet::One(Channel::of_members(alloc, members)?))
 }
 
 // How rows are parted: by rows and columns only without `field`.
@@ -84,7 +72,7 @@ impl Object for Facet {
         if has_member(members, "field") {
             one_facet(alloc, members)
         } else if has_member(members, "row") || has_member(members, "column") {
-            CrossFacet::of_members(alloc, members).map(Facet::Cross)
+            cross_of(alloc, members)
         } else {
             one_facet(alloc, members)
         }
@@ -407,7 +395,7 @@ fn views_at(
 {
     for (number, member) in members.iter().enumerate() {
         if member.name.as_str() == name {
-            return child_views(alloc, named, &member.value, place, number);
+            return views_of(alloc, named, &member.value, place, number);
         }
     }
     Ok(Seq::new(alloc))
@@ -415,7 +403,7 @@ fn views_at(
 
 // The views that the items of a child of an object at a place are.
 #[cycle(views)]
-fn child_views(
+fn views_of(
     alloc: Global,
     named: &Named,
     tree: &Json,
@@ -424,22 +412,8 @@ fn child_views(
 ) -> Result<Seq<View>, OutOfMemory>
     ensures { IfOk result (λ views. views ≡ views_of (shown named.now) tree.now (child place.now number)) }
 {
-    let here = places::child(alloc, place, number)?;
-    views_of(alloc, named, tree, here.as_slice())
-}
-
-// The views that the items of a value at a place are.
-#[cycle(views)]
-fn views_of(
-    alloc: Global,
-    named: &Named,
-    tree: &Json,
-    place: &[usize],
-) -> Result<Seq<View>, OutOfMemory>
-    ensures { IfOk result (λ views. views ≡ views_of (shown named.now) tree.now place.now) }
-{
     match tree {
-        Json::List(items) => views_in(alloc, named, items.as_slice(), place),
+        Json::List(items) => views_in(alloc, named, items.as_slice(), place, number),
         Json::Null
         | Json::Flag(_)
         | Json::Number(_)
@@ -449,18 +423,20 @@ fn views_of(
     }
 }
 
-// The views that items at a place are.
+// The views that the items of a list are, which is a child of an object at a place.
 #[cycle(views)]
 fn views_in(
     alloc: Global,
     named: &Named,
     items: &[Json],
     place: &[usize],
+    number: usize,
 ) -> Result<Seq<View>, OutOfMemory>
-    ensures { IfOk result (λ views. views ≡ views_in (map (as_view (shown named.now)) items.now) place.now) }
+    ensures { IfOk result (λ views. views ≡ views_in (map (as_view (shown named.now)) items.now) (child place.now number)) }
 {
+    let here = places::child(alloc, place, number)?;
     let mut views = Seq::new(alloc);
-    push_views(alloc, named, items, place, &mut views)?;
+    push_views(alloc, named, items, here.as_slice(), &mut views)?;
     Ok(views)
 }
 

@@ -119,8 +119,8 @@ impl Copies for ChannelOf {
 impl Copies for ChannelKind {
     fn copied(&self, alloc: Global) -> Result<ChannelKind, OutOfMemory> {
         match self {
-            ChannelKind::One(channel) => channel.copied(alloc).map(ChannelKind::One),
-            ChannelKind::Several(channels) => channels.copied(alloc).map(ChannelKind::Several),
+            ChannelKind::One(channel) => Ok(ChannelKind::One(channel.copied(alloc)?)),
+            ChannelKind::Several(channels) => Ok(ChannelKind::Several(channels.copied(alloc)?)),
         }
     }
 }
@@ -147,10 +147,10 @@ impl Conditions {
         ensures { IfOk result (λ copy. copy ≡ self.now) }
     {
         match self {
-            Conditions::One(condition) => boxed_copy(alloc, condition).map(Conditions::One),
-            Conditions::Several(conditions) => copied_list(alloc, conditions).map(
-                Conditions::Several,
-            ),
+            Conditions::One(condition) => Ok(Conditions::One(boxed_copy(alloc, condition)?)),
+            Conditions::Several(conditions) => Ok(Conditions::Several(copied_list(
+                alloc, conditions,
+            )?)),
         }
     }
 }
@@ -223,8 +223,8 @@ impl Copies for Channel {
 impl Copies for Test {
     fn copied(&self, alloc: Global) -> Result<Test, OutOfMemory> {
         match self {
-            Test::Param(of) => of.copied(alloc).map(Test::Param),
-            Test::Filter(filter) => filter.copy(alloc).map(Test::Filter),
+            Test::Param(of) => Ok(Test::Param(of.copied(alloc)?)),
+            Test::Filter(filter) => Ok(Test::Filter(filter.copy(alloc)?)),
         }
     }
 }

@@ -1,4 +1,7 @@
 // Definitions of channels, apart from their conditions.
+ghost use Rattle.std.specs.Prelude.{◌≡◌, IfOk};
+ghost use Rattle.vl_spec.specs.declared.definitions.Definition.TheVariants as variant;
+
 use crate::copying::{copied_five, copied_seven};
 use crate::{Axis, Header, Legend, Offset, Scale, Sort};
 use cell_value::Cell;
@@ -156,62 +159,52 @@ impl Drop for FieldDefinition {
 impl Copies for Definition {
     fn copied(&self, alloc: Global) -> Result<Definition, OutOfMemory> {
         match self {
-            Definition::Value(cell) => cell.copied(alloc).map(Definition::Value),
-            Definition::Datum(of) => of.copied(alloc).map(Definition::Datum),
-            Definition::Field(of) => of.copied(alloc).map(Definition::Field),
+            Definition::Value(cell) => Ok(Definition::Value(cell.copied(alloc)?)),
+            Definition::Datum(of) => copied_datum(alloc, of),
+            Definition::Field(of) => copied_field(alloc, of),
         }
     }
 }
 
-impl Copies for DatumDefinition {
-    fn copied(&self, alloc: Global) -> Result<DatumDefinition, OutOfMemory> {
-        let (datum, title, legend, axis, scale) = copied_five(
-            alloc,
-            &self.datum,
-            &self.title,
-            &self.legend,
-            &self.axis,
-            &self.scale,
-        )?;
-        Ok(DatumDefinition {
-            datum,
-            type_: self.type_,
-            scale,
-            axis,
-            legend,
-            title,
-        })
-    }
+// A copy of a cell that is written.
+fn copied_datum(alloc: Global, of: &DatumDefinition) -> Result<Definition, OutOfMemory>
+    ensures { IfOk result (λ copy. copy ≡ variant.Datum of.now) }
+{
+    let (datum, title, legend, axis, scale) = copied_five(
+        alloc, &of.datum, &of.title, &of.legend, &of.axis, &of.scale,
+    )?;
+    Ok(Definition::Datum(DatumDefinition {
+        datum,
+        type_: of.type_,
+        scale,
+        axis,
+        legend,
+        title,
+    }))
 }
 
-impl Copies for FieldDefinition {
-    fn copied(&self, alloc: Global) -> Result<FieldDefinition, OutOfMemory> {
-        let (field, title, format, legend, axis, sort, scale) = copied_seven(
-            alloc,
-            &self.field,
-            &self.title,
-            &self.format,
-            &self.legend,
-            &self.axis,
-            &self.sort,
-            &self.scale,
-        )?;
-        Ok(FieldDefinition {
-            field,
-            type_: self.type_,
-            aggregate: self.aggregate,
-            bin: self.bin,
-            time_unit: self.time_unit,
-            title,
-            sort,
-            scale,
-            stack: self.stack,
-            axis,
-            legend,
-            header: self.header,
-            format,
-            columns: self.columns,
-            spacing: self.spacing,
-        })
-    }
+// A copy of the cells of a field.
+fn copied_field(alloc: Global, of: &FieldDefinition) -> Result<Definition, OutOfMemory>
+    ensures { IfOk result (λ copy. copy ≡ variant.Field of.now) }
+{
+    let (field, title, format, legend, axis, sort, scale) = copied_seven(
+        alloc, &of.field, &of.title, &of.format, &of.legend, &of.axis, &of.sort, &of.scale,
+    )?;
+    Ok(Definition::Field(FieldDefinition {
+        field,
+        type_: of.type_,
+        aggregate: of.aggregate,
+        bin: of.bin,
+        time_unit: of.time_unit,
+        title,
+        sort,
+        scale,
+        stack: of.stack,
+        axis,
+        legend,
+        header: of.header,
+        format,
+        columns: of.columns,
+        spacing: of.spacing,
+    }))
 }

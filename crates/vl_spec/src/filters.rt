@@ -1,5 +1,6 @@
 // Filters, and tests of conditions.
 ghost use Rattle.std.specs.Prelude.{◌≡◌, ◌++◌, IfOk, OnOk};
+ghost use Rattle.vl_spec.specs.declared.filters.Filter.TheVariants as variant;
 
 use crate::copying::copied_two;
 use cell_value::Cell;
@@ -102,12 +103,12 @@ impl Filter {
         ensures { IfOk result (λ copy. copy ≡ self.now) }
     {
         match self {
-            Filter::Expr(e) => e.copy(alloc).map(Filter::Expr),
-            Filter::Param(of) => of.copied(alloc).map(Filter::Param),
-            Filter::Field(of) => of.copied(alloc).map(Filter::Field),
-            Filter::And(filters) => copied_filters(alloc, filters).map(Filter::And),
-            Filter::Or(filters) => copied_filters(alloc, filters).map(Filter::Or),
-            Filter::Not(filter) => boxed_copy(alloc, filter).map(Filter::Not),
+            Filter::Expr(e) => Ok(Filter::Expr(e.copy(alloc)?)),
+            Filter::Param(of) => Ok(Filter::Param(of.copied(alloc)?)),
+            Filter::Field(of) => copied_test(alloc, of),
+            Filter::And(filters) => Ok(Filter::And(copied_filters(alloc, filters)?)),
+            Filter::Or(filters) => Ok(Filter::Or(copied_filters(alloc, filters)?)),
+            Filter::Not(filter) => Ok(Filter::Not(boxed_copy(alloc, filter)?)),
         }
     }
 }
@@ -156,27 +157,28 @@ impl Copies for ParamTest {
     }
 }
 
-impl Copies for FieldTest {
-    fn copied(&self, alloc: Global) -> Result<FieldTest, OutOfMemory> {
-        let (field, comparison) = copied_two(alloc, &self.field, &self.comparison)?;
-        Ok(FieldTest {
-            field,
-            time_unit: self.time_unit,
-            comparison,
-        })
-    }
+// A copy of a test of a field.
+fn copied_test(alloc: Global, of: &FieldTest) -> Result<Filter, OutOfMemory>
+    ensures { IfOk result (λ copy. copy ≡ variant.Field of.now) }
+{
+    let (field, comparison) = copied_two(alloc, &of.field, &of.comparison)?;
+    Ok(Filter::Field(FieldTest {
+        field,
+        time_unit: of.time_unit,
+        comparison,
+    }))
 }
 
 impl Copies for Comparison {
     fn copied(&self, alloc: Global) -> Result<Comparison, OutOfMemory> {
         match self {
-            Comparison::Equal(cell) => cell.copied(alloc).map(Comparison::Equal),
-            Comparison::Less(cell) => cell.copied(alloc).map(Comparison::Less),
-            Comparison::LessSame(cell) => cell.copied(alloc).map(Comparison::LessSame),
-            Comparison::More(cell) => cell.copied(alloc).map(Comparison::More),
-            Comparison::MoreSame(cell) => cell.copied(alloc).map(Comparison::MoreSame),
+            Comparison::Equal(cell) => Ok(Comparison::Equal(cell.copied(alloc)?)),
+            Comparison::Less(cell) => Ok(Comparison::Less(cell.copied(alloc)?)),
+            Comparison::LessSame(cell) => Ok(Comparison::LessSame(cell.copied(alloc)?)),
+            Comparison::More(cell) => Ok(Comparison::More(cell.copied(alloc)?)),
+            Comparison::MoreSame(cell) => Ok(Comparison::MoreSame(cell.copied(alloc)?)),
             Comparison::Range(a, b) => Ok(Comparison::Range(*a, *b)),
-            Comparison::OneOf(cells) => cells.copied(alloc).map(Comparison::OneOf),
+            Comparison::OneOf(cells) => Ok(Comparison::OneOf(cells.copied(alloc)?)),
             Comparison::Valid(valid) => Ok(Comparison::Valid(*valid)),
         }
     }

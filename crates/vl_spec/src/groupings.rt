@@ -1,6 +1,9 @@
 // Transforms over several rows.
+ghost use Rattle.std.specs.Prelude.{◌≡◌, IfOk};
+ghost use Rattle.vl_spec.specs.declared.transforms.Transform.TheVariants as variant;
+
 use crate::copying::{copied_four, copied_three, copied_two};
-use crate::{SortField, Texts};
+use crate::{SortField, Texts, Transform};
 use cell_value::Cell;
 use fixed_num::Num;
 use std::alloc::Global;
@@ -162,17 +165,18 @@ impl Copies for Operation {
     }
 }
 
-impl Copies for WindowTransform {
-    fn copied(&self, alloc: Global) -> Result<WindowTransform, OutOfMemory> {
-        let (groupby, sort, window) = copied_three(alloc, &self.groupby, &self.sort, &self.window)?;
-        Ok(WindowTransform {
-            window,
-            groupby,
-            sort,
-            frame: self.frame,
-            ignore_peers: self.ignore_peers,
-        })
-    }
+/// A copy of what is computed of each row over its neighbours.
+pub fn copied_window(alloc: Global, of: &WindowTransform) -> Result<Transform, OutOfMemory>
+    ensures { IfOk result (λ copy. copy ≡ variant.Window of.now) }
+{
+    let (groupby, sort, window) = copied_three(alloc, &of.groupby, &of.sort, &of.window)?;
+    Ok(Transform::Window(WindowTransform {
+        window,
+        groupby,
+        sort,
+        frame: of.frame,
+        ignore_peers: of.ignore_peers,
+    }))
 }
 
 impl Copies for WindowOperation {
@@ -187,22 +191,23 @@ impl Copies for WindowOperation {
     }
 }
 
-impl Copies for LookupTransform {
-    fn copied(&self, alloc: Global) -> Result<LookupTransform, OutOfMemory> {
-        let (lookup, default, as_, from) = copied_four(
-            alloc,
-            &self.lookup,
-            &self.default,
-            &self.as_,
-            &self.from,
-        )?;
-        Ok(LookupTransform {
-            lookup,
-            from,
-            as_,
-            default,
-        })
-    }
+/// A copy of how cells of other rows are taken.
+pub fn copied_lookup(alloc: Global, of: &LookupTransform) -> Result<Transform, OutOfMemory>
+    ensures { IfOk result (λ copy. copy ≡ variant.Lookup of.now) }
+{
+    let (lookup, default, as_, from) = copied_four(
+        alloc,
+        &of.lookup,
+        &of.default,
+        &of.as_,
+        &of.from,
+    )?;
+    Ok(Transform::Lookup(LookupTransform {
+        lookup,
+        from,
+        as_,
+        default,
+    }))
 }
 
 impl Copies for LookupFrom {

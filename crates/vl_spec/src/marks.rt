@@ -130,7 +130,7 @@ impl Copies for Mark {
     fn copied(&self, alloc: Global) -> Result<Mark, OutOfMemory> {
         match self {
             Mark::Type(type_) => Ok(Mark::Type(*type_)),
-            Mark::Definition(of) => of.copied(alloc).map(Mark::Definition),
+            Mark::Definition(of) => Ok(Mark::Definition(of.copied(alloc)?)),
         }
     }
 }

@@ -1,4 +1,7 @@
 // Orders, and what may be one text or a list.
+ghost use Rattle.std.specs.Prelude.{◌≡◌, IfOk};
+ghost use Rattle.vl_spec.specs.declared.orders.Sort.TheVariants as variant;
+
 use cell_value::Cell;
 use std::alloc::Global;
 use text_kit::{Copies, OutOfMemory, Seq, Text};
@@ -106,8 +109,8 @@ impl Drop for FieldSort {
 impl Copies for Texts {
     fn copied(&self, alloc: Global) -> Result<Texts, OutOfMemory> {
         match self {
-            Texts::One(text) => text.copy().map(Texts::One),
-            Texts::Several(texts) => texts.copied(alloc).map(Texts::Several),
+            Texts::One(text) => Ok(Texts::One(text.copy()?)),
+            Texts::Several(texts) => Ok(Texts::Several(texts.copied(alloc)?)),
         }
     }
 }
@@ -128,18 +131,19 @@ impl Copies for Sort {
             Sort::Cells(order) => Ok(Sort::Cells(*order)),
             Sort::X(order) => Ok(Sort::X(*order)),
             Sort::Y(order) => Ok(Sort::Y(*order)),
-            Sort::Listed(cells) => cells.copied(alloc).map(Sort::Listed),
-            Sort::Field(of) => of.copied(alloc).map(Sort::Field),
+            Sort::Listed(cells) => Ok(Sort::Listed(cells.copied(alloc)?)),
+            Sort::Field(of) => copied_sort(alloc, of),
         }
     }
 }
 
-impl Copies for FieldSort {
-    fn copied(&self, alloc: Global) -> Result<FieldSort, OutOfMemory> {
-        Ok(FieldSort {
-            field: Copies::copied(&self.field, alloc)?,
-            op: self.op,
-            order: self.order,
-        })
-    }
+// A copy of an order by an aggregate of a field.
+fn copied_sort(alloc: Global, of: &FieldSort) -> Result<Sort, OutOfMemory>
+    ensures { IfOk result (λ copy. copy ≡ variant.Field of.now) }
+{
+    Ok(Sort::Field(FieldSort {
+        field: Copies::copied(&of.field, alloc)?,
+        op: of.op,
+        order: of.order,
+    }))
 }

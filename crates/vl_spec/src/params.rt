@@ -1,4 +1,8 @@
 // Parameters and selections.
+ghost use Rattle.std.specs.Prelude.{◌≡◌, IfOk};
+ghost use Rattle.vl_spec.specs.declared.params.ParamKind.TheVariants as variant;
+ghost use Rattle.vl_spec.specs.declared.params.Select.TheVariants as select;
+
 use crate::copying::{copied_two, copied_values};
 use cell_value::Cell;
 use expr_syntax::Expr;
@@ -148,40 +152,42 @@ impl Copies for ParamOf {
 impl Copies for ParamKind {
     fn copied(&self, alloc: Global) -> Result<ParamKind, OutOfMemory> {
         match self {
-            ParamKind::Value(cell) => cell.copied(alloc).map(ParamKind::Value),
-            ParamKind::Expr(e) => e.copy(alloc).map(ParamKind::Expr),
-            ParamKind::Select(of) => of.copied(alloc).map(ParamKind::Select),
+            ParamKind::Value(cell) => Ok(ParamKind::Value(cell.copied(alloc)?)),
+            ParamKind::Expr(e) => Ok(ParamKind::Expr(e.copy(alloc)?)),
+            ParamKind::Select(of) => copied_selection(alloc, of),
         }
     }
 }
 
-impl Copies for Selection {
-    fn copied(&self, alloc: Global) -> Result<Selection, OutOfMemory> {
-        let (views, select) = copied_two(alloc, &self.views, &self.select)?;
-        Ok(Selection { views, select })
-    }
+// A copy of a selection.
+fn copied_selection(alloc: Global, of: &Selection) -> Result<ParamKind, OutOfMemory>
+    ensures { IfOk result (λ copy. copy ≡ variant.Select of.now) }
+{
+    let (views, select) = copied_two(alloc, &of.views, &of.select)?;
+    Ok(ParamKind::Select(Selection { views, select }))
 }
 
 impl Copies for Select {
     fn copied(&self, alloc: Global) -> Result<Select, OutOfMemory> {
         match self {
             Select::Type(type_) => Ok(Select::Type(*type_)),
-            Select::Definition(of) => of.copied(alloc).map(Select::Definition),
+            Select::Definition(of) => copied_definition(alloc, of),
         }
     }
 }
 
-impl Copies for SelectDefinition {
-    fn copied(&self, alloc: Global) -> Result<SelectDefinition, OutOfMemory> {
-        let encodings = copied_values(alloc, &self.encodings)?;
-        let fields = Copies::copied(&self.fields, alloc)?;
-        Ok(SelectDefinition {
-            type_: self.type_,
-            fields,
-            encodings,
-            on: self.on,
-            clear: self.clear,
-            toggle: self.toggle,
-        })
-    }
+// A copy of what a selection keeps and when it changes.
+fn copied_definition(alloc: Global, of: &SelectDefinition) -> Result<Select, OutOfMemory>
+    ensures { IfOk result (λ copy. copy ≡ select.Definition of.now) }
+{
+    let encodings = copied_values(alloc, &of.encodings)?;
+    let fields = Copies::copied(&of.fields, alloc)?;
+    Ok(Select::Definition(SelectDefinition {
+        type_: of.type_,
+        fields,
+        encodings,
+        on: of.on,
+        clear: of.clear,
+        toggle: of.toggle,
+    }))
 }

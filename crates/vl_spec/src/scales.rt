@@ -1,4 +1,7 @@
 // Scales.
+ghost use Rattle.std.specs.Prelude.{◌≡◌, IfOk};
+ghost use Rattle.vl_spec.specs.declared.scales.Domain.TheVariants as variant;
+
 use crate::copying::copied_two;
 use cell_value::Cell;
 use fixed_num::Num;
@@ -110,17 +113,18 @@ impl Copies for Scale {
 impl Copies for Domain {
     fn copied(&self, alloc: Global) -> Result<Domain, OutOfMemory> {
         match self {
-            Domain::Cells(cells) => cells.copied(alloc).map(Domain::Cells),
-            Domain::Param(of) => of.copied(alloc).map(Domain::Param),
+            Domain::Cells(cells) => Ok(Domain::Cells(cells.copied(alloc)?)),
+            Domain::Param(of) => copied_domain(of),
         }
     }
 }
 
-impl Copies for ParamDomain {
-    fn copied(&self, _: Global) -> Result<ParamDomain, OutOfMemory> {
-        Ok(ParamDomain {
-            param: self.param.copy()?,
-            encoding: self.encoding,
-        })
-    }
+// A copy of the domain that a selection gives.
+fn copied_domain(of: &ParamDomain) -> Result<Domain, OutOfMemory>
+    ensures { IfOk result (λ copy. copy ≡ variant.Param of.now) }
+{
+    Ok(Domain::Param(ParamDomain {
+        param: of.param.copy()?,
+        encoding: of.encoding,
+    }))
 }

@@ -1,11 +1,12 @@
 // Whole specifications.
 ghost use Rattle.std.specs.Prelude.{◌≡◌, IfOk};
 
-use crate::copying::copied_four;
+use crate::copying::beside_three;
+use crate::views::copied_view;
 use crate::{Autosize, ConfigView, ParamOf, SourceOf, View};
 use fixed_num::Num;
 use std::alloc::Global;
-use text_kit::{Copies, OutOfMemory, Seq, Text};
+use text_kit::{OutOfMemory, Seq, Text};
 
 /// A Vega-Lite specification.
 pub struct VlSpec {
@@ -45,12 +46,13 @@ impl VlSpec {
     pub fn copy(&self, alloc: Global) -> Result<VlSpec, OutOfMemory>
         ensures { IfOk result (λ copy. copy ≡ self.now) }
     {
-        let (schema, sources, params, view) = copied_four(
+        let view = copied_view(alloc, &self.view)?;
+        let (view, schema, sources, params) = beside_three(
             alloc,
+            view,
             &self.schema,
             &self.sources,
             &self.params,
-            &self.view,
         )?;
         Ok(VlSpec {
             schema,

@@ -1,5 +1,9 @@
 // Transforms of rows.
+ghost use Rattle.std.specs.Prelude.{◌≡◌, IfOk};
+ghost use Rattle.vl_spec.specs.declared.transforms.Transform.TheVariants as variant;
+
 use crate::copying::{copied_four, copied_two};
+use crate::groupings::{copied_lookup, copied_window};
 use crate::{AggregateTransform, Bin, Filter, LookupTransform, Offset, SortField, WindowTransform};
 use expr_syntax::Expr;
 use std::alloc::Global;
@@ -161,16 +165,16 @@ impl Drop for FoldTransform {
 impl Copies for Transform {
     fn copied(&self, alloc: Global) -> Result<Transform, OutOfMemory> {
         match self {
-            Transform::Filter(of) => of.copy(alloc).map(Transform::Filter),
-            Transform::Calculate(of) => of.copied(alloc).map(Transform::Calculate),
-            Transform::Bin(of) => of.copied(alloc).map(Transform::Bin),
-            Transform::TimeUnit(of) => of.copied(alloc).map(Transform::TimeUnit),
-            Transform::Aggregate(of) => of.copied(alloc).map(Transform::Aggregate),
-            Transform::JoinAggregate(of) => of.copied(alloc).map(Transform::JoinAggregate),
-            Transform::Stack(of) => of.copied(alloc).map(Transform::Stack),
-            Transform::Window(of) => of.copied(alloc).map(Transform::Window),
-            Transform::Lookup(of) => of.copied(alloc).map(Transform::Lookup),
-            Transform::Fold(of) => of.copied(alloc).map(Transform::Fold),
+            Transform::Filter(of) => Ok(Transform::Filter(of.copy(alloc)?)),
+            Transform::Calculate(of) => copied_calculate(alloc, of),
+            Transform::Bin(of) => copied_bin(alloc, of),
+            Transform::TimeUnit(of) => copied_time_unit(alloc, of),
+            Transform::Aggregate(of) => Ok(Transform::Aggregate(of.copied(alloc)?)),
+            Transform::JoinAggregate(of) => Ok(Transform::JoinAggregate(of.copied(alloc)?)),
+            Transform::Stack(of) => copied_stack(alloc, of),
+            Transform::Window(of) => copied_window(alloc, of),
+            Transform::Lookup(of) => copied_lookup(alloc, of),
+            Transform::Fold(of) => copied_fold(alloc, of),
         }
     }
 }
@@ -178,66 +182,71 @@ impl Copies for Transform {
 impl Copies for Names {
     fn copied(&self, _: Global) -> Result<Names, OutOfMemory> {
         match self {
-            Names::One(name) => name.copy().map(Names::One),
+            Names::One(name) => Ok(Names::One(name.copy()?)),
             Names::Two(start, end) => Ok(Names::Two(start.copy()?, end.copy()?)),
         }
     }
 }
 
-impl Copies for CalculateTransform {
-    fn copied(&self, alloc: Global) -> Result<CalculateTransform, OutOfMemory> {
-        let as_ = self.as_.copy()?;
-        Ok(CalculateTransform {
-            as_,
-            calculate: self.calculate.copy(alloc)?,
-        })
-    }
+// A copy of a cell computed of each row.
+fn copied_calculate(alloc: Global, of: &CalculateTransform) -> Result<Transform, OutOfMemory>
+    ensures { IfOk result (λ copy. copy ≡ variant.Calculate of.now) }
+{
+    let as_ = of.as_.copy()?;
+    Ok(Transform::Calculate(CalculateTransform {
+        as_,
+        calculate: of.calculate.copy(alloc)?,
+    }))
 }
 
-impl Copies for BinTransform {
-    fn copied(&self, alloc: Global) -> Result<BinTransform, OutOfMemory> {
-        let (field, as_) = copied_two(alloc, &self.field, &self.as_)?;
-        Ok(BinTransform {
-            bin: self.bin,
-            field,
-            as_,
-        })
-    }
+// A copy of how numbers are put into bins.
+fn copied_bin(alloc: Global, of: &BinTransform) -> Result<Transform, OutOfMemory>
+    ensures { IfOk result (λ copy. copy ≡ variant.Bin of.now) }
+{
+    let (field, as_) = copied_two(alloc, &of.field, &of.as_)?;
+    Ok(Transform::Bin(BinTransform {
+        bin: of.bin,
+        field,
+        as_,
+    }))
 }
 
-impl Copies for TimeUnitTransform {
-    fn copied(&self, alloc: Global) -> Result<TimeUnitTransform, OutOfMemory> {
-        let (field, as_) = copied_two(alloc, &self.field, &self.as_)?;
-        Ok(TimeUnitTransform {
-            time_unit: self.time_unit,
-            field,
-            as_,
-        })
-    }
+// A copy of how instants are put into units of time.
+fn copied_time_unit(alloc: Global, of: &TimeUnitTransform) -> Result<Transform, OutOfMemory>
+    ensures { IfOk result (λ copy. copy ≡ variant.TimeUnit of.now) }
+{
+    let (field, as_) = copied_two(alloc, &of.field, &of.as_)?;
+    Ok(Transform::TimeUnit(TimeUnitTransform {
+        time_unit: of.time_unit,
+        field,
+        as_,
+    }))
 }
 
-impl Copies for StackTransform {
-    fn copied(&self, alloc: Global) -> Result<StackTransform, OutOfMemory> {
-        let (stack, groupby, sort, as_) = copied_four(
-            alloc,
-            &self.stack,
-            &self.groupby,
-            &self.sort,
-            &self.as_,
-        )?;
-        Ok(StackTransform {
-            stack,
-            groupby,
-            sort,
-            offset: self.offset,
-            as_,
-        })
-    }
+// A copy of how numbers are stacked.
+fn copied_stack(alloc: Global, of: &StackTransform) -> Result<Transform, OutOfMemory>
+    ensures { IfOk result (λ copy. copy ≡ variant.Stack of.now) }
+{
+    let (stack, groupby, sort, as_) = copied_four(
+        alloc,
+        &of.stack,
+        &of.groupby,
+        &of.sort,
+        &of.as_,
+    )?;
+    Ok(Transform::Stack(StackTransform {
+        stack,
+        groupby,
+        sort,
+        offset: of.offset,
+        as_,
+    }))
 }
 
-impl Copies for FoldTransform {
-    fn copied(&self, alloc: Global) -> Result<FoldTransform, OutOfMemory> {
-        let (fold, as_) = copied_two(alloc, &self.fold, &self.as_)?;
-        Ok(FoldTransform { fold, as_ })
-    }
+// A copy of how rows are made of fields.
+fn copied_fold(alloc: Global, of: &FoldTransform) -> Result<Transform, OutOfMemory>
+    ensures { IfOk result (λ copy. copy ≡ variant.Fold of.now) }
+{
+    let (fold, as_) = copied_two(alloc, &of.fold, &of.as_)?;
+    Ok(Transform::Fold(FoldTransform { fold, as_ }))
 }

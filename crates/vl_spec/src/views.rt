@@ -1,5 +1,7 @@
 // Views.
 ghost use Rattle.std.specs.Prelude.{◌≡◌, ◌++◌, IfOk, OnOk};
+ghost use Rattle.vl_spec.specs.declared.views.Facet.TheVariants as variant;
+ghost use Rattle.vl_spec.specs.declared.views.ViewKind.TheVariants as kind;
 
 use crate::copying::{beside, beside_five, copied_two};
 use crate::{Channel, Encoding, Mark, Resolve, Size, Transform};
@@ -144,94 +146,92 @@ impl Drop for CrossFacet {
     }
 }
 
-impl View {
-    /// A view that equals this one.
-    #[cycle(views)]
-    pub fn copy(&self, alloc: Global) -> Result<View, OutOfMemory>
-        ensures { IfOk result (λ copy. copy ≡ self.now) }
-    {
-        let params = Seq::from_slice(alloc, self.params.as_slice())?;
-        let kind = self.kind.copy(alloc)?;
-        let (kind, name, title, data_, resolve, transform) = beside_five(
-            alloc,
-            kind,
-            &self.name,
-            &self.title,
-            &self.data_,
-            &self.resolve,
-            &self.transform,
-        )?;
-        Ok(View {
-            name,
-            title,
-            data_,
-            transform,
-            params,
-            width: self.width,
-            height: self.height,
-            resolve,
-            kind,
-        })
+/// A view that equals another.
+#[cycle(views)]
+pub fn copied_view(alloc: Global, view: &View) -> Result<View, OutOfMemory>
+    ensures { IfOk result (λ copy. copy ≡ view.now) }
+{
+    let params = Seq::from_slice(alloc, view.params.as_slice())?;
+    let kind = copied_kind(alloc, &view.kind)?;
+    let (kind, name, title, data_, resolve, transform) = beside_five(
+        alloc,
+        kind,
+        &view.name,
+        &view.title,
+        &view.data_,
+        &view.resolve,
+        &view.transform,
+    )?;
+    Ok(View {
+        name,
+        title,
+        data_,
+        transform,
+        params,
+        width: view.width,
+        height: view.height,
+        resolve,
+        kind,
+    })
+}
+
+// A copy of what a view is.
+#[cycle(views)]
+fn copied_kind(alloc: Global, of: &ViewKind) -> Result<ViewKind, OutOfMemory>
+    ensures { IfOk result (λ copy. copy ≡ of.now) }
+{
+    match of {
+        ViewKind::Unit(unit) => copied_unit(alloc, unit),
+        ViewKind::Layer(layer) => copied_layer(alloc, layer),
+        ViewKind::Facet(faceted) => copied_faceted(alloc, faceted),
+        ViewKind::Joined(joined) => copied_joined(alloc, joined),
     }
 }
 
-impl ViewKind {
-    /// A kind of view that equals this one.
-    #[cycle(views)]
-    pub fn copy(&self, alloc: Global) -> Result<ViewKind, OutOfMemory>
-        ensures { IfOk result (λ copy. copy ≡ self.now) }
-    {
-        match self {
-            ViewKind::Unit(unit) => unit.copied(alloc).map(ViewKind::Unit),
-            ViewKind::Layer(layer) => layer.copy(alloc).map(ViewKind::Layer),
-            ViewKind::Facet(faceted) => faceted.copy(alloc).map(ViewKind::Facet),
-            ViewKind::Joined(joined) => joined.copy(alloc).map(ViewKind::Joined),
-        }
-    }
+// A copy of one mark.
+fn copied_unit(alloc: Global, of: &Unit) -> Result<ViewKind, OutOfMemory>
+    ensures { IfOk result (λ copy. copy ≡ kind.Unit of.now) }
+{
+    let (mark, encoding) = copied_two(alloc, &of.mark, &of.encoding)?;
+    Ok(ViewKind::Unit(Unit { mark, encoding }))
 }
 
-impl Layer {
-    /// A layer that equals this one.
-    #[cycle(views)]
-    pub fn copy(&self, alloc: Global) -> Result<Layer, OutOfMemory>
-        ensures { IfOk result (λ copy. copy ≡ self.now) }
-    {
-        let layer = copied_views(alloc, &self.layer)?;
-        let (layer, encoding) = beside(alloc, layer, &self.encoding)?;
-        Ok(Layer { layer, encoding })
-    }
+// A copy of views on each other.
+#[cycle(views)]
+fn copied_layer(alloc: Global, of: &Layer) -> Result<ViewKind, OutOfMemory>
+    ensures { IfOk result (λ copy. copy ≡ kind.Layer of.now) }
+{
+    let layer = copied_views(alloc, &of.layer)?;
+    let (layer, encoding) = beside(alloc, layer, &of.encoding)?;
+    Ok(ViewKind::Layer(Layer { layer, encoding }))
 }
 
-impl Faceted {
-    /// A faceted view that equals this one.
-    #[cycle(views)]
-    pub fn copy(&self, alloc: Global) -> Result<Faceted, OutOfMemory>
-        ensures { IfOk result (λ copy. copy ≡ self.now) }
-    {
-        let spec = boxed_copy(alloc, &self.spec)?;
-        let (spec, facet) = beside(alloc, spec, &self.facet)?;
-        Ok(Faceted {
-            facet,
-            columns: self.columns,
-            spacing: self.spacing,
-            spec,
-        })
-    }
+// A copy of a view for each part of the rows.
+#[cycle(views)]
+fn copied_faceted(alloc: Global, of: &Faceted) -> Result<ViewKind, OutOfMemory>
+    ensures { IfOk result (λ copy. copy ≡ kind.Facet of.now) }
+{
+    let spec = Boxed::new(alloc, copied_view(alloc, of.spec.get())?)?;
+    let (spec, facet) = beside(alloc, spec, &of.facet)?;
+    Ok(ViewKind::Facet(Faceted {
+        facet,
+        columns: of.columns,
+        spacing: of.spacing,
+        spec,
+    }))
 }
 
-impl Joined {
-    /// Joined views that equal these.
-    #[cycle(views)]
-    pub fn copy(&self, alloc: Global) -> Result<Joined, OutOfMemory>
-        ensures { IfOk result (λ copy. copy ≡ self.now) }
-    {
-        Ok(Joined {
-            joining: self.joining,
-            columns: self.columns,
-            spacing: self.spacing,
-            views: copied_views(alloc, &self.views)?,
-        })
-    }
+// A copy of views beside each other.
+#[cycle(views)]
+fn copied_joined(alloc: Global, of: &Joined) -> Result<ViewKind, OutOfMemory>
+    ensures { IfOk result (λ copy. copy ≡ kind.Joined of.now) }
+{
+    Ok(ViewKind::Joined(Joined {
+        joining: of.joining,
+        columns: of.columns,
+        spacing: of.spacing,
+        views: copied_views(alloc, &of.views)?,
+    }))
 }
 
 // Copies of views.
@@ -250,44 +250,24 @@ fn push_copies(alloc: Global, views: &[View], out: &mut Seq<View>) -> Result<(),
     ensures { OnOk result (out.new ≡ out.old ++ views.now) }
 {
     for view in views {
-        out.push(view.copy(alloc)?)?;
+        out.push(copied_view(alloc, view)?)?;
     }
     Ok(())
-}
-
-// A copy of a view in a box.
-#[cycle(views)]
-fn boxed_copy(alloc: Global, view: &Boxed<View>) -> Result<Boxed<View>, OutOfMemory>
-    ensures { IfOk result (λ copy. copy ≡ view.now) }
-{
-    Boxed::new(alloc, view.get().copy(alloc)?)
-}
-
-impl Copies for View {
-    fn copied(&self, alloc: Global) -> Result<View, OutOfMemory> {
-        self.copy(alloc)
-    }
-}
-
-impl Copies for Unit {
-    fn copied(&self, alloc: Global) -> Result<Unit, OutOfMemory> {
-        let (mark, encoding) = copied_two(alloc, &self.mark, &self.encoding)?;
-        Ok(Unit { mark, encoding })
-    }
 }
 
 impl Copies for Facet {
     fn copied(&self, alloc: Global) -> Result<Facet, OutOfMemory> {
         match self {
-            Facet::One(channel) => channel.copied(alloc).map(Facet::One),
-            Facet::Cross(of) => of.copied(alloc).map(Facet::Cross),
+            Facet::One(channel) => Ok(Facet::One(channel.copied(alloc)?)),
+            Facet::Cross(of) => copied_cross(alloc, of),
         }
     }
 }
 
-impl Copies for CrossFacet {
-    fn copied(&self, alloc: Global) -> Result<CrossFacet, OutOfMemory> {
-        let (row, column) = copied_two(alloc, &self.row, &self.column)?;
-        Ok(CrossFacet { row, column })
-    }
+// A copy of how rows are parted into rows and columns.
+fn copied_cross(alloc: Global, of: &CrossFacet) -> Result<Facet, OutOfMemory>
+    ensures { IfOk result (λ copy. copy ≡ variant.Cross of.now) }
+{
+    let (row, column) = copied_two(alloc, &of.row, &of.column)?;
+    Ok(Facet::Cross(CrossFacet { row, column }))
 }
