@@ -1,0 +1,3 @@
+mod TrailLemmas
+mod FarAddresses
+mod KeptLemmas

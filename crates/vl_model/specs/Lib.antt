@@ -1,0 +1,4 @@
+pub mod Texts
+pub mod Visits
+pub mod Faults
+pub mod Reading

@@ -1,0 +1,28 @@
+-- What is read of a tree as a Vega-Lite specification.
+use Rattle.std.specs.Prelude.{ℕ, List, Option, Some, None, Result, Ok, Err}
+use Rattle.json_exact.specs.declared.json.Json.{Json}
+use Rattle.json_exact.specs.declared.spec_error.SpecKind.{SpecKind}
+use Rattle.json_exact.specs.declared.spec_error.SpecError.{SpecError}
+use Rattle.json_exact.specs.declared.spec_error.SpecError.TheVariants as error
+use Rattle.spec_schema.specs.declared.fault.Fault.{Fault}
+use Rattle.vl_spec.specs.declared.spec.VlSpec.{VlSpec}
+use Rattle.vl_building.specs.Spec.{spec_of}
+use Rattle.vl_model.specs.Faults.{first_fault_of}
+
+-- a path and what is wrong there
+abbrev pub Refused : Type 0
+Refused = List ℕ × SpecKind
+
+-- which refusal an error stands for, None where it is refused memory
+abbrev pub cause : SpecError → Option Refused
+cause (error.Fault path kind) = Some (path, kind)
+cause error.Memory = None
+
+-- a specification where there is no fault, and else the fault's path and kind
+abbrev pub unless_fault : Option Fault → VlSpec → Result VlSpec Refused
+unless_fault None spec = Ok spec
+unless_fault (Some fault) spec = Err (fault.path, fault.kind)
+
+-- what is read of a tree: the specification that is built of it, unless it has a fault
+abbrev pub read_of : Json → Result VlSpec Refused
+read_of tree = unless_fault (first_fault_of tree) (spec_of tree)

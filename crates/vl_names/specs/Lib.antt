@@ -1,0 +1,11 @@
+pub mod Channels
+pub mod Circles
+pub mod Filters
+pub mod Given
+pub mod Known
+pub mod Names
+pub mod Params
+pub mod Twice
+pub mod Unknown
+pub mod Views
+pub mod inner

@@ -1,0 +1,13 @@
+mod ChannelLemmas
+mod CountLemmas
+mod FoldLemmas
+mod FrontLemmas
+mod HeldLemmas
+mod JoinLemmas
+mod KeptLemmas
+mod LeadLemmas
+mod LoopLemmas
+mod OpenedLemmas
+mod ShownLemmas
+mod WalkLemmas
+mod WalkedLemmas

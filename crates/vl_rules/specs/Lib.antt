@@ -1,0 +1,14 @@
+pub mod Fits
+pub mod Folds
+pub mod Kept
+pub mod Leads
+pub mod Marked
+pub mod Names
+pub mod Offers
+pub mod Parts
+pub mod Rules
+pub mod Selections
+pub mod Standings
+pub mod Units
+pub mod Views
+pub mod inner
