@@ -109,9 +109,29 @@ definitions_without_vega() {
     [ "$told" -eq 0 ]
 }
 
+# Whether rendering the file ends with these two last lines on standard error: where a fault stands, and the fault.
+stands_at() {
+    "$chart" render "$1" >out 2>notes </dev/null
+    printf 'chart: %s\n' "at $1:$2" "$3" >wanted
+    tail -n 2 notes | cmp -s - wanted
+}
+
+no_place_of_what_isnt_drawn() {
+    "$chart" render dots.json >out 2>notes </dev/null
+    ! grep -q '^chart: at ' notes
+}
+
 a_small_tree
 echo '{"a":1,"a":2}' >twice.json
 echo '[]' >list.json
+echo '{"data":{"values":[]},"mark":"point"}' >dots.json
+cat >typo.json <<'TEXT'
+{"data": {"values": [{"é": 1}, "a\"]"]}, "m\u0061rk": "bar",
+ "transform": [
+   {"filter": "true"}, {"fold": ["a"], "a/\u00e9": 1}], "typo": 2}
+TEXT
+printf '{"a": [1,\n       "é", 2 3]}' >list-fault.json
+echo '{"hconcat": [{"mark": "bar"}]}' >no-data.json
 
 fact "definitions without Vega" definitions_without_vega
 fact "the version" the_version
@@ -125,7 +145,13 @@ fact "a source that is newer than it" a_newer_source
 fact "wrong words" ends 1 'chart: words' draw examples/three-bars.json
 fact "no such file" ends 2 'chart: missing no-such-file.json' render no-such-file.json
 fact "no JSON text" ends 3 'chart: json twice.json at 9' render twice.json
-fact "no chart that is drawn" ends 4 'chart: spec unsupported ' render list.json
+fact "no specification" ends 4 'chart: spec wrong ' render list.json
+fact "no chart that is drawn" ends 4 'chart: spec unsupported ' render dots.json
+fact "where a fault of a specification stands" stands_at typo.json 3:40 'spec unsupported /transform/1/a~1é'
+fact "where a member is missing" stands_at no-data.json 1:28 'spec missing /hconcat/0/data'
+fact "where the whole is wrong" stands_at list.json 1:1 'spec wrong '
+fact "where a text is no JSON" stands_at list-fault.json 2:15 'json list-fault.json at 25'
+fact "no place of what isn't drawn" no_place_of_what_isnt_drawn
 
 echo "chart: $passed passed, $failed failed"
 [ "$failed" -eq 0 ]

@@ -5,18 +5,17 @@ use Rattle.json_exact.specs.declared.json.Json.{Json}
 use Rattle.json_exact.specs.declared.spec_error.SpecKind.TheVariants.{Wrong}
 use Rattle.chart_io.specs.Outside.{Files}
 use Rattle.vega_spec.specs.declared.spec.VgSpec.{VgSpec}
-use Rattle.first_form.specs.FirstForm.{form_of}
 use Rattle.chart_opening.specs.declared.refusal.Refusal.{Refusal}
 use Rattle.chart_opening.specs.declared.refusal.Refusal.TheVariants as refusal
 use Rattle.chart_opening.specs.declared.opened.Opened.{Opened}
 use Rattle.chart_opening.specs.Texts.{Reading}
 use Rattle.chart_opening.specs.Schemas.{is_vega}
 use Rattle.chart_opening.specs.Files.{tree_of_file}
-use Rattle.chart_opening.specs.Specs.{form_read, opened_with}
+use Rattle.chart_opening.specs.Specs.{vl_spec_of, opened_with}
 
 -- the Vega specification to which a tree is compiled; a Vega specification isn't compiled, whatever else it holds
 abbrev pub compiled_of : Json → Result VgSpec Refusal
-compiled_of tree = if is_vega tree then Err (refusal.Spec Wrong (codes "/$schema")) else form_read (form_of tree)
+compiled_of tree = if is_vega tree then Err (refusal.Spec Wrong (codes "/$schema")) else vl_spec_of tree
 
 -- the specification to which a tree is compiled, with its opening state: its rows are read and counted, and its chart isn't drawn
 abbrev pub compiled_tree : Reading → Files → Json → Result Opened Refusal

@@ -6,6 +6,8 @@ use Rattle.json_exact.specs.declared.spec_error.SpecKind.TheVariants.{Unsupporte
 use Rattle.chart_io.specs.Outside.{Files}
 use Rattle.vega_spec.specs.declared.spec.VgSpec.{VgSpec}
 use Rattle.vega_model.specs.Reading.{Refused, read_of}
+use Rattle.vl_spec.specs.declared.spec.VlSpec.{VlSpec}
+use Rattle.vl_model.specs.Reading as vl
 use Rattle.vega_copies.specs.Tested.{is_chart}
 use Rattle.first_form.specs.declared.form.FirstForm.{FirstForm}
 use Rattle.first_form.specs.FirstForm.{form_of}
@@ -36,9 +38,18 @@ abbrev pub form_read : Option FirstForm → Result VgSpec Refusal
 form_read (Some form) = Ok (bars_of form)
 form_read None = Err not_drawn_yet
 
--- the Vega specification of a tree: its own where it says that it is one, else that of a chart of the first form
+-- that of a Vega-Lite specification, as it is read: its first fault; else so far its chart is drawn where it is one of the first form
+abbrev pub vl_read : Result VlSpec vl.Refused → Option FirstForm → Result VgSpec Refusal
+vl_read (Ok s) form = form_read form
+vl_read (Err fault) form = Err (refusal.Spec fault.1 fault.0)
+
+-- the Vega specification that a Vega-Lite tree says, or its first fault
+abbrev pub vl_spec_of : Json → Result VgSpec Refusal
+vl_spec_of tree = vl_read (vl.read_of tree) (form_of tree)
+
+-- the Vega specification of a tree: its own where it says that it is one, else that of a Vega-Lite specification
 abbrev pub spec_of : Json → Result VgSpec Refusal
-spec_of tree = if is_vega tree then vega_read (read_of tree) else form_read (form_of tree)
+spec_of tree = if is_vega tree then vega_read (read_of tree) else vl_spec_of tree
 
 -- a specification with its opening state
 abbrev pub opened_with : Reading → Files → VgSpec → Result Opened Refusal

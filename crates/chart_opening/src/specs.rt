@@ -4,7 +4,7 @@ ghost use Rattle.json_exact.specs.declared.spec_error.SpecKind.TheVariants.{Wron
 ghost use Rattle.vega_model.specs.Reading.{read_of};
 ghost use Rattle.first_form.specs.FirstForm.{form_of};
 ghost use Rattle.chart_opening.specs.Compiled.{compiled_of};
-ghost use Rattle.chart_opening.specs.Specs.{not_drawn_yet, if_drawn, vega_read, form_read, spec_of};
+ghost use Rattle.chart_opening.specs.Specs.{not_drawn_yet, if_drawn, vega_read, form_read, vl_spec_of, spec_of};
 ghost use Rattle.chart_opening.specs.declared.refusal.Refusal.TheVariants.{Spec};
 ghost use Rattle.chart_opening.specs.declared.refusal.Stop.TheVariants.{Refused};
 ghost use Rattle.chart_opening.specs.inner.Stops.{Gives};
@@ -57,14 +57,25 @@ fn form_read(alloc: Global, tree: &Json) -> Result<VgSpec, Stop>
     }
 }
 
-/// The Vega specification of a tree: its own where it says that it is one, else that of a chart of the first form. The tree is let go.
+// The Vega specification that a Vega-Lite tree says, or its first fault.
+fn vl_spec_of(alloc: Global, tree: &Json) -> Result<VgSpec, Stop>
+    ensures { Gives result (vl_spec_of tree.now) }
+{
+    match vl_model::read(alloc, tree) {
+        Ok(_) => form_read(alloc, tree),
+        Err(SpecError::Fault { path, kind }) => Err(Stop::Refused(Refusal::Spec(kind, path))),
+        Err(SpecError::Memory) => Err(Stop::Memory),
+    }
+}
+
+/// The Vega specification of a tree: its own where it says that it is one, else that of a Vega-Lite specification. The tree is let go.
 pub fn spec_of(alloc: Global, tree: Json) -> Result<VgSpec, Stop>
     ensures { Gives result (spec_of tree) }
 {
     if is_vega(&tree) {
         vega_read(alloc, &tree)
     } else {
-        form_read(alloc, &tree)
+        vl_spec_of(alloc, &tree)
     }
 }
 
@@ -83,6 +94,6 @@ pub fn compiled_of(alloc: Global, tree: Json) -> Result<VgSpec, Stop>
     if is_vega(&tree) {
         not_compiled(alloc)
     } else {
-        form_read(alloc, &tree)
+        vl_spec_of(alloc, &tree)
     }
 }

@@ -23,6 +23,7 @@ use Rattle.cell_value.specs.declared.state.ChartState.{ChartState}
 use Rattle.vega_spec.specs.declared.spec.VgSpec.{VgSpec}
 use Rattle.vega_copies.specs.Tested.{is_chart}
 use Rattle.vega_model.specs.Reading.{read_of}
+use Rattle.vl_model.specs.Reading as vl
 use Rattle.vega_writing.specs.Spec.{tree_of}
 use Rattle.compiled_bars.specs.Bars.{bars_over, width}
 use Rattle.compiled_bars.specs.Rows.{values_over, row_object, IsRow}
@@ -45,14 +46,14 @@ use Rattle.chart_opening.specs.Texts.{Reading, ReadsJson, IsRightFor}
 use Rattle.chart_opening.specs.Files.{most_bytes, bytes_in, bytes_of, tree_in, tree_of_file}
 use Rattle.chart_opening.specs.Schemas.{is_vega, contains_text}
 use Rattle.chart_opening.specs.Opening.{opening_by}
-use Rattle.chart_opening.specs.Specs.{not_drawn_yet, vega_read, form_read, spec_of, opened_with, opened_tree, opened_by}
+use Rattle.chart_opening.specs.Specs.{not_drawn_yet, vega_read, vl_spec_of, spec_of, opened_with, opened_tree, opened_by}
 use Rattle.chart_opening.specs.Compiled.{compiled_of, compiled_tree, compiled_by}
 use Rattle.chart_opening.specs.Laws.{FormsOpen}
 use Rattle.chart_opening.specs.inner.Reading.{the_reading}
 use Rattle.chart_opening.proofs.JsonLemmas.{right, agree, tree_is}
 use Rattle.chart_run.specs.Wanted.{vega_text}
 use Rattle.chart_run.specs.Laws.{CompiledOpensAlike}
-use Rattle.chart_run.proofs.Pictures.{form_is, accepted_is}
+use Rattle.chart_run.proofs.Pictures.{vl_form_is, accepted_is}
 use Rattle.chart_run.proofs.FormTexts.{IsSoundValue, IsSoundForm, form_sound}
 
 -- ---- the bars of a form are bars over its values
@@ -126,13 +127,13 @@ otherwise true k x y e = absurd cc
 otherwise false k x y e = (refl, e)
 
 -- the specification of a tree that is compiled
-spec_is : (tree : Json) (g : VgSpec) → is_vega tree ≡ false → form_read (form_of tree) ≡ Ok g → spec_of tree ≡ Ok g
-spec_is tree g other is = ap (λ (b : Bool). if b then vega_read (read_of tree) else form_read (form_of tree)) other ∙ is
+spec_is : (tree : Json) (g : VgSpec) → is_vega tree ≡ false → vl_spec_of tree ≡ Ok g → spec_of tree ≡ Ok g
+spec_is tree g other is = ap (λ (b : Bool). if b then vega_read (read_of tree) else vl_spec_of tree) other ∙ is
 
 -- that of a tree that says that it is one
 vega_is : (tree : Json) (g : VgSpec) → is_vega tree ≡ true → read_of tree ≡ Ok g → is_chart g ≡ true → spec_of tree ≡ Ok g
 vega_is tree g vega is chart =
-    ap (λ (b : Bool). if b then vega_read (read_of tree) else form_read (form_of tree)) vega
+    ap (λ (b : Bool). if b then vega_read (read_of tree) else vl_spec_of tree) vega
     ∙ ap vega_read is ∙ ap (λ (b : Bool). if b then Ok g else Err not_drawn_yet) chart
 
 -- ---- a file of the text
@@ -205,8 +206,8 @@ module _ (forms_open : FormsOpen) (charts : BarsAreCharts) (reading : Reading) (
   both_open name emitted opened e told small =
       let (tree, file, after) = bind_ok (tree_of_file reading files name) (compiled_tree reading files) opened e in
       let (g, said, rest) = bind_ok (compiled_of tree) (opened_with reading files) opened after in
-      let (other, read) = otherwise (is_vega tree) (refusal.Spec Wrong (codes "/$schema")) (form_read (form_of tree)) g said in
-      let (form, found, bars) = form_is (form_of tree) g read in
+      let (other, read) = otherwise (is_vega tree) (refusal.Spec Wrong (codes "/$schema")) (vl_spec_of tree) g said in
+      let (form, found, bars) = vl_form_is (vl.read_of tree) (form_of tree) g read in
       let (bytes, spelled) = file_read name tree file in
       let same : bars_of form ≡ opened.spec = bars ∙ spec_opened g opened rest in
       let at : VgSpec → Type 0 = λ spec. (file_of others emitted ≡ Some (line_of spec)) × (length (line_of spec) ≤ most_bytes) in

@@ -1,5 +1,5 @@
 -- The opening chart of a tree is the Vega chart of what is opened of it.
-use Rattle.std.proofs.Common.{◌≡◌, ℕ, Bool, true, false, Option, Some, None, List, Result, Ok, refl, sym, ap, subst, ◌∙◌}
+use Rattle.std.proofs.Common.{◌≡◌, ℕ, Bool, true, false, Option, Some, None, List, Result, Ok, Err, refl, sym, ap, subst, ◌∙◌}
 use Rattle.std.specs.Prelude.{if◌then◌else◌}
 use Rattle.fixed_num.proofs.Steps.{bind_ok}
 use Rattle.json_exact.specs.declared.json.Json.{Json}
@@ -8,6 +8,8 @@ use Rattle.cell_value.specs.declared.state.ChartState.{ChartState}
 use Rattle.cell_value.specs.State.{state_of}
 use Rattle.vega_spec.specs.declared.spec.VgSpec.{VgSpec}
 use Rattle.vega_model.specs.Reading.{read_of}
+use Rattle.vl_spec.specs.declared.spec.VlSpec.{VlSpec}
+use Rattle.vl_model.specs.Reading as vl
 use Rattle.vega_meaning.specs.Charts.{vega_chart_of}
 use Rattle.first_form.specs.declared.form.FirstForm.{FirstForm}
 use Rattle.first_form.specs.FirstForm.{form_of}
@@ -20,7 +22,7 @@ use Rattle.chart_opening.specs.Texts.{Reading}
 use Rattle.chart_opening.specs.Files.{tree_of_file}
 use Rattle.chart_opening.specs.Schemas.{is_vega}
 use Rattle.chart_opening.specs.Opening.{opening_by}
-use Rattle.chart_opening.specs.Specs.{spec_of, vega_read, form_read, opened_with, opened_by}
+use Rattle.chart_opening.specs.Specs.{spec_of, vega_read, form_read, vl_read, vl_spec_of, opened_with, opened_by}
 use Rattle.chart_opening.specs.Laws.{FormsOpen}
 use Rattle.chart_run.specs.Wanted.{opening_chart, form_chart}
 
@@ -31,6 +33,12 @@ form_is (Some form) g e = (form, refl, same e)
     same : form_read (Some form) ≡ Ok g → bars_of form ≡ g
     same e = cc
 form_is None g e = absurd cc
+
+-- a Vega-Lite specification that is drawn is that of a form
+pub vl_form_is : (r : Result VlSpec vl.Refused) (o : Option FirstForm) (g : VgSpec) → vl_read r o ≡ Ok g
+    → (form : FirstForm) × (o ≡ Some form) × (bars_of form ≡ g)
+vl_form_is (Ok s) o g e = form_is o g e
+vl_form_is (Err fault) o g e = absurd cc
 
 -- what is not refused
 abbrev pub accepted : {A : Type 0} → A → Result A Refusal
@@ -51,12 +59,12 @@ module _ (drawable : FormsAreDrawable) (same_chart : VegaChartIsTheChart) (forms
       sym (accepted_is _ opened after) ∙ ap (λ (s : ChartState). record { spec = bars_of form; state = s }) states
 
   chart_here : (vega : Bool) (tree : Json) (g : VgSpec) (opened : Opened)
-      → (if vega then vega_read (read_of tree) else form_read (form_of tree)) ≡ Ok g → opened_with reading files g ≡ Ok opened
+      → (if vega then vega_read (read_of tree) else vl_spec_of tree) ≡ Ok g → opened_with reading files g ≡ Ok opened
       → (if vega then vega_chart_of opened.spec (state_of opened.state) else form_chart (form_of tree))
       ≡ vega_chart_of opened.spec (state_of opened.state)
   chart_here true tree g opened e after = refl
   chart_here false tree g opened e after =
-      let (form, said, bars) = form_is (form_of tree) g e in
+      let (form, said, bars) = vl_form_is (vl.read_of tree) (form_of tree) g e in
       let is = drawable tree form said in
       let at : VgSpec → Type 0 = λ spec. opened_with reading files spec ≡ Ok opened in
       let whole = form_opened form opened is (subst at (sym bars) after) in
