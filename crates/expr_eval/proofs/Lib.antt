@@ -3,3 +3,4 @@ pub mod NumberTexts
 pub mod Several
 pub mod TableLemmas
 pub mod ValueLaws
+pub mod StoreLemmas

@@ -1,6 +1,7 @@
 pub mod Ranges
 pub mod Values
 pub mod Plain
+pub mod Stores
 pub mod Numbers
 pub mod Answers
 pub mod Operations
@@ -10,3 +11,4 @@ pub mod Value
 pub mod Reads
 pub mod Examples
 pub mod Laws
+pub mod inner

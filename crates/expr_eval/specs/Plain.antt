@@ -1,5 +1,5 @@
 -- What is read where there is no row, and where there are no parameters.
-use Rattle.std.specs.Prelude.{false, Some}
+use Rattle.std.specs.Prelude.{false, Some, []}
 use Rattle.cell_value.specs.declared.cell.Cell.TheVariants.{Null}
 use Rattle.cell_value.specs.Datum.{CellAt}
 use Rattle.expr_eval.specs.Values.{Values}
@@ -15,6 +15,6 @@ no_values = record {
   member = λ name field. Null;
   stored = λ store. 0;
   selects = λ store row. false;
-  fields = λ store. 0;
+  fields = λ store. [];
   domain_length = λ scale. 0;
 }

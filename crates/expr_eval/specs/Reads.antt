@@ -1,5 +1,5 @@
 -- How many cells the evaluation of an expression may read.
-use Rattle.std.specs.Prelude.{ℕ, ◌+◌, sum}
+use Rattle.std.specs.Prelude.{ℕ, ◌+◌, length, sum}
 use Rattle.expr_syntax.specs.declared.expr.Expr.{Expr, Expr-F, fold-Expr}
 use Rattle.expr_syntax.specs.declared.expr.Expr.TheOpen as form
 use Rattle.expr_eval.specs.Values.{Values}
@@ -20,7 +20,7 @@ reads_here values (form.Binary op a b) = a + b
 reads_here values (form.Choose test first second) = test + first + second
 reads_here values (form.Pair a b) = a + b
 reads_here values (form.Call code args) = sum args
-reads_here values (form.Selected store) = values.fields store
+reads_here values (form.Selected store) = length (values.fields store)
 reads_here values (form.Stored store) = 0
 reads_here values (form.DomainLength scale) = 0
 

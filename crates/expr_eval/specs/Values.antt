@@ -10,11 +10,11 @@ pub record Values : Type 0 where
   pub value : List ℕ → Option Cell
   -- the two ends that an interval selection has of a channel, else null
   pub member : List ℕ → List ℕ → Cell
-  -- how many tuples a store has
+  -- how many tuples a store has; 1 where it has extents
   pub stored : List ℕ → ℕ
   -- whether a store holds the row
   pub selects : List ℕ → CellAt → Bool
-  -- how many fields a store has
-  pub fields : List ℕ → ℕ
+  -- the fields of a store; of a row it reads no others
+  pub fields : List ℕ → List (List ℕ)
   -- how many cells the domain of a scale has
   pub domain_length : List ℕ → ℕ

@@ -1,5 +1,5 @@
 // What an expression is evaluated over: a row, and the parameters of a chart.
-ghost use Rattle.std.specs.Prelude.{◌≡◌, IfOk};
+ghost use Rattle.std.specs.Prelude.{◌≡◌, length, IfOk};
 ghost use Rattle.cell_value.specs.Datum.{CellAt};
 ghost use Rattle.expr_eval.specs.Values.{Values};
 ghost use Rattle.expr_eval.specs.Answers.{Evaluates, RisesBy};
@@ -53,7 +53,7 @@ pub trait ParamReader {
         steps: &mut Steps<L>,
     ) -> Result<bool, OutOfMemory>
         ensures holds { IfOk result (λ holds. holds ≡ (values self.now).selects store.now (R.cells row.now)) }
-        ensures few_steps { RisesBy ((values self.now).fields store.now) steps.old steps.new };
+        ensures few_steps { RisesBy (length ((values self.now).fields store.now)) steps.old steps.new };
 
     /// How many cells the domain of a discrete scale has; 2 for a continuous one.
     fn domain_length(&self, scale: &str) -> u64

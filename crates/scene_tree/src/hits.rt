@@ -4,7 +4,7 @@ ghost use Rattle.scene_tree.specs.Hits.{holds_point, has_key, places_where, hits
 
 use crate::holding::holds;
 use crate::places::Place;
-use crate::{Item, Items, Panel, Scene};
+use crate::{Item, Items, Panel, Scene, Shape};
 use fixed_num::Num;
 
 /// An item of a scene.
@@ -14,6 +14,17 @@ pub struct ItemRef {
     pub panel: usize,
     /// Its place among the items of its panel, counted from 0.
     pub item: usize,
+}
+
+/// Whether a shape holds the point `x`, `y` of the picture, where its places are counted from the place `left`, `top` of the picture: a rect
+/// inside of it and on its edges, a circle where the point is no farther from its centre than its radius, a symbol's path in a square round its
+/// middle. No other shape holds a point. It takes no memory.
+pub fn holds_at(shape: &Shape, left: Num, top: Num, x: Num, y: Num) -> bool
+    ensures { result ≡ holds_point shape.now (x -ℤ left) (y -ℤ top) }
+{
+    let across = Place::from(left, x);
+    let down = Place::from(top, y);
+    holds(shape, across, down)
 }
 
 // Whether an item has a key and holds a point of its panel.

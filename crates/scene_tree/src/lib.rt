@@ -11,7 +11,7 @@ mod scene;
 mod shape;
 mod squares;
 
-pub use hits::{ItemRef, pick};
+pub use hits::{ItemRef, holds_at, pick};
 pub use items::Items;
 pub use moves::{law_of_moves, moved_items};
 pub use scene::{Item, Panel, Scene};

@@ -10,7 +10,7 @@ ghost use Rattle.vega_signals.specs.Signals.{data_of};
 ghost use Rattle.vega_signal_tests.specs.Plain.{IsPlain, IsPlainSet};
 
 use cell_value::{Cell, Key, Keyed, Named, Row};
-use expr_eval::EvalError;
+use expr_eval::{EvalError, NoParams};
 use expr_syntax::{Expr, ExprError, read};
 use fixed_num::Num;
 use std::alloc::Global;
@@ -316,7 +316,13 @@ fn answered(alloc: Global, line: &str) -> Result<Text, Stop> {
     let mut params = Seq::new(alloc);
     let signals = signals_of(alloc, signals.trim_end(), &mut params)?;
     let top = top_of(sets_of(alloc, sets)?, signals);
-    let values = signal_values(alloc, &top, sources.as_slice(), params.as_slice())?;
+    let values = signal_values(
+        alloc,
+        &NoParams,
+        &top,
+        sources.as_slice(),
+        params.as_slice(),
+    )?;
     Ok(shown(alloc, values.as_slice())?)
 }
 

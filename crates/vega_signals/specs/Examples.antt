@@ -12,6 +12,7 @@ use Rattle.vega_spec.specs.declared.spec.VgMark.{VgMark}
 use Rattle.vega_spec.specs.declared.transforms.BinExtent.TheVariants as bounds
 use Rattle.vega_spec.specs.declared.transforms.Transform.{Transform}
 use Rattle.vega_spec.specs.declared.transforms.Transform.TheVariants as vega
+use Rattle.expr_eval.specs.Plain.{no_values}
 use Rattle.vega_signals.specs.Signals.{signal_values}
 
 abbrev a_set : List ℕ → Option (List ℕ) → List Transform → DataSet
@@ -52,16 +53,16 @@ bins_over signal = vega.Bin record { field = codes "v"; extent = bounds.Signal s
 abbrev tenths : ℕ → ℤ
 tenths n = pos (n * 100000)
 
-an_extent : signal_values (a_top [] (a_set (codes "t") None (the_extent (codes "v") (codes "x") ∷ []) ∷ [])) three_rows []
+an_extent : signal_values no_values (a_top [] (a_set (codes "t") None (the_extent (codes "v") (codes "x") ∷ []) ∷ [])) three_rows []
     ≡ Some ((codes "x", Pair (tenths 10) (tenths 30)) ∷ [])
 an_extent = refl
 
-an_extent_over_no_rows : signal_values (a_top [] (a_set (codes "u") None (the_extent (codes "v") (codes "x") ∷ []) ∷ [])) three_rows []
+an_extent_over_no_rows : signal_values no_values (a_top [] (a_set (codes "u") None (the_extent (codes "v") (codes "x") ∷ []) ∷ [])) three_rows []
     ≡ Some ((codes "x", Null) ∷ [])
 an_extent_over_no_rows = refl
 
 bins_over_the_signal_of_an_extent :
-    signal_values (a_top [] (
+    signal_values no_values (a_top [] (
     a_set (codes "t") None (the_extent (codes "v") (codes "x") ∷ bins_over (codes "x") ∷ the_extent (codes "end") (codes "y") ∷ []) ∷ [])) three_rows []
     ≡ Some ((codes "x", Pair (tenths 10) (tenths 30)) ∷ (codes "y", Pair (tenths 12) (tenths 30)) ∷ [])
 unfolding floored ceiled floor_quotient
@@ -69,7 +70,7 @@ bins_over_the_signal_of_an_extent = refl
 
 -- the bins of each data set reach over the numbers of the other
 two_that_need_each_other :
-    signal_values (a_top [] (
+    signal_values no_values (a_top [] (
     a_set (codes "s") None []
     ∷ a_set (codes "t") None (the_extent (codes "v") (codes "x") ∷ bins_over (codes "y") ∷ the_extent (codes "end") (codes "z") ∷ [])
     ∷ a_set (codes "u") (Some (codes "s")) (the_extent (codes "v") (codes "y") ∷ bins_over (codes "x") ∷ the_extent (codes "end") (codes "w") ∷ [])

@@ -15,11 +15,11 @@ value_named params name = option_map_or (λ (param : List ℕ × Cell). param.1)
 abbrev pub length_named : List (List ℕ × ℕ) → List ℕ → ℕ
 length_named lengths name = option_map_or (λ (scale : List ℕ × ℕ). scale.1) (find (λ (scale : List ℕ × ℕ). bytes_eq scale.0 name) lengths) 0
 
--- what is read where parameters have these values, the domains of scales are so long, and there is no selection
-abbrev pub values_with : List (List ℕ × Cell) → List (List ℕ × ℕ) → Values
-values_with params lengths = record no_values { value = λ name. Some (value_named params name); domain_length = length_named lengths }
+-- what is read where parameters have these values, the domains of scales are so long, and this is read of the stores of selections
+abbrev pub values_with : Values → List (List ℕ × Cell) → List (List ℕ × ℕ) → Values
+values_with stores params lengths = record stores { value = λ name. Some (value_named params name); domain_length = length_named lengths }
 
 -- The rules at work.
 
-the_first_of_a_name : (values_with ((codes "k", Flag true) ∷ (codes "k", Null) ∷ []) []).value (codes "k") ≡ Some (Flag true)
+the_first_of_a_name : (values_with no_values ((codes "k", Flag true) ∷ (codes "k", Null) ∷ []) []).value (codes "k") ≡ Some (Flag true)
 the_first_of_a_name = refl

@@ -31,8 +31,8 @@ fn own_entry<'a>(own: &'a [(Text, Option<Cell>)], name: &str) -> Option<&'a (Tex
     None
 }
 
-// Whether an own signal has the name.
-fn is_own(own: &[(Text, Option<Cell>)], name: &str) -> bool
+/// Whether an own signal has the name.
+pub fn is_own(own: &[(Text, Option<Cell>)], name: &str) -> bool
     ensures { result ≡ is_own own.now name.now }
 {
     own.iter().any(|entry| entry.0.as_str() == name)

@@ -14,7 +14,7 @@ mod signals;
 mod steps;
 
 pub use evaluation::eval_alone;
-pub use inside::{Inside, settled_value};
+pub use inside::{Inside, is_own, settled_value};
 pub use lacking::any_set_lacks;
 pub use laws::{law_of_inner_values, laws_of_signals};
 pub use params::PlotParams;

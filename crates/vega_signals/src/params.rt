@@ -8,9 +8,12 @@ use std::alloc::Global;
 use std::sync::ledger::Ledger;
 use text_kit::{OutOfMemory, Text};
 
-/// The values of parameters, each of which has one, and how long the domains of scales are, each by its name. There is no selection.
-#[derive(Clone, Copy)]
-pub struct PlotParams<'a> {
+/// The values of parameters, each of which has one, and how long the domains of scales are, each by its name; and what is read of the stores of
+/// selections.
+#[derive(Drop)]
+pub struct PlotParams<'a, P> {
+    /// The stores.
+    pub stores: &'a P,
     /// The parameters.
     pub params: &'a [(Text, Cell)],
     /// The scales.
@@ -41,29 +44,29 @@ fn length_named(lengths: &[(Text, u64)], name: &str) -> u64
     0
 }
 
-impl ParamReader for PlotParams<'_> {
-    ghost values = { λ p. values_with p.params.now p.lengths.now };
+impl<P: ParamReader> ParamReader for PlotParams<'_, P> {
+    ghost values = { λ p. values_with (P.values p.stores.now) p.params.now p.lengths.now };
 
     fn param(&self, _: Global, name: &str) -> Result<Cell, EvalError> {
         Ok(value_named(self.params, name)?)
     }
 
-    fn member(&self, _: Global, _: &str, _: &str) -> Result<Cell, OutOfMemory> {
-        Ok(Cell::Null)
+    fn member(&self, alloc: Global, name: &str, field: &str) -> Result<Cell, OutOfMemory> {
+        self.stores.member(alloc, name, field)
     }
 
-    fn stored(&self, _: &str) -> u64 {
-        0
+    fn stored(&self, store: &str) -> u64 {
+        self.stores.stored(store)
     }
 
     fn selected<R: RowReader, L: Ledger>(
         &self,
-        _: Global,
-        _: &str,
-        _: &R,
-        _: &mut Steps<L>,
+        alloc: Global,
+        store: &str,
+        row: &R,
+        steps: &mut Steps<L>,
     ) -> Result<bool, OutOfMemory> {
-        Ok(false)
+        self.stores.selected(alloc, store, row, steps)
     }
 
     fn domain_length(&self, scale: &str) -> u64 {

@@ -12,7 +12,7 @@ ghost use Rattle.vega_signals.specs.Signals.{data_of, settled_values, signal_val
 use crate::inside::settled_value;
 use crate::rounds::{own_values, signals_of};
 use cell_value::{Cell, Keyed, Named};
-use expr_eval::{EvalError, NoParams};
+use expr_eval::{EvalError, ParamReader};
 use std::alloc::Global;
 use text_kit::{OutOfMemory, Seq, Text};
 use vega_lists::ListReader;
@@ -58,8 +58,9 @@ impl ListReader for NoLists {
 }
 
 // The values at which the signals of the top object settle.
-fn settled_values(
+fn settled_values<P: ParamReader>(
     alloc: Global,
+    stores: &P,
     top: &Group,
     sources: &[Named],
     params: &[(Text, Cell)],
@@ -67,14 +68,14 @@ fn settled_values(
     requires sources { AreSources sources.now }
     requires kept { All (OfTransforms is_kept) (data_of (out-Group top.now)) }
     requires folds { FoldsFit no_folds (data_of (out-Group top.now)) }
-    ensures { IfOk result (λ settled. settled ≡ settled_values (out-Group top.now) (map dataset_of sources.now) params.now) }
+    ensures { IfOk result (λ settled. settled ≡ settled_values (P.values stores.now) (out-Group top.now) (map dataset_of sources.now) params.now) }
 {
     let sets = crate::rounds::data_of(top);
     own_values(
         alloc,
         sources,
         &NoLists,
-        &NoParams,
+        stores,
         params,
         signals_of(top),
         sets,
@@ -83,12 +84,13 @@ fn settled_values(
 
 /// The values of the signals of a specification's top object, each by its name: first the settable ones as they are given in `params`,
 /// then the computed ones by their updates, then those of extents: the least and the greatest number of their field over the rows
-/// before them, null where there is no number. Signals may need each other in any order, and none needs itself. What isn't a signal
-/// reads as null, and so does a selection. `Overflow` comes exactly where a computed signal overflows. A transform that overflows on the
-/// way counts as leaving no rows. The sources are those of a state, a lookup has as many names as values, bins of a given width are over 0
-/// wide, and on no path do folds multiply rows by more than 8.
-pub fn signal_values(
+/// before them, null where there is no number. `stores` is what is read of the stores of selections. Signals may need each other in any
+/// order, and none needs itself. What isn't a signal reads as null, and so does a selection. `Overflow` comes exactly where a computed
+/// signal overflows. A transform that overflows on the way counts as leaving no rows. The sources are those of a state, a lookup has as many
+/// names as values, bins of a given width are over 0 wide, and on no path do folds multiply rows by more than 8.
+pub fn signal_values<P: ParamReader>(
     alloc: Global,
+    stores: &P,
     top: &Group,
     sources: &[Named],
     params: &[(Text, Cell)],
@@ -96,8 +98,8 @@ pub fn signal_values(
     requires sources { AreSources sources.now }
     requires kept { All (OfTransforms is_kept) (data_of (out-Group top.now)) }
     requires folds { FoldsFit no_folds (data_of (out-Group top.now)) }
-    ensures { Evaluates result (signal_values (out-Group top.now) (map dataset_of sources.now) params.now) }
+    ensures { Evaluates result (signal_values (P.values stores.now) (out-Group top.now) (map dataset_of sources.now) params.now) }
 {
-    let settled = settled_values(alloc, top, sources, params)?;
+    let settled = settled_values(alloc, stores, top, sources, params)?;
     all_valued(alloc, settled.as_slice())
 }
