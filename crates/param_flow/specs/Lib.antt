@@ -1,8 +1,11 @@
+pub mod UnitRows
 pub mod Semantics
 pub mod Change
 pub mod Machine
+pub mod States
 pub mod Settings
 pub mod Commands
 pub mod Script
 pub mod Playing
-pub mod UnitRows
+pub mod Laws
+pub mod inner

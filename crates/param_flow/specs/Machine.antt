@@ -1,6 +1,6 @@
 -- The direct machine: what is replied to a command, and the state after it. It knows only the present state, and of the specification
 -- what its meaning gives.
-use Rattle.std.specs.Prelude.{◌≡◌, refl, ℕ, pos, suc, ◌+◌, ◌^◌, not, ◌&&◌, ◌||◌, codes, nat_lt, Bool, true, Option, Some, None, List, []}
+use Rattle.std.specs.Prelude.{◌≡◌, refl, ℕ, pos, suc, ◌+◌, ◌^◌, not, ◌&&◌, ◌||◌, codes, nat_lt, Bool, true, false, Option, Some, None, List, []}
 use Rattle.std.specs.Prelude.{◌∷◌, ◌++◌, length, map, sum_by, if◌then◌else◌}
 use Rattle.std.specs.List.{list_all, flat_map}
 use Rattle.std.specs.Option.{option_map}
@@ -11,6 +11,7 @@ use Rattle.json_exact.specs.declared.json.Json.TheVariants as json
 use Rattle.cell_value.specs.declared.cell.Cell.{Cell}
 use Rattle.cell_value.specs.declared.cell.Cell.TheVariants as cell
 use Rattle.cell_value.specs.declared.state.Keyed.{Keyed}
+use Rattle.cell_value.specs.declared.state.StoreOf.{StoreOf}
 use Rattle.cell_value.specs.Datum.{Datum, datum_of}
 use Rattle.cell_value.specs.State.{Dataset, State, ids_of, most_rows, greatest_id}
 use Rattle.expr_eval.specs.Plain.{no_values}
@@ -19,13 +20,18 @@ use Rattle.scene_tree.specs.Outcome.{Outcome}
 use Rattle.scene_tree.specs.Outcome as outcome
 use Rattle.param_flow.specs.declared.command.ChangeOf.{ChangeOf}
 use Rattle.param_flow.specs.declared.command.Command.{Command}
-use Rattle.param_flow.specs.declared.command.Command.TheVariants.{Change, Set, Event, Print}
+use Rattle.param_flow.specs.declared.command.Command.TheVariants.{Change, Set, Event as OfMouse, Print}
+use Rattle.param_flow.specs.declared.event.Event.{Event}
+use Rattle.param_flow.specs.declared.event.Event.TheVariants as mouse
 use Rattle.param_flow.specs.declared.reply.Reply.{Reply}
 use Rattle.param_flow.specs.declared.reply.Reply.TheVariants.{Done, Refused}
 use Rattle.param_flow.specs.declared.reply.Cause.TheVariants as cause
+use Rattle.selection_events.specs.declared.selection.SelectionOf.{SelectionOf}
+use Rattle.selection_events.specs.declared.selection.PlotOf.{PlotOf}
+use Rattle.selection_events.specs.Events.{Seen, stores_clicked, stores_toggled, stores_cleared, stores_dragged}
 use Rattle.data_rows.specs.JsonRows.{row_of_json, first_bad}
 use Rattle.param_flow.specs.Change.{names_of_change, rows_after, count_staying}
-use Rattle.param_flow.specs.Semantics.{Semantics, ParamOf, has_source, has_param, has_settable}
+use Rattle.param_flow.specs.Semantics.{Semantics, ParamOf, Picture, seen_over, has_source, has_param, has_settable}
 use Rattle.param_flow.specs.Semantics as kind
 
 -- the inserted rows, in order: their ids count on from the next one
@@ -77,6 +83,25 @@ reply_to_chart (outcome.Drawn x) = Done
 reply_to_chart outcome.Overflow = Refused cause.Overflow
 reply_to_chart (outcome.Panels n) = Refused cause.Limit
 
+-- the stores of selections after an event of the mouse on what is seen
+abbrev pub stores_on : List PlotOf → List SelectionOf → Seen → Event → List StoreOf → List StoreOf
+stores_on plots selections seen (mouse.Click x y) stores = stores_clicked plots selections seen x y stores
+stores_on plots selections seen (mouse.Shift x y) stores = stores_toggled plots selections seen x y stores
+stores_on plots selections seen (mouse.Double x y) stores = stores_cleared plots selections seen x y stores
+stores_on plots selections seen (mouse.Drag x1 y1 x2 y2) stores =
+    stores_dragged plots selections seen (record { x1 = x1; y1 = y1; x2 = x2; y2 = y2 }) stores
+
+-- the state with these stores
+abbrev pub with_stores : State → List StoreOf → State
+with_stores st stores = record { next_id = st.next_id; sources = st.sources; params = st.params; stores = stores }
+
+-- The state that an event would leave, from what is drawn and the rows that marks draw. Where nothing is drawn, it is the state itself.
+abbrev pub state_on : List PlotOf → List SelectionOf → (ℕ → List Datum) → State → Event → Outcome Picture → State
+state_on plots selections rows st event (outcome.Drawn picture) =
+    with_stores st (stores_on plots selections (seen_over rows picture) event st.stores)
+state_on plots selections rows st event outcome.Overflow = st
+state_on plots selections rows st event (outcome.Panels n) = st
+
 -- a row that can't be read is refused; where there is none, the rest decides
 abbrev pub reply_to_rows : Option (ℕ × List ℕ) → Reply → Reply
 reply_to_rows (Some bad) rest = Refused (cause.Row bad.0 bad.1)
@@ -91,7 +116,7 @@ module _ (meaning : Semantics) where
   -- a change is done where the chart of the state after it can be drawn
   abbrev pub reply_to_state : Option State → Reply
   reply_to_state None = Refused cause.Overflow
-  reply_to_state (Some new) = reply_to_chart (meaning.chart new)
+  reply_to_state (Some new) = reply_to_chart (meaning.draw new)
 
   -- whether a change of this source names what is there: the source, and in its expressions parameters
   abbrev pub has_names : List ℕ → ChangeOf → Bool
@@ -108,20 +133,28 @@ module _ (meaning : Semantics) where
   -- what is replied to a setting: only a parameter that is neither computed nor a selection can be set
   abbrev pub reply_to_set : State → List ℕ → Cell → Reply
   reply_to_set st name value =
-      if has_settable meaning name then reply_to_chart (meaning.chart (state_set st name value)) else Refused cause.Name
+      if has_settable meaning name then reply_to_chart (meaning.draw (state_set st name value)) else Refused cause.Name
 
-  -- What is replied to a command other than a print. No specification has selections yet, so an event of the mouse changes nothing.
+  -- the state that an event of the mouse would leave
+  abbrev pub state_by : State → Event → State
+  state_by st event = state_on meaning.plots meaning.selections (meaning.rows st) st event (meaning.draw st)
+
+  -- an event is done where the chart of the state after it can be drawn
+  abbrev pub reply_to_event : State → Event → Reply
+  reply_to_event st event = reply_to_chart (meaning.draw (state_by st event))
+
+  -- what is replied to a command other than a print
   abbrev pub reply_of : State → Command → Reply
   reply_of st (Change name change) = reply_to_change st name change
   reply_of st (Set name value) = reply_to_set st name value
-  reply_of st (Event event) = Done
+  reply_of st (OfMouse event) = reply_to_event st event
   reply_of st Print = Done
 
   -- the state after a command
   abbrev pub state_after : State → Command → State
   state_after st (Change name change) = state_if (reply_to_change st name change) st (state_changed (meaning.values st) st name change)
   state_after st (Set name value) = state_if (reply_to_set st name value) st (Some (state_set st name value))
-  state_after st (Event event) = st
+  state_after st (OfMouse event) = state_if (reply_to_event st event) st (Some (state_by st event))
   state_after st Print = st
 
 -- The rules at work.
@@ -131,14 +164,22 @@ abbrev empty_state : ℕ → State
 empty_state next_id =
     record { next_id = next_id; sources = record { name = codes "t"; rows = [] } ∷ []; params = (codes "k", cell.Null) ∷ []; stores = [] }
 
--- that source, a parameter that can be set, one that is computed, and this chart of each state
-abbrev with_chart : Outcome (List ℕ) → Semantics
-with_chart chart = record {
+-- a picture without panels
+abbrev no_panels : Picture
+no_panels = record { scene = record { width = pos 0; height = pos 0; panels = [] }; inverts = λ index name channel. None }
+
+-- that source, a parameter that can be set, one that is computed, and a selection; and this is drawn of each state
+abbrev with_chart : Outcome Picture → Semantics
+with_chart drawn = record {
   sources = codes "t" ∷ [];
   params = record { name = codes "k"; kind = kind.Settable } ∷ record { name = codes "twice"; kind = kind.Computed }
       ∷ record { name = codes "pick"; kind = kind.Selection } ∷ [];
+  selections = [];
+  plots = [];
+  temporal = λ plot s d. false;
   values = λ st. no_values;
-  chart = λ st. chart;
+  draw = λ st. drawn;
+  rows = λ st unit. [];
 }
 
 -- a change that inserts rows
@@ -147,7 +188,7 @@ inserting trees = record { remove = None; modify = []; insert = trees }
 
 -- a chart that is always drawn
 abbrev any_chart : Semantics
-any_chart = with_chart (outcome.Drawn [])
+any_chart = with_chart (outcome.Drawn no_panels)
 
 no_such_source : reply_to_change any_chart (empty_state 1) (codes "u") (inserting (json.List [] ∷ [])) ≡ Refused cause.Name
 no_such_source = refl
@@ -227,3 +268,11 @@ a_computed_parameter = refl
 
 a_selection : reply_of any_chart (empty_state 1) (Set (codes "pick") cell.Null) ≡ Refused cause.Name
 a_selection = refl
+
+an_event_beside_all_panels : (reply_of any_chart (empty_state 1) (OfMouse (mouse.Click (pos 0) (pos 0))) ≡ Done)
+    × (state_after any_chart (empty_state 1) (OfMouse (mouse.Click (pos 0) (pos 0))) ≡ empty_state 1)
+an_event_beside_all_panels = (refl, refl)
+
+an_event_whose_chart_is_out_of_range :
+    reply_of (with_chart outcome.Overflow) (empty_state 1) (OfMouse (mouse.Double (pos 0) (pos 0))) ≡ Refused cause.Overflow
+an_event_whose_chart_is_out_of_range = refl

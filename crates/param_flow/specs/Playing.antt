@@ -9,7 +9,7 @@ use Rattle.param_flow.specs.declared.command.Command.TheVariants.{Print}
 use Rattle.param_flow.specs.declared.reply.Reply.{Reply}
 use Rattle.param_flow.specs.declared.reply.Reply.TheVariants.{Done, Refused}
 use Rattle.param_flow.specs.declared.reply.Cause.TheVariants as cause
-use Rattle.param_flow.specs.Semantics.{Semantics}
+use Rattle.param_flow.specs.Semantics.{Semantics, chart_of}
 use Rattle.param_flow.specs.Machine.{reply_of, state_after}
 use Rattle.param_flow.specs.Commands.{IsCommand}
 use Rattle.param_flow.specs.Script.{refused_line}
@@ -23,13 +23,19 @@ reply_text (Refused (cause.Row row field)) = codes "refused row " ++ decimal row
 reply_text (Refused cause.Limit) = codes "refused limit\n"
 reply_text (Refused cause.Overflow) = codes "refused overflow\n"
 
--- what is replied to a line in a state, and the state after it; there is no note
-pub data IsReply (meaning : Semantics) : State → ℕ → List ℕ → List ℕ → List ℕ → State → Type 0 where
+-- no note is made of a command
+abbrev pub without_notes : State → ℕ → Command → Reply → List ℕ → Type 0
+without_notes st n c reply note = note ≡ []
+
+-- What is replied to a line in a state, and the state after it. What note is made of a command, on a line of this number, with its reply, is said
+-- by `Noted`.
+pub data IsReply (meaning : Semantics) (Noted : State → ℕ → Command → Reply → List ℕ → Type 0)
+    : State → ℕ → List ℕ → List ℕ → List ℕ → State → Type 0 where
   -- the line is no command
-  refused : (st : State) (n : ℕ) (line : List ℕ) → ((c : Command) → IsCommand line c → ⊥) → IsReply meaning st n line refused_line [] st
+  refused : (st : State) (n : ℕ) (line : List ℕ) → ((c : Command) → IsCommand line c → ⊥) → IsReply meaning Noted st n line refused_line [] st
   -- a print is replied to with the chart of the state
-  printed : (st : State) (n : ℕ) (line text : List ℕ) → IsCommand line Print → meaning.chart st ≡ Drawn text
-      → IsReply meaning st n line text [] st
+  printed : (st : State) (n : ℕ) (line text : List ℕ) → IsCommand line Print → chart_of meaning st ≡ Drawn text
+      → IsReply meaning Noted st n line text [] st
   -- any other command is replied to by the direct machine
-  told : (st : State) (n : ℕ) (line : List ℕ) (c : Command) → IsCommand line c → c ≢ Print
-      → IsReply meaning st n line (reply_text (reply_of meaning st c)) [] (state_after meaning st c)
+  told : (st : State) (n : ℕ) (line note : List ℕ) (c : Command) → IsCommand line c → c ≢ Print → Noted st n c (reply_of meaning st c) note
+      → IsReply meaning Noted st n line (reply_text (reply_of meaning st c)) note (state_after meaning st c)

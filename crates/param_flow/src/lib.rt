@@ -4,6 +4,7 @@
 
 mod command;
 mod event;
+mod laws;
 mod param_error;
 mod reply;
 mod settings;
@@ -11,6 +12,7 @@ mod unit_rows;
 
 pub use command::{ChangeOf, Command, Modify};
 pub use event::Event;
+pub use laws::laws_of_the_machine;
 pub use param_error::ParamError;
 pub use reply::{Cause, Reply};
 pub use settings::set;

@@ -72,13 +72,8 @@ const PLACES: [(i32, i32, Option<usize>); 11] = [
 ];
 
 // Whether an event at a point acts in this panel.
-fn acts_in(
-    alloc: Global,
-    scene: &Scene,
-    point: (i32, i32),
-    wanted: Option<usize>,
-) -> Result<bool, OutOfMemory> {
-    Ok(panel_at(alloc, scene, pixels(point.0), pixels(point.1))? == wanted)
+fn acts_in(scene: &Scene, point: (i32, i32), wanted: Option<usize>) -> bool {
+    panel_at(scene, pixels(point.0), pixels(point.1)) == wanted
 }
 
 // Whether events act where they should.
@@ -86,7 +81,7 @@ fn all_act(alloc: Global) -> Result<bool, OutOfMemory> {
     let scene = scene(alloc)?;
     let mut right = true;
     for (x, y, wanted) in &PLACES {
-        right = acts_in(alloc, &scene, (*x, *y), *wanted)? && right;
+        right = acts_in(&scene, (*x, *y), *wanted) && right;
     }
     Ok(right)
 }
@@ -160,15 +155,9 @@ const HITS: [(u32, i32, i32, Option<u64>); 10] = [
 ];
 
 // Whether what is hit of a unit is an item of the row with this id.
-fn hits(
-    alloc: Global,
-    panel: &Panel,
-    unit: u32,
-    point: (i32, i32),
-    wanted: Option<u64>,
-) -> Result<bool, OutOfMemory> {
-    let hit = hit_at(alloc, &[7, unit], panel, pixels(point.0), pixels(point.1))?;
-    Ok(match wanted {
+fn hits(panel: &Panel, unit: u32, point: (i32, i32), wanted: Option<u64>) -> bool {
+    let hit = hit_at(&[7, unit], panel, pixels(point.0), pixels(point.1));
+    match wanted {
         Some(id) => {
             hit == Some(Hit {
                 unit,
@@ -176,7 +165,7 @@ fn hits(
             })
         }
         None => hit.is_none(),
-    })
+    }
 }
 
 // Whether all points hit what they should.
@@ -184,7 +173,7 @@ fn all_hit(alloc: Global) -> Result<bool, OutOfMemory> {
     let panel = plot((5, 5), (200, 20), Some(0), items(alloc)?);
     let mut right = true;
     for (unit, x, y, wanted) in &HITS {
-        right = hits(alloc, &panel, *unit, (*x, *y), *wanted)? && right;
+        right = hits(&panel, *unit, (*x, *y), *wanted) && right;
     }
     Ok(right)
 }

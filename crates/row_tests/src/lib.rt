@@ -2,6 +2,8 @@
 #![tactic(auto)]
 
 #[cfg(test)]
+mod brushes;
+#[cfg(test)]
 mod events;
 #[cfg(test)]
 mod keys;

@@ -42,19 +42,30 @@ nothing_more : (b : Bool) → b ≡ (b || false)
 nothing_more true = refl
 nothing_more false = refl
 
-some_put : (c : List ℕ → Cell) (fields : List (List ℕ)) (row : Cells) (name : List ℕ)
-    → is_some (get (fold put row (map (λ f. (f, c f)) fields)) name) ≡ (is_some (get row name) || list_any (bytes_eq name) fields)
-some_put c [] row name = nothing_more (is_some (get row name))
-some_put c (field ∷ fields) row name =
-    some_put c fields (insert row field (c field)) name
-    ∙ ap (λ b. b || list_any (bytes_eq name) fields) (some_inserted row field name (c field))
-    ∙ either_of_three (is_some (get row name)) (bytes_eq name field) (list_any (bytes_eq name) fields)
+abbrev pub field_of : List ℕ × Cell → List ℕ
+field_of e = e.0
+
+some_put : (es : List (List ℕ × Cell)) (row : Cells) (name : List ℕ)
+    → is_some (get (fold put row es) name) ≡ (is_some (get row name) || list_any (bytes_eq name) (map field_of es))
+some_put [] row name = nothing_more (is_some (get row name))
+some_put (e ∷ es) row name =
+    some_put es (insert row e.0 e.1) name
+    ∙ ap (λ b. b || list_any (bytes_eq name) (map field_of es)) (some_inserted row e.0 name e.1)
+    ∙ either_of_three (is_some (get row name)) (bytes_eq name e.0) (list_any (bytes_eq name) (map field_of es))
+
+-- a row has exactly the fields of its entries
+pub entries_have : (es : List (List ℕ × Cell)) → HasFields (map field_of es) (row_of es)
+entries_have es name =
+    some_put es empty name ∙ ap (λ o. is_some o || list_any (bytes_eq name) (map field_of es)) (get-empty (slice_cmp nat_cmp) name)
+
+names_of_made : (c : List ℕ → Cell) (fields : List (List ℕ)) → map field_of (map (λ f. (f, c f)) fields) ≡ fields
+names_of_made c [] = refl
+names_of_made c (field ∷ fields) = ap (λ fs. field ∷ fs) (names_of_made c fields)
 
 -- a tuple has exactly the fields of which it is made
 pub made_of : (c : List ℕ → Cell) (fields : List (List ℕ)) → HasFields fields (row_of (map (λ f. (f, c f)) fields))
-made_of c fields name =
-    some_put c fields empty name
-    ∙ ap (λ o. is_some o || list_any (bytes_eq name) fields) (get-empty (slice_cmp nat_cmp) name)
+made_of c fields =
+    subst (λ fs. HasFields fs (row_of (map (λ f. (f, c f)) fields))) (names_of_made c fields) (entries_have (map (λ f. (f, c f)) fields))
 
 -- ---- tuples that are the same
 

@@ -1,7 +1,8 @@
 mod LastLemmas
-mod AloneLemmas
 mod AlongLemmas
 mod InverseLemmas
-mod FieldLemmas
+pub mod FieldLemmas
 mod ExtentLemmas
-mod KeptLemmas
+pub mod KeptLemmas
+mod BrushLemmas
+mod UnitLemmas

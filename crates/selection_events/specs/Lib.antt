@@ -4,5 +4,7 @@ pub mod Stores
 pub mod Drags
 pub mod Events
 pub mod Kept
+pub mod Brushes
+pub mod BrushAnswers
 pub mod Examples
 pub mod inner

@@ -1,3 +1,2 @@
 -- Words that only private contracts and proofs cite.
 pub mod Last
-pub mod Alone

@@ -48,15 +48,15 @@ fn are_equal(a: Num, b: Num) -> bool
     a == b
 }
 
-// The lesser of two numbers.
-fn lesser(a: Num, b: Num) -> Num
+/// The lesser of two numbers.
+pub(crate) fn lesser(a: Num, b: Num) -> Num
     ensures { result ≡ int_min a b }
 {
     if b < a { b } else { a }
 }
 
-// The greater of two numbers.
-fn greater(a: Num, b: Num) -> Num
+/// The greater of two numbers.
+pub(crate) fn greater(a: Num, b: Num) -> Num
     ensures { result ≡ int_max a b }
 {
     if b < a { a } else { b }

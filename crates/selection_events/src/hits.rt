@@ -1,16 +1,14 @@
 // The item that a click hits.
-ghost use Rattle.std.specs.Prelude.{◌≡◌, ◌-ℤ◌, ◌&&◌, if◌then◌else◌, Some, None, IfOk};
+ghost use Rattle.std.specs.Prelude.{◌≡◌, ◌-ℤ◌, ◌&&◌, if◌then◌else◌, Some, None};
 ghost use Rattle.std.specs.Option.{option_or};
 ghost use Rattle.scene_tree.specs.Hits.{holds_point};
 ghost use Rattle.selection_events.specs.Hits.{marked, is_among, hit_of, hit_at};
 ghost use Rattle.selection_events.specs.inner.Last.{last_found};
 
-use crate::places::holds_at;
+use crate::units::Units;
 use cell_value::Key;
 use fixed_num::Num;
-use scene_tree::{Item, Panel};
-use std::alloc::Global;
-use text_kit::OutOfMemory;
+use scene_tree::{Item, Panel, holds_at};
 
 /// What is hit of an item.
 #[derive(Clone, Copy, Debug, PartialEq, Eq)]
@@ -30,57 +28,32 @@ fn marked(item: &Item) -> Option<Hit>
     Some(Hit { unit, key })
 }
 
-// Whether it is one of these units.
-fn is_among(units: &[u32], unit: u32) -> bool
-    ensures { result ≡ is_among units.now unit }
-{
-    units.iter().any(|u| *u == unit)
-}
-
 // Whether an item holds a point.
-fn holds(alloc: Global, panel: &Panel, x: Num, y: Num, item: &Item) -> Result<bool, OutOfMemory>
-    ensures { IfOk result (λ b. b ≡ holds_point item.now.shape (x -ℤ panel.now.x) (y -ℤ panel.now.y)) }
+fn holds(panel: &Panel, x: Num, y: Num, item: &Item) -> bool
+    ensures { result ≡ holds_point item.now.shape (x -ℤ panel.now.x) (y -ℤ panel.now.y) }
 {
-    holds_at(alloc, panel.x, panel.y, item.shape.copy(alloc)?, x, y)
+    holds_at(&item.shape, panel.x, panel.y, x, y)
 }
 
 // What is hit of an item of these units with its unit and its key.
-fn hit_with(
-    alloc: Global,
-    units: &[u32],
-    panel: &Panel,
-    x: Num,
-    y: Num,
-    item: &Item,
-    hit: Hit,
-) -> Result<Option<Hit>, OutOfMemory>
-    ensures { IfOk result (λ found. found ≡ (if is_among units.now hit.unit
-        && holds_point item.now.shape (x -ℤ panel.now.x) (y -ℤ panel.now.y) then Some hit else None)) }
+fn hit_with(units: &Units, panel: &Panel, x: Num, y: Num, item: &Item, hit: Hit) -> Option<Hit>
+    ensures { result ≡ (if is_among units.now hit.unit
+        && holds_point item.now.shape (x -ℤ panel.now.x) (y -ℤ panel.now.y) then Some hit else None) }
 {
-    if !is_among(units, hit.unit) {
-        return Ok(None);
-    }
-    if holds(alloc, panel, x, y, item)? {
-        Ok(Some(hit))
+    if units.has(hit.unit) && holds(panel, x, y, item) {
+        Some(hit)
     } else {
-        Ok(None)
+        None
     }
 }
 
 // What is hit of an item at a point.
-fn hit_of(
-    alloc: Global,
-    units: &[u32],
-    panel: &Panel,
-    x: Num,
-    y: Num,
-    item: &Item,
-) -> Result<Option<Hit>, OutOfMemory>
-    ensures { IfOk result (λ hit. hit ≡ hit_of units.now panel.now x y item.now) }
+fn hit_of(units: &Units, panel: &Panel, x: Num, y: Num, item: &Item) -> Option<Hit>
+    ensures { result ≡ hit_of units.now panel.now x y item.now }
 {
     match marked(item) {
-        Some(hit) => hit_with(alloc, units, panel, x, y, item, hit),
-        None => Ok(None),
+        Some(hit) => hit_with(units, panel, x, y, item, hit),
+        None => None,
     }
 }
 
@@ -96,39 +69,33 @@ fn later(hit: Option<Hit>, found: Option<Hit>) -> Option<Hit>
 
 // What is hit last of some items, else what was before.
 fn hit_among(
-    alloc: Global,
-    units: &[u32],
+    units: &Units,
     panel: &Panel,
     x: Num,
     y: Num,
     items: &[Item],
     before: Option<Hit>,
-) -> Result<Option<Hit>, OutOfMemory>
-    ensures { IfOk result (λ hit. hit ≡ last_found (hit_of units.now panel.now x y) items.now before) }
+) -> Option<Hit>
+    ensures { result ≡ last_found (hit_of units.now panel.now x y) items.now before }
 {
     let mut found = before;
     for item in items {
-        found = later(hit_of(alloc, units, panel, x, y, item)?, found);
+        found = later(hit_of(units, panel, x, y, item), found);
     }
-    Ok(found)
+    found
 }
 
 /// What is hit at a point of the picture in a panel: the last item of one of these units that has a key and holds the point. None where
-/// there is none.
+/// there is none. It takes no memory.
 #[tactic(auto, using(crate::proofs::LastLemmas::last_in_runs_begun))]
-pub fn hit_at(
-    alloc: Global,
-    units: &[u32],
-    panel: &Panel,
-    x: Num,
-    y: Num,
-) -> Result<Option<Hit>, OutOfMemory>
-    ensures { IfOk result (λ hit. hit ≡ hit_at units.now panel.now x y) }
+pub fn hit_at(units: &[u32], panel: &Panel, x: Num, y: Num) -> Option<Hit>
+    ensures { result ≡ hit_at units.now panel.now x y }
 {
+    let among = Units::of(units);
     let runs = panel.items.runs();
     let mut found = None;
     for run in runs {
-        found = hit_among(alloc, units, panel, x, y, run.as_slice(), found)?;
+        found = hit_among(&among, panel, x, y, run.as_slice(), found);
     }
-    Ok(found)
+    found
 }

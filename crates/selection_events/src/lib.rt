@@ -1,7 +1,8 @@
 //! What events of the mouse do to the stores of selections: where an event acts, the item that is hit, the tuples of clicks, the extents of
-//! drags. No kind of specification is known here.
+//! drags; and brushes, which show what is selected. No kind of specification is known here.
 #![tactic(auto)]
 
+mod brushes;
 mod drags;
 mod hits;
 mod laws;
@@ -9,7 +10,9 @@ mod places;
 mod selection;
 mod stores;
 mod tuples;
+mod units;
 
+pub use brushes::{BrushError, DragScales, with_brushes};
 pub use drags::{ChannelHere, Drag, store_dragged};
 pub use hits::{Hit, hit_at};
 pub use laws::stores_are_kept;

@@ -1,13 +1,12 @@
 // Where events act.
-ghost use Rattle.std.specs.Prelude.{◌≡◌, ◌++◌, ◌-ℤ◌, pos, [], ◌∷◌, if◌then◌else◌, Some, filter, option_copied, IfOk, OnOk};
-ghost use Rattle.scene_tree.specs.Hits.{holds_point};
+ghost use Rattle.std.specs.Prelude.{◌≡◌, ◌++◌, pos, [], ◌∷◌, if◌then◌else◌, Some, filter, option_copied, IfOk, OnOk};
+ghost use Rattle.selection_events.specs.Hits.{is_among};
 ghost use Rattle.selection_events.specs.Places.{holds, is_plot_at, panel_at, has_unit, plot_with, plot_of, units_in, units_in_panel};
-ghost use Rattle.selection_events.specs.inner.Alone.{item_alone, panel_alone, scene_alone};
 
+use crate::units::Units;
 use crate::{PlotOf, SelectionOf};
-use cell_value::Key;
 use fixed_num::Num;
-use scene_tree::{Item, Items, Panel, Scene, Shape, pick};
+use scene_tree::{Panel, Scene, Shape, holds_at};
 use std::alloc::Global;
 use text_kit::{OutOfMemory, Seq};
 
@@ -21,70 +20,9 @@ pub(crate) fn zero() -> Num
     }
 }
 
-// An item of a shape, with a key.
-fn item_alone(shape: Shape) -> Item
-    ensures { result ≡ item_alone shape }
-{
-    Item {
-        shape,
-        fill: None,
-        stroke: None,
-        stroke_width: zero(),
-        opacity: zero(),
-        unit: None,
-        key: Some(Key { id: 0, branch: 0 }),
-    }
-}
-
-// A panel with that item alone.
-fn panel_alone(alloc: Global, left: Num, top: Num, shape: Shape) -> Result<Panel, OutOfMemory>
-    ensures { IfOk result (λ panel. panel ≡ panel_alone left top shape) }
-{
-    let mut items = Items::new(alloc);
-    items.push(alloc, item_alone(shape))?;
-    Ok(Panel {
-        x: left,
-        y: top,
-        width: zero(),
-        height: zero(),
-        view: None,
-        facet: None,
-        items,
-    })
-}
-
-// A picture with that panel alone.
-fn scene_alone(alloc: Global, left: Num, top: Num, shape: Shape) -> Result<Scene, OutOfMemory>
-    ensures { IfOk result (λ scene. scene ≡ scene_alone left top shape) }
-{
-    let mut panels = Seq::new(alloc);
-    panels.push(panel_alone(alloc, left, top, shape)?)?;
-    Ok(Scene {
-        width: zero(),
-        height: zero(),
-        panels,
-    })
-}
-
-/// Whether a shape in a panel at this place of the picture holds a point of the picture.
-#[tactic(auto, using(crate::proofs::AloneLemmas::alone_is_hit))]
-pub(crate) fn holds_at(
-    alloc: Global,
-    left: Num,
-    top: Num,
-    shape: Shape,
-    x: Num,
-    y: Num,
-) -> Result<bool, OutOfMemory>
-    ensures { IfOk result (λ b. b ≡ holds_point shape (x -ℤ left) (y -ℤ top)) }
-{
-    let scene = scene_alone(alloc, left, top, shape)?;
-    Ok(pick(&scene, x, y).is_some())
-}
-
 // Whether a panel holds a point, inside of it or on its edges.
-fn holds(alloc: Global, panel: &Panel, x: Num, y: Num) -> Result<bool, OutOfMemory>
-    ensures { IfOk result (λ b. b ≡ holds panel.now x y) }
+fn holds(panel: &Panel, x: Num, y: Num) -> bool
+    ensures { result ≡ holds panel.now x y }
 {
     let shape = Shape::Rect {
         x: zero(),
@@ -92,18 +30,14 @@ fn holds(alloc: Global, panel: &Panel, x: Num, y: Num) -> Result<bool, OutOfMemo
         width: panel.width,
         height: panel.height,
     };
-    holds_at(alloc, panel.x, panel.y, shape, x, y)
+    holds_at(&shape, panel.x, panel.y, x, y)
 }
 
 // Whether it is a plot with marks that holds the point.
-fn is_plot_at(alloc: Global, x: Num, y: Num, panel: &Panel) -> Result<bool, OutOfMemory>
-    ensures { IfOk result (λ b. b ≡ is_plot_at x y panel.now) }
+fn is_plot_at(x: Num, y: Num, panel: &Panel) -> bool
+    ensures { result ≡ is_plot_at x y panel.now }
 {
-    if panel.view.is_some() {
-        holds(alloc, panel, x, y)
-    } else {
-        Ok(false)
-    }
+    panel.view.is_some() && holds(panel, x, y)
 }
 
 // The place where the test passes, else the one found before.
@@ -116,19 +50,19 @@ fn later(passes: bool, at: usize, found: Option<usize>) -> Option<usize>
 /// The panel in which an event at a point of the picture acts, by its index: of the plots with marks that hold the point, on their edges
 /// too, the last. None where there is none.
 #[tactic(auto, using(crate::proofs::LastLemmas::last_place_begun))]
-pub fn panel_at(alloc: Global, scene: &Scene, x: Num, y: Num) -> Result<Option<usize>, OutOfMemory>
-    ensures { IfOk result (λ at. at ≡ panel_at scene.now x y) }
+pub fn panel_at(scene: &Scene, x: Num, y: Num) -> Option<usize>
+    ensures { result ≡ panel_at scene.now x y }
 {
     let panels = scene.panels.as_slice();
     let mut found = None;
     for (at, panel) in panels.iter().enumerate() {
-        found = later(is_plot_at(alloc, x, y, panel)?, at, found);
+        found = later(is_plot_at(x, y, panel), at, found);
     }
-    Ok(found)
+    found
 }
 
-// Whether a plot draws a unit.
-fn has_unit(unit: u32, plot: &PlotOf) -> bool
+/// Whether a plot draws a unit.
+pub(crate) fn has_unit(unit: u32, plot: &PlotOf) -> bool
     ensures { result ≡ has_unit unit plot.now }
 {
     plot.units.as_slice().iter().any(|u| *u == unit)
@@ -146,8 +80,8 @@ fn plot_with(plots: &[PlotOf], unit: u32) -> Option<&PlotOf>
     None
 }
 
-// The plot of a panel.
-fn plot_of<'a>(plots: &'a [PlotOf], panel: &Panel) -> Option<&'a PlotOf>
+/// The plot of a panel.
+pub(crate) fn plot_of<'a>(plots: &'a [PlotOf], panel: &Panel) -> Option<&'a PlotOf>
     ensures { option_copied result ≡ plot_of plots.now panel.now }
 {
     match panel.view {
@@ -156,11 +90,11 @@ fn plot_of<'a>(plots: &'a [PlotOf], panel: &Panel) -> Option<&'a PlotOf>
     }
 }
 
-// Adds a unit where the plot draws it.
-fn push_unit(plot: &PlotOf, unit: u32, out: &mut Seq<u32>) -> Result<(), OutOfMemory>
-    ensures { OnOk result (out.new ≡ out.old ++ (if has_unit unit plot.now then unit ∷ [] else [])) }
+// Adds a unit where it is among those of a plot.
+fn push_unit(drawn: &Units, unit: u32, out: &mut Seq<u32>) -> Result<(), OutOfMemory>
+    ensures { OnOk result (out.new ≡ out.old ++ (if is_among drawn.now unit then unit ∷ [] else [])) }
 {
-    if has_unit(unit, plot) {
+    if drawn.has(unit) {
         out.push(unit)
     } else {
         Ok(())
@@ -171,9 +105,10 @@ fn push_unit(plot: &PlotOf, unit: u32, out: &mut Seq<u32>) -> Result<(), OutOfMe
 fn units_in(alloc: Global, units: &[u32], plot: &PlotOf) -> Result<Seq<u32>, OutOfMemory>
     ensures { IfOk result (λ here. here ≡ filter (λ u. has_unit u plot.now) units.now) }
 {
+    let drawn = Units::of(plot.units.as_slice());
     let mut out = Seq::new(alloc);
     for unit in units {
-        push_unit(plot, *unit, &mut out)?;
+        push_unit(&drawn, *unit, &mut out)?;
     }
     Ok(out)
 }

@@ -35,7 +35,7 @@ pub struct SelectionOf {
 pub struct PlotOf {
     /// The numbers of the units that it draws, rising. There is one at least.
     pub units: Seq<u32>,
-    /// The fields of the facets round it, each once; None outside facets.
+    /// The fields of the facets round it, the outer before the inner; None outside facets.
     pub facet: Option<Seq<Text>>,
 }
 

@@ -22,7 +22,7 @@ use Rattle.selection_events.specs.Events.{Change, Inverts, Seen, with_units, sto
 use Rattle.vega_selections.specs.declared.selections.VgSelection.{VgSelection}
 use Rattle.vega_events.specs.Scales.{inverted_by}
 use Rattle.vega_events.specs.Events.{UnitLists, read_in, begin_of, change_on, store_after, stores_after}
-use Rattle.vega_events.specs.Laws.{is_named, inverted_in, seen_of, plain_of, stores_on, EventsAreOfStores}
+use Rattle.vega_events.specs.Laws.{is_named, inverted_in, seen_of, plain_of, EventsAreOfStores}
 
 -- ---- a name of its own finds a selection
 

@@ -47,3 +47,9 @@ channels_have_scales set v index channels h is =
     subst (All HasScale) (sym is)
     (All-map HasScale (channel_here (inverted_by set v) index v.selection) v.selection.drag
     (λ k d below. then_has (scale_name v (get_or v.selection.drag k d).channel) (scale_in set index) (λ name. scale_in_is set index name h)))
+
+-- what a drag inverts is a scale
+pub inverted_is_scale : (set : ScaleSet) (v : VgSelection) (index : ℕ) (name channel : List ℕ) (found : Option Scale) → AreScales set
+    → found ≡ inverted_by set v index name channel → IfSome found IsScale
+inverted_is_scale set v index name channel found h is =
+    subst (λ o. IfSome o IsScale) (sym is) (then_has (scale_name v channel) (scale_in set index) (λ other. scale_in_is set index other h))

@@ -6,11 +6,11 @@ use Rattle.cell_value.specs.declared.state.StoreOf.{StoreOf}
 use Rattle.scale_kit.specs.declared.scale.ScaleSet.{ScaleSet}
 use Rattle.scene_tree.specs.declared.scene.Scene.{Scene}
 use Rattle.param_flow.specs.declared.event.Event.{Event}
-use Rattle.param_flow.specs.declared.event.Event.TheVariants as mouse
+use Rattle.param_flow.specs.Machine.{stores_on}
 use Rattle.selection_events.specs.declared.selection.PlotOf.{PlotOf}
 use Rattle.selection_events.specs.declared.selection.SelectionOf.{SelectionOf}
 use Rattle.selection_events.specs.Places.{place_at}
-use Rattle.selection_events.specs.Events.{Inverts, Seen, stores_clicked, stores_toggled, stores_cleared, stores_dragged}
+use Rattle.selection_events.specs.Events.{Inverts, Seen}
 use Rattle.vega_selections.specs.declared.selections.VgSelection.{VgSelection}
 use Rattle.vega_events.specs.Scales.{inverted_by}
 use Rattle.vega_events.specs.Events.{UnitLists, read_in, begin_of, stores_after}
@@ -31,17 +31,9 @@ seen_of set scene rows selections = record { scene = scene; scale = inverted_in 
 abbrev pub plain_of : VgSelection → SelectionOf
 plain_of v = v.selection
 
--- the stores after an event, whatever the kind of the specification
-abbrev pub stores_on : Event → List PlotOf → List SelectionOf → Seen → List StoreOf → List StoreOf
-stores_on (mouse.Click x y) plots selections seen stores = stores_clicked plots selections seen x y stores
-stores_on (mouse.Shift x y) plots selections seen stores = stores_toggled plots selections seen x y stores
-stores_on (mouse.Double x y) plots selections seen stores = stores_cleared plots selections seen x y stores
-stores_on (mouse.Drag x1 y1 x2 y2) plots selections seen stores =
-    stores_dragged plots selections seen (record { x1 = x1; y1 = y1; x2 = x2; y2 = y2 }) stores
-
 -- where each selection has a name of its own, both leave the same
 abbrev pub EventsAreOfStores : Type 0
 EventsAreOfStores = (e : Event) (plots : List PlotOf) (set : ScaleSet) (scene : Scene) (rows : UnitLists) (selections : List VgSelection) (stores : List StoreOf)
     → AllPairs (λ a b. a ≢ b) (map (λ (v : VgSelection). v.selection.name) selections)
     → stores_after plots set rows e (place_at scene (begin_of e).0 (begin_of e).1) selections stores
-    ≡ stores_on e plots (map plain_of selections) (seen_of set scene rows selections) stores
+    ≡ stores_on plots (map plain_of selections) (seen_of set scene rows selections) e stores

@@ -93,7 +93,7 @@ fn tuple_at<R: UnitRows, L: Ledger>(
     ensures counted { steps.old ≤ steps.new }
     ensures few { steps.new ≤ steps.old + length fields.now }
 {
-    match hit_at(alloc, units, panel, x, y)? {
+    match hit_at(units, panel, x, y) {
         Some(hit) => Ok(Some(tuple_of(alloc, rows, fields, hit, steps)?)),
         None => Ok(None),
     }

@@ -197,7 +197,7 @@ fn stores_by<R: UnitRows, L: Ledger>(
     ensures few { steps.new ≤ steps.old + count_all selections.now }
 {
     let (x, y) = begin_of(e);
-    match panel_at(alloc, scene, x, y)? {
+    match panel_at(scene, x, y) {
         Some(index) => stores_at(
             alloc, plots, set, scene, rows, e, index, selections, stores, steps,
         ),

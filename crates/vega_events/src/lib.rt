@@ -9,3 +9,4 @@ mod scales;
 
 pub use events::on_event;
 pub use laws::events_are_of_stores;
+pub use scales::ChartScales;

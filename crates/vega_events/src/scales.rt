@@ -2,10 +2,11 @@
 ghost use Rattle.std.specs.Prelude.{◌≡◌, ◌==◌, false, find, option_copied};
 ghost use Rattle.std.specs.Option.{option_map, option_map_or, option_or};
 ghost use Rattle.std.specs.Str.{bytes_eq};
+ghost use Rattle.vega_events.specs.Laws.{is_named};
 ghost use Rattle.vega_events.specs.Scales.{is_of_panel, is_of_chart, scale_in, scale_name, inverted_by};
 
 use scale_kit::{Scale, ScaleIn, ScaleSet};
-use selection_events::DragOf;
+use selection_events::{DragOf, DragScales};
 use text_kit::Text;
 use vega_selections::VgSelection;
 
@@ -117,5 +118,49 @@ pub(crate) fn inverted_by<'a>(
     match scale_name(v, channel) {
         Some(name) => scale_in(set, index, name.as_str()),
         None => None,
+    }
+}
+
+/// The scales that the drags of selections invert in the plots of a chart.
+#[derive(Clone, Copy)]
+pub struct ChartScales<'a> {
+    /// The scales of the whole chart and of its plots.
+    pub scales: &'a ScaleSet,
+    /// The selections.
+    pub selections: &'a [VgSelection],
+}
+
+// Whether a selection has a name.
+fn is_named(name: &str, v: &VgSelection) -> bool
+    ensures { result ≡ is_named name.now v.now }
+{
+    v.selection.name.as_str() == name
+}
+
+// The selection of a name, if there is one.
+fn selection_named<'a>(selections: &'a [VgSelection], name: &str) -> Option<&'a VgSelection>
+    ensures { option_copied result ≡ find (is_named name.now) selections.now }
+{
+    for v in selections {
+        if is_named(name, v) {
+            return Some(v);
+        }
+    }
+    None
+}
+
+impl DragScales for ChartScales<'_> {
+    ghost use Rattle.scale_kit.specs.Scale.{AreScales};
+    ghost use Rattle.vega_events.specs.Laws.{inverted_in};
+
+    ghost inverts = { λ s. inverted_in s.scales.now s.selections.now };
+
+    ghost sound = { λ s. AreScales s.scales.now };
+
+    fn inverted<'a>(&'a self, index: usize, name: &str, channel: &str) -> Option<&'a Scale> {
+        match selection_named(self.selections, name) {
+            Some(v) => inverted_by(self.scales, v, index, channel),
+            None => None,
+        }
     }
 }

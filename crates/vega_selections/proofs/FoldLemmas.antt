@@ -39,15 +39,15 @@ name_of_plain m old new plain is =
 
 -- ---- spans
 
-marks_spanned : (o : Option (List VgMark))
+pub marks_spanned : (o : Option (List VgMark))
     → flat_map (λ spans. spans) (unwrap_or (former-Group-marks.map VgMark (List Span) mark_spans o) []) ≡ flat_map (λ spans. spans) (map mark_spans (unwrap_or o []))
 marks_spanned None = refl
 marks_spanned (Some marks) = refl
 
-spans_are : (g : Group) → spans_in g ≡ spans_here (map-Group Group VgMark (List Span) (List Span) spans_in mark_spans (out-Group g))
+pub spans_are : (g : Group) → spans_in g ≡ spans_here (map-Group Group VgMark (List Span) (List Span) spans_in mark_spans (out-Group g))
 spans_are g = fold_out-Group (List Span) (List Span) spans_here mark_spans_here g
 
-mark_spans_are : (m : VgMark) → mark_spans m ≡ mark_spans_here (map-VgMark Group VgMark (List Span) (List Span) spans_in mark_spans (out-VgMark m))
+pub mark_spans_are : (m : VgMark) → mark_spans m ≡ mark_spans_here (map-VgMark Group VgMark (List Span) (List Span) spans_in mark_spans (out-VgMark m))
 mark_spans_are m = fold_out-VgMark (List Span) (List Span) spans_here mark_spans_here m
 
 pub spans_of_object : (g : Group) (inside spans : List Span) → inside ≡ flat_map (λ spans. spans) (map mark_spans (marks_in (out-Group g)))

@@ -1,3 +1,3 @@
 mod NumberLemmas
 mod NameLemmas
-mod FoldLemmas
+pub mod FoldLemmas

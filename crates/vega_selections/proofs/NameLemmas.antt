@@ -50,3 +50,8 @@ pub one_more_name : (out more : List (List ℕ)) (name q : List ℕ) (old new : 
 one_more_name out more name q old new before adds after =
     after ∙ ap (λ b. b || bytes_eq q name) before ∙ or_last (list_any (bytes_eq q) out) (bytes_eq q name)
     ∙ sym (list_any-append (bytes_eq q) out (name ∷ [])) ∙ ap (list_any (bytes_eq q)) (sym adds)
+
+-- what a set with one more name tells beside the names that follow
+pub or_later : (old new one rest whole : Bool) → new ≡ (old || one) → (old || (one || rest)) ≡ whole → (new || rest) ≡ whole
+or_later true new one rest whole is before = ap (λ b. b || rest) is ∙ before
+or_later false new one rest whole is before = ap (λ b. b || rest) is ∙ before

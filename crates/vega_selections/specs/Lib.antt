@@ -2,3 +2,4 @@ pub mod Marks
 pub mod Plots
 pub mod Updates
 pub mod Selections
+pub mod Kept

@@ -1,5 +1,6 @@
 // The selections of a specification.
-ghost use Rattle.std.specs.Prelude.{◌≡◌, ◌++◌, [], filter_map, IfOk, OnOk};
+ghost use Rattle.std.specs.Prelude.{◌≡◌, ◌++◌, ℕ, List, [], filter_map, unwrap_or, IfOk, OnOk};
+ghost use Rattle.std.specs.BTreeSet.{contains_text};
 ghost use Rattle.std.specs.Option.{option_map_or, option_to_list};
 ghost use Rattle.std.specs.List.{list_any};
 ghost use Rattle.std.specs.Str.{bytes_eq};
@@ -7,9 +8,10 @@ ghost use Rattle.vega_selections.specs.Updates.{channels_in as channels_of, scal
 ghost use Rattle.vega_selections.specs.Selections.{concerns, unit_at, units_of, fields_on, selection_of, selection_with, selection_in, selections_of};
 
 use crate::marks::push_names;
-use crate::updates::{channels_in, each_once, has_entry, scales_in, texts_with};
+use crate::updates::{channels_in, each_once, has_entry, scales_in, set_of, texts_with};
 use selection_events::{DragOf, SelectionOf};
 use std::alloc::Global;
+use std::collections::BTreeSet;
 use text_kit::{OutOfMemory, Seq, Text};
 use vega_spec::{EventSelector, EventUpdate, Signal, VgSpec};
 
@@ -22,27 +24,26 @@ pub struct VgSelection {
     pub scales: Seq<Text>,
 }
 
-// Whether a name is one of some.
-fn is_among(names: &[Text], name: &str) -> bool
-    ensures { result ≡ list_any (bytes_eq name.now) names.now }
+// The names that a selection gives, as a set; none where it gives none.
+fn names_given(alloc: Global, names: &Option<Seq<Text>>) -> Result<BTreeSet<String>, OutOfMemory>
+    ensures { IfOk result (λ set. (q : List ℕ) → contains_text set q ≡ list_any (bytes_eq q) (unwrap_or names.now [])) }
 {
-    for other in names {
-        if name == other.as_str() {
-            return true;
-        }
+    match names {
+        Some(names) => set_of(alloc, names.as_slice()),
+        None => Ok(BTreeSet::new(alloc)),
     }
-    false
 }
 
-// Whether a selection concerns a mark of this name.
-fn concerns(names: &Option<Seq<Text>>, name: &Option<Text>) -> bool
+// Whether a selection concerns a mark of this name, where the names that it gives are these.
+fn concerns(names: &Option<Seq<Text>>, given: &BTreeSet<String>, name: &Option<Text>) -> bool
+    requires { (q : List ℕ) → contains_text given.now q ≡ list_any (bytes_eq q) (unwrap_or names.now []) }
     ensures { result ≡ concerns names.now name.now }
 {
     match names {
         None => true,
-        Some(names) => match name {
+        Some(_) => match name {
             None => false,
-            Some(name) => is_among(names.as_slice(), name.as_str()),
+            Some(name) => given.contains(name.as_str()),
         },
     }
 }
@@ -50,13 +51,15 @@ fn concerns(names: &Option<Seq<Text>>, name: &Option<Text>) -> bool
 // Adds the number of a mark that a selection concerns.
 fn push_unit(
     names: &Option<Seq<Text>>,
+    given: &BTreeSet<String>,
     at: usize,
     name: &Option<Text>,
     out: &mut Seq<u32>,
 ) -> Result<(), OutOfMemory>
+    requires { (q : List ℕ) → contains_text given.now q ≡ list_any (bytes_eq q) (unwrap_or names.now []) }
     ensures { OnOk result (out.new ≡ out.old ++ option_to_list (unit_at names.now (at, name.now))) }
 {
-    if !concerns(names, name) {
+    if !concerns(names, given, name) {
         return Ok(());
     }
     match u32::try_from(at) {
@@ -73,9 +76,10 @@ fn units_of(
 ) -> Result<Seq<u32>, OutOfMemory>
     ensures { IfOk result (λ units. units ≡ units_of marks.now names.now) }
 {
+    let given = names_given(alloc, names)?;
     let mut out = Seq::new(alloc);
     for (at, name) in marks.iter().enumerate() {
-        push_unit(names, at, name, &mut out)?;
+        push_unit(names, &given, at, name, &mut out)?;
     }
     Ok(out)
 }

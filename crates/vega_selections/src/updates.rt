@@ -95,6 +95,18 @@ fn add(alloc: Global, name: &str, set: &mut BTreeSet<String>) -> Result<(), OutO
     Ok(())
 }
 
+/// The set of some names.
+#[tactic(auto, using(crate::proofs::NameLemmas::or_later))]
+pub(crate) fn set_of(alloc: Global, names: &[Text]) -> Result<BTreeSet<String>, OutOfMemory>
+    ensures { IfOk result (λ set. (q : List ℕ) → contains_text set q ≡ list_any (bytes_eq q) names.now) }
+{
+    let mut set = BTreeSet::new(alloc);
+    for name in names {
+        add(alloc, name.as_str(), &mut set)?;
+    }
+    Ok(set)
+}
+
 // Adds a name to a list and to the set of its names, if it isn't there.
 #[tactic(auto, using(crate::proofs::NameLemmas::known_name, crate::proofs::NameLemmas::new_name, crate::proofs::NameLemmas::one_more_name))]
 fn push_once(

@@ -1,0 +1,2 @@
+-- Words that only proofs cite.
+pub mod Sources
