@@ -3,7 +3,8 @@
 
 Expected are for each panel its place and size, its view and the cells of its facet, then the scales that are kept, and then the picture,
 with a bar in place of each line feed; or why there is none. Charts are drawn by bench/chart_pictures.py; what is out of range is said here.
-Of each specification of cases/vega/faults.cases that has no fault it is expected that it is drawn, or with selections that it has no chart yet.
+Of each specification of cases/vega/faults.cases that has no fault it is expected that it is drawn. The stores of all selections are empty: what is
+expected of a specification with selections is the picture of another that has none.
 
 Usage: bench/chart_table.py > crates/chart_table/stdin, at the top of the repository
 """
@@ -395,19 +396,59 @@ def stopped():
     yield None, {"$schema": SCHEMA, "layout": {}, "marks": [far | {"marks": [far | {"encode": {}}]}]}
 
 
+def selections():
+    """Specifications with selections that hold nothing, each with one without selections that shows the same."""
+    rows = [{"v": 1, "c": "A"}, {"v": 3, "c": "A"}, {"v": 2, "c": "B"}]
+    pick = {"name": "pick", "on": [{"events": "click", "update": "vlPoint('pick', 'v')"}, {"events": "dblclick", "update": "vlClear('pick')"}]}
+    drag = {"name": "drag", "on": [{"events": "[mousedown, mouseup] > mousemove", "update": "vlInterval('drag', 'x', 's', 'v')"}]}
+    signals = {"signals": [pick, drag]}
+    raw = {"domainRaw": {"signal": "drag.x"}}
+    empty, held = "length(data('pick_store')) == 0", "vlSelectionTest('pick_store', datum)"
+    top = {"$schema": SCHEMA, "data": [{"name": "t", "values": rows}]}
+    plot = top | {"width": 10, "height": 10}
+
+    def dot(of, y, fill, **members):
+        channels = {"x": {"scale": "s", "field": "v"}, "y": y, "fill": fill} | members
+        return {"type": "symbol", "from": {"data": of}, "encode": {"update": channels}}
+
+    def paint(test):
+        return [{"test": test, "value": "red"}, {"value": "gray"}]
+
+    four, red, gray = {"value": 4}, {"value": "red"}, {"value": "gray"}
+    number = {"name": "n", "update": "length(data('pick_store')) + 4"}
+    over = scaled("s", [0, 10], "width")
+    tested = [dot("t", four, paint(f"{empty} || {held}")), dot("t", four, paint(held)), dot("t", four, paint(f"!{held}"))]
+    # a store without tuples has no length, and holds no row; a brush without ends leaves the domain as it is
+    yield plot | signals | {"scales": [over | raw], "marks": tested}, plot | {"scales": [over], "marks": [dot("t", four, f) for f in (red, gray, red)]}
+    # the same in each copy of a group, where a signal counts the tuples
+    parted = {"type": "group", "encode": sized(10, 10), "from": parts("p", "t", "c")}
+    own = scaled("s", {"data": "p", "field": "v"}, "width")
+    copies = parted | {"signals": [number], "scales": [own | raw], "marks": [dot("p", {"signal": "n"}, paint(held))]}
+    yield top | signals | {"layout": {}, "marks": [copies]}, top | {"layout": {}, "marks": [parted | {"scales": [own], "marks": [dot("p", four, gray)]}]}
+    # a signal of a group hides a selection of its name, and has a value
+    hidden = parted | {"signals": [{"name": "pick", "value": 4}], "scales": [own], "marks": [dot("p", {"signal": "pick"}, red)]}
+    yield top | signals | {"layout": {}, "marks": [hidden]}, top | {"layout": {}, "marks": [parted | {"scales": [own], "marks": [dot("p", four, red)]}]}
+    # a filter keeps no row that a store without tuples holds
+    kept = [{"name": n, "source": "t", "transform": [{"type": "filter", "expr": e}]} for n, e in (("u", held), ("w", f"!{held}"))]
+    drawn = {"scales": [over], "marks": [dot("u", four, red), dot("w", four, gray)]}
+    others = [kept[0] | {"transform": [{"type": "filter", "expr": "datum.v > 9"}]}, {"name": "w", "source": "t"}]
+    yield plot | signals | drawn | {"data": top["data"] + kept}, plot | drawn | {"data": top["data"] + others}
+
+
 def accepted():
-    """Specifications without fault, each with whether it is drawn."""
+    """Specifications without fault, all of which are drawn."""
     with open("cases/vega/faults.cases", encoding="utf-8") as file:
         rows = file.read().split("\n")
     for typed, answer in zip(rows, rows[1:]):
         if typed.startswith("> ") and answer == "ok":
-            text = typed[2:]
-            yield "no chart" if '"on":' in text else "drawn", text
+            yield typed[2:]
 
 
 def main():
-    for line in accepted():
-        print("\t".join(line))
+    for text in accepted():
+        print("drawn\t" + text)
+    for spec, same in selections():
+        print(expected(text_of(same)) + "\t" + text_of(spec))
     for why, spec in stopped():
         text = text_of(spec)
         print((why or expected(text)) + "\t" + text)

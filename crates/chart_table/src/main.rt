@@ -1,18 +1,20 @@
 //! A table of whole charts: what is expected, a tab, and a Vega specification that has all of its rows. What is expected are the panels, the
-//! scales that are kept and the picture, or why nothing is drawn; or only that there is some picture. It writes each line of which something
-//! else is found, and how many lines there were. Each specification has to be written, read again and copied the same, too.
+//! scales that are kept and the picture, or why nothing is drawn; or only that there is some picture. No selection holds anything. It writes
+//! each line of which something else is found, and how many lines there were. Each specification has to be written, read again and copied the
+//! same, too.
 //! `bench/chart_table.py` writes the table.
 #![tactic(auto)]
 
 ghost use Rattle.std.specs.Prelude.{◌≡◌, true};
 ghost use Rattle.vega_lists.specs.Held.{AreSources};
-ghost use Rattle.vega_copies.specs.Tested.{is_chart};
+ghost use Rattle.vega_copies.specs.Tested.{keeps_rules};
 
 mod opening;
 mod shown;
 mod written;
 
 use cell_value::{Cell, Named};
+use expr_eval::Stores;
 use json_exact::Json;
 use opening::{params_of, sources_of};
 use plot_scenes::Drawing;
@@ -21,21 +23,23 @@ use std::alloc::Global;
 use std::io;
 use text_kit::{OutOfMemory, Text};
 use vega_charts::{DrawError, drawing_of};
-use vega_copies::is_chart;
 use vega_spec::VgSpec;
 use written::is_written_again;
 
-// What is drawn of a specification over these sources and parameters.
+// What is drawn of a specification over these sources and parameters, where no selection holds anything.
 fn drawn(
     alloc: Global,
     g: &VgSpec,
     sources: &[Named],
     params: &[(Text, Cell)],
 ) -> Result<Drawing, DrawError>
-    requires chart { is_chart g.now ≡ true }
+    requires rules { keeps_rules g.now ≡ true }
     requires sources { AreSources sources.now }
 {
-    drawing_of(alloc, g, sources, params)
+    match Stores::of(alloc, &[]) {
+        Ok(stores) => drawing_of(alloc, g, &*sources, params, &stores),
+        Err(_) => Err(DrawError::Memory),
+    }
 }
 
 // What is drawn, in words, or why nothing is.
@@ -50,9 +54,9 @@ fn said(alloc: Global, drawn: Result<Drawing, DrawError>) -> Result<Text, OutOfM
     }
 }
 
-// What is found for a specification that has a chart, in words.
+// What is found for a specification that keeps the rules, in words.
 fn found_of_chart(alloc: Global, g: &VgSpec) -> Result<Text, OutOfMemory>
-    requires { is_chart g.now ≡ true }
+    requires { keeps_rules g.now ≡ true }
 {
     let sources = sources_of(alloc, g)?;
     let params = params_of(alloc, g)?;
@@ -64,7 +68,7 @@ fn found_of_chart(alloc: Global, g: &VgSpec) -> Result<Text, OutOfMemory>
 
 // What is found for a specification, in words.
 fn found_of(alloc: Global, g: &VgSpec) -> Result<Text, OutOfMemory> {
-    if is_chart(alloc, g)? {
+    if vega_copies::keeps_rules(alloc, g)? {
         found_of_chart(alloc, g)
     } else {
         Text::of(alloc, "no chart")

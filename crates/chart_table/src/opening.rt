@@ -120,7 +120,7 @@ pub(crate) fn sources_of(alloc: Global, g: &VgSpec) -> Result<Seq<Named>, OutOfM
 
 // Adds a signal with its written value, where it is a parameter that can be set.
 fn add_param(signal: &Signal, params: &mut Seq<(Text, Cell)>) -> Result<(), OutOfMemory> {
-    if signal.update.is_some() {
+    if signal.update.is_some() || signal.on.is_some() {
         return Ok(());
     }
     let value = match &signal.value {
@@ -130,7 +130,7 @@ fn add_param(signal: &Signal, params: &mut Seq<(Text, Cell)>) -> Result<(), OutO
     params.push((signal.name.copy()?, value))
 }
 
-/// The parameters of a specification without selections that can be set, with their written values.
+/// The parameters of a specification that can be set, with their written values.
 pub(crate) fn params_of(alloc: Global, g: &VgSpec) -> Result<Seq<(Text, Cell)>, OutOfMemory> {
     let mut params = Seq::new(alloc);
     for signal in signals_of(&g.group) {

@@ -5,8 +5,8 @@ use Rattle.std.proofs.lemmas.Option.{same_Some}
 use Rattle.std.specs.Option.{option_map}
 use Rattle.cell_value.specs.State.{Dataset}
 use Rattle.cell_value.specs.declared.state.Named.{Named}
-use Rattle.expr_eval.specs.Plain.{no_values}
 use Rattle.expr_eval.specs.Answers.{Evaluates}
+use Rattle.expr_eval.specs.Values.{Values}
 use Rattle.expr_eval.specs.declared.error.EvalError.{EvalError}
 use Rattle.expr_eval.specs.declared.error.EvalError.TheVariants.{Overflow, Memory}
 use Rattle.scene_tree.specs.Outcome.{Outcome, Panels, ◌>>=◌, in_reach}
@@ -82,17 +82,17 @@ module _ {X : Type 0} (drawn : Outcome X) where
 
 -- ---- the top by its members
 
-pub from_top : (g : VgSpec) (params : Valued) (sources : List Dataset)
-    → drawing_of g no_values params sources ≡ (in_reach (names_at_top no_values params sources (top_of g).object) >>= drawn_within sources g)
-from_top g params sources = ap (λ top. drawn_from g top no_values params sources) (outline_is g)
+pub from_top : (stores : Values) (g : VgSpec) (params : Valued) (sources : List Dataset)
+    → drawing_of g stores params sources ≡ (in_reach (names_at_top stores params sources (top_of g).object) >>= drawn_within sources g)
+from_top stores g params sources = ap (λ top. drawn_from g top stores params sources) (outline_is g)
 
 -- what names stand for at the top, where these are parts of lists
-abbrev pub names_round : List Dataset → List Named → Valued → Object → Option Names
-names_round sources parts params o =
-    let around : Names = record { lists = scope_read (parts_over parts no_rows); values = no_values } in
+abbrev pub names_round : Values → List Dataset → List Named → Valued → Object → Option Names
+names_round stores sources parts params o =
+    let around : Names = record { lists = scope_read (parts_over parts no_rows); values = stores } in
     names_with sources around o (settled_in sources around params o)
 
 -- the top has none
-pub named_by : (sources : List Dataset) (parts : List Named) (params : Valued) (o : Object) → parts ≡ []
-    → names_round sources parts params o ≡ names_at_top no_values params sources o
-named_by sources parts params o none = ap (λ parts. names_round sources parts params o) none
+pub named_by : (stores : Values) (sources : List Dataset) (parts : List Named) (params : Valued) (o : Object) → parts ≡ []
+    → names_round stores sources parts params o ≡ names_at_top stores params sources o
+named_by stores sources parts params o none = ap (λ parts. names_round stores sources parts params o) none

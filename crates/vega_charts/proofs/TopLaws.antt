@@ -38,4 +38,4 @@ module _ (g : VgSpec) (top : Opened) (stores : Values) (params : Valued) (source
       ∙ ap (λ b. cond b (Panels (min n (2 ^ 64 - 1))) (in_reach (drawing_over g sources top names))) many
 
 pub laws : ChartLaws
-laws = record { top = λ g sources params. refl; no_panels = no_panels; lists = lists_first; panels = panels_next }
+laws = record { top = λ stores g sources params. refl; no_panels = no_panels; lists = lists_first; panels = panels_next }

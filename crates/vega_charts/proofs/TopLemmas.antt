@@ -3,6 +3,7 @@ use Rattle.std.proofs.Common.{◌≡◌, ℕ, suc, ◌+◌, Option, Some, None, 
 use Rattle.fixed_num.specs.Ranges.{◌>>=◌}
 use Rattle.cell_value.specs.State.{Dataset}
 use Rattle.cell_value.specs.declared.state.Named.{Named}
+use Rattle.cell_value.specs.declared.state.StoreOf.{StoreOf}
 use Rattle.expr_eval.specs.Answers.{Evaluates}
 use Rattle.expr_eval.specs.declared.error.EvalError.{EvalError}
 use Rattle.expr_eval.specs.declared.error.EvalError.TheVariants.{Overflow, Memory}
@@ -96,11 +97,11 @@ rows_alike sources [] level e = absurd (cc)
 rows_alike sources (l ∷ []) level e = let is : l.now ≡ level = cc in ap (rows_on_top sources) is
 rows_alike sources (l ∷ other ∷ others) level e = absurd (cc)
 
-pub names_alike : (sources : List Named) (levels : List (Bor Level)) (level : Level) → map (λ l. l.now) levels ≡ level ∷ []
-    → names_at sources levels ≡ names_on_top sources level
-names_alike sources [] level e = absurd (cc)
-names_alike sources (l ∷ []) level e = let is : l.now ≡ level = cc in ap (names_on_top sources) is
-names_alike sources (l ∷ other ∷ others) level e = absurd (cc)
+pub names_alike : (stores : List StoreOf) (sources : List Named) (levels : List (Bor Level)) (level : Level) → map (λ l. l.now) levels ≡ level ∷ []
+    → names_at stores sources levels ≡ names_on_top stores sources level
+names_alike stores sources [] level e = absurd (cc)
+names_alike stores sources (l ∷ []) level e = let is : l.now ≡ level = cc in ap (names_on_top stores sources) is
+names_alike stores sources (l ∷ other ∷ others) level e = absurd (cc)
 
 -- ---- what is drawn from the facts of the top
 

@@ -1,7 +1,6 @@
 -- What holds of charts: of the top and of marks without groups they say what is said of one plot, and outcomes come in an order.
 use Rattle.std.specs.Prelude.{◌≡◌, ℕ, ◌-◌, ◌^◌, min, nat_lt, Bool, true, false, Some, None, List, is_some}
 use Rattle.cell_value.specs.State.{Dataset}
-use Rattle.expr_eval.specs.Plain.{no_values}
 use Rattle.expr_eval.specs.Values.{Values}
 use Rattle.scene_tree.specs.Outcome.{Overflow, Panels}
 use Rattle.vega_spec.specs.declared.spec.Group.{Group, Group-F}
@@ -15,10 +14,10 @@ use Rattle.vega_copies.specs.Panels.{plots_in_facets}
 use Rattle.vega_charts.specs.Panels.{most_panels}
 use Rattle.vega_charts.specs.Charts.{drawn_from}
 
--- without stores of selections the signals of the top settle at the values of the signals of a specification
+-- the signals of the top settle at the values of the signals of a specification, over the same stores of selections
 abbrev pub TopSettles : Type 0
-TopSettles = (g : Group-F Group VgMark) (sources : List Dataset) (params : Valued)
-    → settled_in sources (outermost no_values) params (object_here g) ≡ settled_values g sources params
+TopSettles = (stores : Values) (g : Group-F Group VgMark) (sources : List Dataset) (params : Valued)
+    → settled_in sources (outermost stores) params (object_here g) ≡ settled_values stores g sources params
 
 -- whether there is no group among marks
 abbrev pub has_no_groups : Marks → Bool

@@ -8,3 +8,4 @@ mod makers;
 
 pub use charts::{DrawError, drawing_of};
 pub use laws::{laws_of_charts, laws_of_one_plot};
+pub use makers::rows_of_mark;

@@ -12,7 +12,7 @@ ghost use Rattle.vega_charts.specs.Items.{items_in_plot, items_in_copy, rows_of_
 ghost use Rattle.vega_charts.specs.inner.Rows.{frame_over, lists_of_rows, AreRowItems};
 
 use cell_value::{Keyed, Named};
-use expr_eval::EvalError;
+use expr_eval::{EvalError, Stores};
 use mark_encode::items_over_rows;
 use scene_tree::{Item, moved_items};
 use std::alloc::Global;
@@ -33,8 +33,9 @@ pub struct RowItems<'a> {
     pub made: &'a [CopiesMade],
 }
 
-// The rows from which a mark comes.
-fn rows_of_mark<'a>(
+/// The rows from which a mark comes, in a copy of the object that has it: those of its list, and none where it names no list. The only error
+/// is refused memory.
+pub fn rows_of_mark<'a>(
     alloc: Global,
     names: &'a NamesAt<'a>,
     from: &Option<MarkFrom>,
@@ -103,6 +104,7 @@ fn items_in_copy(
 // The same where these are the levels of names.
 fn items_on_levels<'x>(
     alloc: Global,
+    stores: &'x Stores<'x>,
     sources: &'x [Named],
     levels: &'x [&'x Level],
     frame: &Frame,
@@ -114,7 +116,11 @@ fn items_on_levels<'x>(
     ensures { Evaluates result (items_in_copy unit (plain_of (out-VgMark mark.now))
         (frame_seen (λ path. scope_read (rows_at sources.now levels.now)) frame.now)) }
 {
-    let names = NamesAt { sources, levels };
+    let names = NamesAt {
+        stores,
+        sources,
+        levels,
+    };
     items_in_copy(alloc, &names, frame, unit, mark)
 }
 
@@ -133,6 +139,14 @@ impl MarkItems for RowItems<'_> {
         mark: &VgMark,
     ) -> Result<Seq<Item>, EvalError> {
         let levels = levels_on(alloc, self.level, self.made, frame.path)?;
-        items_on_levels(alloc, self.sources, levels.as_slice(), frame, unit, mark)
+        items_on_levels(
+            alloc,
+            frame.values.stores,
+            self.sources,
+            levels.as_slice(),
+            frame,
+            unit,
+            mark,
+        )
     }
 }

@@ -30,7 +30,7 @@ use Rattle.vega_copies.specs.Outlines.{Object, Marks, NoMarks, AMark, AGroup, ou
 use Rattle.vega_copies.specs.inner.Kept.{IsSizeKept, KeepsObject, KeepsMarks, KeepsAll}
 use Rattle.vega_copies.specs.Fitting.{folds_fit}
 use Rattle.vega_copies.specs.Tested.{is_padding, is_pixel, is_range, is_set, has_places, is_scale, is_count, is_size, is_space}
-use Rattle.vega_copies.specs.Tested.{keeps_object, all_objects, are_few, is_outline, has_sizes, are_new, keeps_rules, is_built, is_chart, KeepsRules}
+use Rattle.vega_copies.specs.Tested.{keeps_object, all_objects, are_few, is_outline, has_sizes, are_new, KeepsRules}
 use Rattle.vega_copies.proofs.FitLaw as fit
 use Rattle.vega_copies.proofs.NewNames.{apart}
 use Rattle.vega_copies.proofs.OutlineLemmas.{opened_object}
@@ -158,13 +158,6 @@ rules_kept g e =
       padding_high = space.1;
       apart = apart (sources_of g) others.1;
     }
-
--- a chart breaks no rule
-pub breaks_none : (g : VgSpec) → is_chart g ≡ true → KeepsRules g
-breaks_none g e = (both (is_built g) (keeps_rules g) e).1
-
-pub chart_kept : (g : VgSpec) → is_chart g ≡ true → KeepsAll g
-chart_kept g e = rules_kept g (breaks_none g e)
 
 -- what the data sets of the top keep
 pub sets_of_top : (g : VgSpec) → KeepsAll g → All (OfTransforms is_kept) (data_of (out-Group g.group))

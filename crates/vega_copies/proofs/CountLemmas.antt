@@ -194,7 +194,7 @@ module _ (outer : NamesAt) (m : VgMark) (copy : CopyOf) (in_facet in_grid : Bool
   named = names_in_object sources_read (names_over outer copy.parts) (object_here (out-Group (out-VgMark m).group))
 
   abbrev plots_here : Option ℕ
-  plots_here = plots_of_copy sources_read in_facet in_grid (out-VgMark m) (names_at outer.sources.now outer.levels.now) (copy_seen copy)
+  plots_here = plots_of_copy sources_read in_facet in_grid (out-VgMark m) (names_at outer.stores.now outer.sources.now outer.levels.now) (copy_seen copy)
 
   by_names : plots_here ≡ option_map (λ k. cond (is_panel in_facet in_grid (out-VgMark m)) 1 0 + k) (named >>= plots_inside sources_read in_facet (out-VgMark m))
   by_names =

@@ -7,6 +7,7 @@ use Rattle.std.specs.Vec.Iter.{into_iter_items, into_iter_len}
 use Rattle.std.proofs.Math.Seq.{take-suc}
 use Rattle.cell_value.specs.State.{Dataset, dataset_of}
 use Rattle.cell_value.specs.declared.state.Named.{Named}
+use Rattle.cell_value.specs.declared.state.StoreOf.{StoreOf}
 use Rattle.vega_lists.specs.Held.{scope_read, AreAllRows}
 use Rattle.vega_lists.specs.Inside.{RowsByName, rows_inside}
 use Rattle.vega_signals.specs.Settling.{values_inside}
@@ -31,10 +32,10 @@ use Rattle.vega_copies.proofs.StandLemmas.{rows_are_under, values_are_under, nam
 
 -- ---- names under levels
 
-pub names_are_under : (sources : List Named) (levels : List (Bor Level)) → names_at sources levels ≡ names_under sources (levels_behind levels)
-names_are_under sources levels = λ i. record {
+pub names_are_under : (stores : List StoreOf) (sources : List Named) (levels : List (Bor Level)) → names_at stores sources levels ≡ names_under stores sources (levels_behind levels)
+names_are_under stores sources levels = λ i. record {
   lists = scope_read (rows_are_under sources levels i);
-  values = values_are_under levels i;
+  values = values_are_under stores levels i;
 }
 
 pub rows_with_under : (outer : NamesAt) (level : Level)
@@ -43,10 +44,10 @@ rows_with_under outer level =
     ap (λ (rows : RowsByName). rows_inside outer.sources.now (parts_over level.parts rows) level.lists) (rows_are_under outer.sources.now outer.levels.now)
 
 pub names_with_under : (outer : NamesAt) (level : Level)
-    → names_with_level outer level ≡ names_under outer.sources.now (level ∷ levels_behind outer.levels.now)
+    → names_with_level outer level ≡ names_under outer.stores.now outer.sources.now (level ∷ levels_behind outer.levels.now)
 names_with_under outer level = λ i. record {
   lists = scope_read (rows_with_under outer level i);
-  values = values_inside level.signals (values_are_under outer.levels.now i);
+  values = values_inside level.signals (values_are_under outer.stores.now outer.levels.now i);
 }
 
 -- ---- what was made of marks, the first and the others
@@ -54,74 +55,74 @@ names_with_under outer level = λ i. record {
 abbrev inside_of_mark : VgMark → Marks
 inside_of_mark m = marks_of (marks_in (out-Group (out-VgMark m).group))
 
-module _ (sources : List Named) (levels : List Level) where
+module _ (stores : List StoreOf) (sources : List Named) (levels : List Level) where
   abbrev group_and_more : VgMark → Marks → CopiesMade → List CopiesMade → Type 0
   group_and_more m others found more =
-      IsGroupMade sources (group_object 0 (out-VgMark m)) (inside_of_mark m) (AreMade sources (inside_of_mark m)) levels found × AreMade sources others levels more
+      IsGroupMade stores sources (group_object 0 (out-VgMark m)) (inside_of_mark m) (AreMade stores sources (inside_of_mark m)) levels found × AreMade stores sources others levels more
 
   group_opened : (m : VgMark) (ms : List VgMark) (found : CopiesMade) (more : List CopiesMade) → is_group (out-VgMark m) ≡ true
-      → AreMade sources (marks_of (m ∷ ms)) levels (found ∷ more) → group_and_more m (marks_of ms) found more
-  group_opened m ms found more e made = subst (λ row. AreMade sources row levels (found ∷ more)) (group_first m (marks_of ms) e) made
+      → AreMade stores sources (marks_of (m ∷ ms)) levels (found ∷ more) → group_and_more m (marks_of ms) found more
+  group_opened m ms found more e made = subst (λ row. AreMade stores sources row levels (found ∷ more)) (group_first m (marks_of ms) e) made
 
   group_closed : (m : VgMark) (ms : List VgMark) (found : CopiesMade) (more : List CopiesMade) → is_group (out-VgMark m) ≡ true
-      → group_and_more m (marks_of ms) found more → AreMade sources (marks_of (m ∷ ms)) levels (found ∷ more)
-  group_closed m ms found more e made = subst (λ row. AreMade sources row levels (found ∷ more)) (sym (group_first m (marks_of ms) e)) made
+      → group_and_more m (marks_of ms) found more → AreMade stores sources (marks_of (m ∷ ms)) levels (found ∷ more)
+  group_closed m ms found more e made = subst (λ row. AreMade stores sources row levels (found ∷ more)) (sym (group_first m (marks_of ms) e)) made
 
   plain_opened : (m : VgMark) (ms : List VgMark) (found : CopiesMade) (more : List CopiesMade) → is_group (out-VgMark m) ≡ false
-      → AreMade sources (marks_of (m ∷ ms)) levels (found ∷ more) → IsNoGroup found × AreMade sources (marks_of ms) levels more
-  plain_opened m ms found more e made = subst (λ row. AreMade sources row levels (found ∷ more)) (plain_first m (marks_of ms) e) made
+      → AreMade stores sources (marks_of (m ∷ ms)) levels (found ∷ more) → IsNoGroup found × AreMade stores sources (marks_of ms) levels more
+  plain_opened m ms found more e made = subst (λ row. AreMade stores sources row levels (found ∷ more)) (plain_first m (marks_of ms) e) made
 
   plain_closed : (m : VgMark) (ms : List VgMark) (found : CopiesMade) (more : List CopiesMade) → is_group (out-VgMark m) ≡ false
-      → IsNoGroup found × AreMade sources (marks_of ms) levels more → AreMade sources (marks_of (m ∷ ms)) levels (found ∷ more)
-  plain_closed m ms found more e made = subst (λ row. AreMade sources row levels (found ∷ more)) (sym (plain_first m (marks_of ms) e)) made
+      → IsNoGroup found × AreMade stores sources (marks_of ms) levels more → AreMade stores sources (marks_of (m ∷ ms)) levels (found ∷ more)
+  plain_closed m ms found more e made = subst (λ row. AreMade stores sources row levels (found ∷ more)) (sym (plain_first m (marks_of ms) e)) made
 
   -- a group alone, and another mark
-  pub copies_made : (m : VgMark) (found : CopiesMade) → is_group (out-VgMark m) ≡ true → OneMade sources levels m found
-      → IsGroupMade sources (group_object 0 (out-VgMark m)) (inside_of_mark m) (AreMade sources (inside_of_mark m)) levels found
+  pub copies_made : (m : VgMark) (found : CopiesMade) → is_group (out-VgMark m) ≡ true → OneMade stores sources levels m found
+      → IsGroupMade stores sources (group_object 0 (out-VgMark m)) (inside_of_mark m) (AreMade stores sources (inside_of_mark m)) levels found
   copies_made m found e made = (group_opened m [] found [] e made).0
 
   pub group_is : (m : VgMark) (found : CopiesMade) → is_group (out-VgMark m) ≡ true
-      → IsGroupMade sources (group_object 0 (out-VgMark m)) (inside_of_mark m) (AreMade sources (inside_of_mark m)) levels found
-      → OneMade sources levels m found
+      → IsGroupMade stores sources (group_object 0 (out-VgMark m)) (inside_of_mark m) (AreMade stores sources (inside_of_mark m)) levels found
+      → OneMade stores sources levels m found
   group_is m found e made = group_closed m [] found [] e (made, tt)
 
-  pub nothing_made : (m : VgMark) (found : CopiesMade) → is_group (out-VgMark m) ≡ false → OneMade sources levels m found → IsNoGroup found
+  pub nothing_made : (m : VgMark) (found : CopiesMade) → is_group (out-VgMark m) ≡ false → OneMade stores sources levels m found → IsNoGroup found
   nothing_made m found e made = (plain_opened m [] found [] e made).0
 
-  pub plain_is : (m : VgMark) (found : CopiesMade) → is_group (out-VgMark m) ≡ false → IsNoGroup found → OneMade sources levels m found
+  pub plain_is : (m : VgMark) (found : CopiesMade) → is_group (out-VgMark m) ≡ false → IsNoGroup found → OneMade stores sources levels m found
   plain_is m found e made = plain_closed m [] found [] e (made, tt)
 
   -- marks one after the other
-  joined : (m : VgMark) (ms : List VgMark) (found : CopiesMade) (more : List CopiesMade) → OneMade sources levels m found
-      → AreMade sources (marks_of ms) levels more → AreMade sources (marks_of (m ∷ ms)) levels (found ∷ more)
+  joined : (m : VgMark) (ms : List VgMark) (found : CopiesMade) (more : List CopiesMade) → OneMade stores sources levels m found
+      → AreMade stores sources (marks_of ms) levels more → AreMade stores sources (marks_of (m ∷ ms)) levels (found ∷ more)
   joined m ms found more one rest = by_type (is_group (out-VgMark m)) refl
     where
-      by_type : (b : Bool) → is_group (out-VgMark m) ≡ b → AreMade sources (marks_of (m ∷ ms)) levels (found ∷ more)
+      by_type : (b : Bool) → is_group (out-VgMark m) ≡ b → AreMade stores sources (marks_of (m ∷ ms)) levels (found ∷ more)
       by_type true e = group_closed m ms found more e (copies_made m found e one, rest)
       by_type false e = plain_closed m ms found more e (nothing_made m found e one, rest)
 
-  parted : (m : VgMark) (ms : List VgMark) (found : CopiesMade) (more : List CopiesMade) → AreMade sources (marks_of (m ∷ ms)) levels (found ∷ more)
-      → OneMade sources levels m found × AreMade sources (marks_of ms) levels more
+  parted : (m : VgMark) (ms : List VgMark) (found : CopiesMade) (more : List CopiesMade) → AreMade stores sources (marks_of (m ∷ ms)) levels (found ∷ more)
+      → OneMade stores sources levels m found × AreMade stores sources (marks_of ms) levels more
   parted m ms found more made = by_type (is_group (out-VgMark m)) refl
     where
-      by_type : (b : Bool) → is_group (out-VgMark m) ≡ b → OneMade sources levels m found × AreMade sources (marks_of ms) levels more
+      by_type : (b : Bool) → is_group (out-VgMark m) ≡ b → OneMade stores sources levels m found × AreMade stores sources (marks_of ms) levels more
       by_type true e = let both = group_opened m ms found more e made in (group_is m found e both.0, both.1)
       by_type false e = let both = plain_opened m ms found more e made in (plain_is m found e both.0, both.1)
 
-  not_none : (m : VgMark) (ms : List VgMark) → AreMade sources (marks_of (m ∷ ms)) levels [] → ⊥
+  not_none : (m : VgMark) (ms : List VgMark) → AreMade stores sources (marks_of (m ∷ ms)) levels [] → ⊥
   not_none m ms made = by_type (is_group (out-VgMark m)) refl
     where
       by_type : (b : Bool) → is_group (out-VgMark m) ≡ b → ⊥
-      by_type true e = subst (λ row. AreMade sources row levels []) (group_first m (marks_of ms) e) made
-      by_type false e = subst (λ row. AreMade sources row levels []) (plain_first m (marks_of ms) e) made
+      by_type true e = subst (λ row. AreMade stores sources row levels []) (group_first m (marks_of ms) e) made
+      by_type false e = subst (λ row. AreMade stores sources row levels []) (plain_first m (marks_of ms) e) made
 
-  pub all_made : (marks : List VgMark) (found : List CopiesMade) → AllZip (OneMade sources levels) marks found → AreMade sources (marks_of marks) levels found
+  pub all_made : (marks : List VgMark) (found : List CopiesMade) → AllZip (OneMade stores sources levels) marks found → AreMade stores sources (marks_of marks) levels found
   all_made [] [] each = tt
   all_made [] (f ∷ fs) each = absurd each
   all_made (m ∷ ms) [] each = absurd each
   all_made (m ∷ ms) (f ∷ fs) each = joined m ms f fs each.0 (all_made ms fs each.1)
 
-  pub each_made : (marks : List VgMark) (found : List CopiesMade) → AreMade sources (marks_of marks) levels found → AllZip (OneMade sources levels) marks found
+  pub each_made : (marks : List VgMark) (found : List CopiesMade) → AreMade stores sources (marks_of marks) levels found → AllZip (OneMade stores sources levels) marks found
   each_made [] [] made = tt
   each_made [] (f ∷ fs) made = absurd made
   each_made (m ∷ ms) [] made = absurd (not_none m ms made)
@@ -171,10 +172,10 @@ pub group_made : (names : NamesAt) (m : VgMark) (found : CopiesMade) (parts : Co
     → is_group (out-VgMark m) ≡ true
     → map made_seen parts.copies ≡ copies_of (scope_read (rows_at names.sources.now names.levels.now)) (group_object 0 (out-VgMark m))
     → parts.across ≡ columns_across (scope_read (rows_at names.sources.now names.levels.now)) (group_object 0 (out-VgMark m))
-    → All (IsCopyMade names.sources.now (levels_behind names.levels.now) (out-VgMark m)) parts.copies
-    → OneMade names.sources.now (levels_behind names.levels.now) m found
+    → All (IsCopyMade names.stores.now names.sources.now (levels_behind names.levels.now) (out-VgMark m)) parts.copies
+    → OneMade names.stores.now names.sources.now (levels_behind names.levels.now) m found
 group_made names m found parts are e copies across sound =
-    group_is names.sources.now (levels_behind names.levels.now) m found e
+    group_is names.stores.now names.sources.now (levels_behind names.levels.now) m found e
     (record {
       copies =
           ap (λ (p : CopiesMade-F CopiesMade CopyMade). map made_seen p.copies) are ∙ copies
@@ -183,7 +184,7 @@ group_made names m found parts are e copies across sound =
           ap (λ (p : CopiesMade-F CopiesMade CopyMade). p.across) are ∙ across
           ∙ ap (λ (rows : RowsByName). columns_across (scope_read rows) (group_object 0 (out-VgMark m))) (rows_are_under names.sources.now names.levels.now);
       sound =
-          subst (λ (p : CopiesMade-F CopiesMade CopyMade). All (IsCopyMade names.sources.now (levels_behind names.levels.now) (out-VgMark m)) p.copies)
+          subst (λ (p : CopiesMade-F CopiesMade CopyMade). All (IsCopyMade names.stores.now names.sources.now (levels_behind names.levels.now) (out-VgMark m)) p.copies)
           (sym are) sound;
     })
 
@@ -200,10 +201,10 @@ module _ (outer : NamesAt) (m : VgMark) (copy : CopyOf) where
   names_made : (made : CopyMade) (level : Level)
       → names_in_object sources_read (names_over outer copy.parts) (object_here (out-Group (out-VgMark m).group)) ≡ Some (names_with_level outer level)
       → made_seen made ≡ copy_seen copy
-      → names_in_copy sources_read (names_under outer.sources.now round) (group_object 0 (out-VgMark m)) (made_seen made)
-      ≡ Some (names_under outer.sources.now (level ∷ round))
+      → names_in_copy sources_read (names_under outer.stores.now outer.sources.now round) (group_object 0 (out-VgMark m)) (made_seen made)
+      ≡ Some (names_under outer.stores.now outer.sources.now (level ∷ round))
   names_made made level found seen =
-      (λ i. names_in_copy sources_read (sym (names_are_under outer.sources.now outer.levels.now) i) (group_object 0 (out-VgMark m)) (seen i))
+      (λ i. names_in_copy sources_read (sym (names_are_under outer.stores.now outer.sources.now outer.levels.now) i) (group_object 0 (out-VgMark m)) (seen i))
       ∙ names_of_copy sources_read outer (group_object 0 (out-VgMark m)) copy
       ∙ found
       ∙ ap Some (names_with_under outer level)
@@ -213,12 +214,12 @@ module _ (outer : NamesAt) (m : VgMark) (copy : CopyOf) where
       → names_in_object sources_read (names_over outer copy.parts) (object_here (out-Group (out-VgMark m).group)) ≡ Some (names_with_level outer parts.level)
       → record { cells = parts.cells; parts = map dataset_of parts.level.parts } ≡ copy_seen copy → AreAllRows (rows_with_level outer parts.level)
       → MayStand (rows_with_level outer parts.level) (marks_in (out-Group (out-VgMark m).group))
-      → AllZip (OneMade outer.sources.now (parts.level ∷ round)) (marks_in (out-Group (out-VgMark m).group)) parts.inside
-      → IsCopyMade outer.sources.now round (out-VgMark m) made
+      → AllZip (OneMade outer.stores.now outer.sources.now (parts.level ∷ round)) (marks_in (out-Group (out-VgMark m).group)) parts.inside
+      → IsCopyMade outer.stores.now outer.sources.now round (out-VgMark m) made
   copy_made made parts are found seen rows stand each = record {
     names =
         names_made made parts.level found (ap (λ (p : CopyMade-F CopiesMade CopyMade). record { cells = p.cells; parts = map dataset_of p.level.parts }) are ∙ seen)
-        ∙ ap (λ (p : CopyMade-F CopiesMade CopyMade). Some (names_under outer.sources.now (p.level ∷ round))) (sym are);
+        ∙ ap (λ (p : CopyMade-F CopiesMade CopyMade). Some (names_under outer.stores.now outer.sources.now (p.level ∷ round))) (sym are);
     rows =
         subst (λ (p : CopyMade-F CopiesMade CopyMade). AreAllRows (rows_under outer.sources.now (p.level ∷ round))) (sym are)
         (subst AreAllRows (rows_with_under outer parts.level) rows);
@@ -226,8 +227,8 @@ module _ (outer : NamesAt) (m : VgMark) (copy : CopyOf) where
         subst (λ (p : CopyMade-F CopiesMade CopyMade). MarksMayFold (rows_under outer.sources.now (p.level ∷ round)) (inside_of_mark m)) (sym are)
         (subst (λ rows. MarksMayFold rows (inside_of_mark m)) (rows_with_under outer parts.level) stand.folds);
     within =
-        subst (λ (p : CopyMade-F CopiesMade CopyMade). AreMade outer.sources.now (inside_of_mark m) (p.level ∷ round) p.inside) (sym are)
-        (all_made outer.sources.now (parts.level ∷ round) (marks_in (out-Group (out-VgMark m).group)) parts.inside each);
+        subst (λ (p : CopyMade-F CopiesMade CopyMade). AreMade outer.stores.now outer.sources.now (inside_of_mark m) (p.level ∷ round) p.inside) (sym are)
+        (all_made outer.stores.now outer.sources.now (parts.level ∷ round) (marks_in (out-Group (out-VgMark m).group)) parts.inside each);
   }
 
 -- ---- one more level
@@ -239,19 +240,19 @@ stand_with outer level levels marks more stand = subst (λ rows. MayStand rows m
 
 -- ---- copies that are entered
 
-module _ (sources : List Named) (outer : List (Bor Level)) (m : VgMark) (made : CopyMade) (is : IsCopyMade sources (levels_behind outer) (out-VgMark m) made) where
+module _ (stores : List StoreOf) (sources : List Named) (outer : List (Bor Level)) (m : VgMark) (made : CopyMade) (is : IsCopyMade stores sources (levels_behind outer) (out-VgMark m) made) where
   -- what names stand for in a copy that was made
   pub names_in_made : (number : ℕ)
-      → names_in_copy (map dataset_of sources) (names_at sources outer) (group_object number (out-VgMark m)) (made_seen made)
-      ≡ Some (names_under sources ((out-CopyMade made).level ∷ levels_behind outer))
+      → names_in_copy (map dataset_of sources) (names_at stores sources outer) (group_object number (out-VgMark m)) (made_seen made)
+      ≡ Some (names_under stores sources ((out-CopyMade made).level ∷ levels_behind outer))
   names_in_made number =
-      ap (λ (names : Names). names_in_copy (map dataset_of sources) names (group_object number (out-VgMark m)) (made_seen made)) (names_are_under sources outer)
+      ap (λ (names : Names). names_in_copy (map dataset_of sources) names (group_object number (out-VgMark m)) (made_seen made)) (names_are_under stores sources outer)
       ∙ is.names
 
   module _ (levels : List (Bor Level)) (more : levels_behind levels ≡ (out-CopyMade made).level ∷ levels_behind outer) where
     -- the names where its level is the innermost
-    pub names_entered_are : names_under sources ((out-CopyMade made).level ∷ levels_behind outer) ≡ names_at sources levels
-    names_entered_are = ap (names_under sources) (sym more) ∙ sym (names_are_under sources levels)
+    pub names_entered_are : names_under stores sources ((out-CopyMade made).level ∷ levels_behind outer) ≡ names_at stores sources levels
+    names_entered_are = ap (names_under stores sources) (sym more) ∙ sym (names_are_under stores sources levels)
 
     rows_entered_are : rows_under sources ((out-CopyMade made).level ∷ levels_behind outer) ≡ rows_at sources levels
     rows_entered_are = ap (rows_under sources) (sym more) ∙ sym (rows_are_under sources levels)
@@ -261,25 +262,25 @@ module _ (sources : List Named) (outer : List (Bor Level)) (m : VgMark) (made : 
 
     -- the marks in it have their copies there
     pub copies_in_made : (found : List CopiesMade) → found ≡ (out-CopyMade made).inside → is_group (out-VgMark m) ≡ true → MayStand (rows_at sources outer) (m ∷ [])
-        → HaveCopies sources levels (marks_in (out-Group (out-VgMark m).group)) found
+        → HaveCopies stores sources levels (marks_in (out-Group (out-VgMark m).group)) found
     copies_in_made found there e stand = record {
       stand = record {
         kept = marks_kept (rows_at sources outer) m e stand;
         folds = subst (λ rows. MarksMayFold rows (inside_of_mark m)) rows_entered_are is.folds;
       };
       made =
-          subst (AllZip (OneMade sources (levels_behind levels)) (marks_in (out-Group (out-VgMark m).group))) (sym there)
-          (each_made sources (levels_behind levels) (marks_in (out-Group (out-VgMark m).group)) (out-CopyMade made).inside
-          (subst (λ l. AreMade sources (inside_of_mark m) l (out-CopyMade made).inside) (sym more) is.within));
+          subst (AllZip (OneMade stores sources (levels_behind levels)) (marks_in (out-Group (out-VgMark m).group))) (sym there)
+          (each_made stores sources (levels_behind levels) (marks_in (out-Group (out-VgMark m).group)) (out-CopyMade made).inside
+          (subst (λ l. AreMade stores sources (inside_of_mark m) l (out-CopyMade made).inside) (sym more) is.within));
     }
 
 -- the copies of a group where these are the levels
-module _ (sources : List Named) (levels : List (Bor Level)) (m : VgMark) (found : CopiesMade) (e : is_group (out-VgMark m) ≡ true)
-    (one : OneMade sources (levels_behind levels) m found) where
-  pub copies_are : (number : ℕ) → map made_seen (out-CopiesMade found).copies ≡ copies_of (names_at sources levels).lists (group_object number (out-VgMark m))
+module _ (stores : List StoreOf) (sources : List Named) (levels : List (Bor Level)) (m : VgMark) (found : CopiesMade) (e : is_group (out-VgMark m) ≡ true)
+    (one : OneMade stores sources (levels_behind levels) m found) where
+  pub copies_are : (number : ℕ) → map made_seen (out-CopiesMade found).copies ≡ copies_of (names_at stores sources levels).lists (group_object number (out-VgMark m))
   copies_are number =
-      (copies_made sources (levels_behind levels) m found e one).copies
-      ∙ ap (λ (names : Names). copies_of names.lists (group_object number (out-VgMark m))) (sym (names_are_under sources levels))
+      (copies_made stores sources (levels_behind levels) m found e one).copies
+      ∙ ap (λ (names : Names). copies_of names.lists (group_object number (out-VgMark m))) (sym (names_are_under stores sources levels))
 
-  pub each_copy_made : All (IsCopyMade sources (levels_behind levels) (out-VgMark m)) (out-CopiesMade found).copies
-  each_copy_made = (copies_made sources (levels_behind levels) m found e one).sound
+  pub each_copy_made : All (IsCopyMade stores sources (levels_behind levels) (out-VgMark m)) (out-CopiesMade found).copies
+  each_copy_made = (copies_made stores sources (levels_behind levels) m found e one).sound

@@ -7,6 +7,7 @@ use Rattle.std.proofs.lemmas.List.Elements.{All-get_or}
 use Rattle.std.proofs.lemmas.Option.{slice_get_within, get_or_from_slice_get}
 use Rattle.fixed_num.specs.Ranges.{◌>>=◌}
 use Rattle.cell_value.specs.declared.state.Named.{Named}
+use Rattle.cell_value.specs.declared.state.StoreOf.{StoreOf}
 use Rattle.vega_lists.specs.Held.{AreAllRows}
 use Rattle.vega_spec.specs.declared.spec.VgMark.{VgMark}
 use Rattle.vega_copies.specs.declared.facts.Step.{Step}
@@ -26,18 +27,18 @@ use Rattle.vega_copies.proofs.StandLemmas.{rows_are_under}
 at_there : {X : Type 0} (P : X → Type 0) (xs : List X) (n : ℕ) (x : X) → All P xs → slice_get xs n ≡ Some x → P x
 at_there P xs n x all e = subst P (get_or_from_slice_get xs n x x e) (All-get_or P xs n x (slice_get_within xs n x e) all)
 
-module _ (sources : List Named) where
+module _ (stores : List StoreOf) (sources : List Named) where
   -- what was made where a path leads
   pub record IsMadeAt (here : MadeAt) : Type 0 where
     pub marks : Marks
-    pub made : AreMade sources marks here.levels here.inside
+    pub made : AreMade stores sources marks here.levels here.inside
     pub rows : AreAllRows (rows_under sources here.levels)
 
   none_there : {A : Type 0} (o : Option CopyMade) (copy : CopyMade) → o ≡ None → o ≡ Some copy → A
   none_there o copy none some = absurd (let no : Some copy ≡ None = sym some ∙ none in cc)
 
   -- the copy to which a step leads was made
-  stepped : (marks : Marks) (levels : List Level) (inside : List CopiesMade) (place n : ℕ) (copy : CopyMade) → AreMade sources marks levels inside
+  stepped : (marks : Marks) (levels : List Level) (inside : List CopiesMade) (place n : ℕ) (copy : CopyMade) → AreMade stores sources marks levels inside
       → (slice_get inside place >>= λ found. slice_get (out-CopiesMade found).copies n) ≡ Some copy → IsMadeAt (made_within levels copy)
   stepped NoMarks levels [] place n copy made e = none_there None copy refl e
   stepped NoMarks levels (found ∷ more) place n copy made e = absurd made
@@ -47,8 +48,8 @@ module _ (sources : List Named) where
   stepped (AMark unit m others) levels (found ∷ more) (suc place) n copy made e = stepped others levels more place n copy made.1 e
   stepped (AGroup o deeper others) levels [] place n copy made e = absurd made
   stepped (AGroup o deeper others) levels (found ∷ more) zero n copy made e =
-      let is : IsMade sources o deeper (AreMade sources deeper) levels copy =
-      at_there (IsMade sources o deeper (AreMade sources deeper) levels) (out-CopiesMade found).copies n copy made.0.sound e in
+      let is : IsMade stores sources o deeper (AreMade stores sources deeper) levels copy =
+      at_there (IsMade stores sources o deeper (AreMade stores sources deeper) levels) (out-CopiesMade found).copies n copy made.0.sound e in
       record { marks = deeper; made = is.within; rows = is.rows }
   stepped (AGroup o deeper others) levels (found ∷ more) (suc place) n copy made e = stepped others levels more place n copy made.1 e
 
@@ -65,16 +66,17 @@ module _ (sources : List Named) where
 
 -- names stand for rows on all paths from the top
 pub rows_on_paths : (names : NamesAt) (level : Level) (marks : List VgMark) (made : List CopiesMade) → levels_behind names.levels.now ≡ level ∷ []
-    → AreNames names → HaveCopies names.sources.now names.levels.now marks made → (path : List Step)
+    → AreNames names → HaveCopies names.stores.now names.sources.now names.levels.now marks made → (path : List Step)
     → AreAllRows (rows_under names.sources.now (made_at (top_made level made) path).levels)
 rows_on_paths names level marks made levels are have path =
     let sources = names.sources.now in
-    let top : IsMadeAt sources (top_made level made) = record {
+    let stores = names.stores.now in
+    let top : IsMadeAt stores sources (top_made level made) = record {
       marks = marks_of marks;
-      made = subst (λ l. AreMade sources (marks_of marks) l made) levels (all_made sources (levels_behind names.levels.now) marks made have.made);
+      made = subst (λ l. AreMade stores sources (marks_of marks) l made) levels (all_made stores sources (levels_behind names.levels.now) marks made have.made);
       rows = subst AreAllRows (rows_are_under sources names.levels.now ∙ ap (rows_under sources) levels) are.rows;
     } in
-    (on_path sources (top_made level made) path top).rows
+    (on_path stores sources (top_made level made) path top).rows
 
 -- where a path leads, one by one
 one_step : (levels : List Level) (inside : List CopiesMade) (o : Option CopyMade)

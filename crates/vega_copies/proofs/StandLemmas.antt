@@ -4,6 +4,7 @@ use Rattle.std.specs.Prelude.{All}
 use Rattle.std.specs.Str.{bytes_eq}
 use Rattle.cell_value.specs.declared.state.Keyed.{Keyed}
 use Rattle.cell_value.specs.declared.state.Named.{Named}
+use Rattle.cell_value.specs.declared.state.StoreOf.{StoreOf}
 use Rattle.cell_value.specs.Datum.{datum_of}
 use Rattle.cell_value.specs.State.{Dataset, dataset_of}
 use Rattle.vega_spec.specs.declared.spec.Group.{out-Group}
@@ -163,9 +164,9 @@ rows_are_under sources [] = refl
 rows_are_under sources (level ∷ outer) =
     ap (λ (rows : RowsByName). rows_inside sources (parts_over level.now.parts rows) level.now.lists) (rows_are_under sources outer)
 
-pub values_are_under : (levels : List (Bor Level)) → values_at levels ≡ values_under (levels_behind levels)
-values_are_under [] = refl
-values_are_under (level ∷ outer) = ap (values_inside level.now.signals) (values_are_under outer)
+pub values_are_under : (stores : List StoreOf) (levels : List (Bor Level)) → values_at stores levels ≡ values_under stores (levels_behind levels)
+values_are_under stores [] = refl
+values_are_under stores (level ∷ outer) = ap (values_inside level.now.signals) (values_are_under stores outer)
 
 module _ (outer : NamesAt) (level : Level) (levels : List (Bor Level)) (more : map (λ l. l.now) levels ≡ level ∷ map (λ l. l.now) outer.levels.now) where
   pub rows_entered : rows_at outer.sources.now levels ≡ rows_with_level outer level
@@ -174,11 +175,11 @@ module _ (outer : NamesAt) (level : Level) (levels : List (Bor Level)) (more : m
       ∙ ap (λ (rows : RowsByName). rows_inside outer.sources.now (parts_over level.parts rows) level.lists)
       (sym (rows_are_under outer.sources.now outer.levels.now))
 
-  values_entered : values_at levels ≡ values_inside level.signals (values_at outer.levels.now)
+  values_entered : values_at outer.stores.now levels ≡ values_inside level.signals (values_at outer.stores.now outer.levels.now)
   values_entered =
-      values_are_under levels ∙ ap values_under more ∙ ap (values_inside level.signals) (sym (values_are_under outer.levels.now))
+      values_are_under outer.stores.now levels ∙ ap (values_under outer.stores.now) more ∙ ap (values_inside level.signals) (sym (values_are_under outer.stores.now outer.levels.now))
 
-  pub names_entered : names_at outer.sources.now levels ≡ names_with_level outer level
+  pub names_entered : names_at outer.stores.now outer.sources.now levels ≡ names_with_level outer level
   names_entered = λ i. record { lists = scope_read (rows_entered i); values = values_entered i }
 
   pub levels_entered : AreNames outer → AreAllRows (rows_with_level outer level) → AreLevels outer.sources.now levels
@@ -222,7 +223,7 @@ parts_read [] rows = refl
 parts_read (part ∷ others) rows = λ i name. part_first part others rows (parts_read others rows) name i
 
 pub names_of_copy : (sources : List Dataset) (outer : NamesAt) (o : Object) (copy : CopyOf)
-    → names_in_copy sources (names_at outer.sources.now outer.levels.now) o (copy_seen copy) ≡ names_in_object sources (names_over outer copy.parts) o
+    → names_in_copy sources (names_at outer.stores.now outer.sources.now outer.levels.now) o (copy_seen copy) ≡ names_in_object sources (names_over outer copy.parts) o
 names_of_copy sources outer o copy =
-    ap (λ (scope : Scope). names_in_object sources (record (names_at outer.sources.now outer.levels.now) { lists = scope }) o)
+    ap (λ (scope : Scope). names_in_object sources (record (names_at outer.stores.now outer.sources.now outer.levels.now) { lists = scope }) o)
     (parts_read copy.parts (rows_at outer.sources.now outer.levels.now))

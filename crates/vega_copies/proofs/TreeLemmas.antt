@@ -7,12 +7,11 @@ use Rattle.vega_spec.specs.declared.spec.Group.{out-Group}
 use Rattle.vega_spec.specs.declared.spec.VgMark.{VgMark, out-VgMark}
 use Rattle.vega_spec.specs.declared.spec.VgSpec.{VgSpec}
 use Rattle.vega_lists.specs.Products.{Products, no_folds}
-use Rattle.vega_copies.specs.Outlines.{Object, Marks, NoMarks, AMark, AGroup, opened, outline_of, object_here, numbered, count_marks, count_groups}
-use Rattle.vega_spec.specs.Names.{sources_of}
+use Rattle.vega_copies.specs.Outlines.{Marks, NoMarks, AMark, AGroup, opened, outline_of, object_here, numbered, count_marks, count_groups}
 use Rattle.vega_copies.specs.Fitting.{products_in_copy, products_fitted, folds_fit_in, folds_fit}
-use Rattle.vega_copies.specs.Tested.{keeps_object, is_plain_object, all_objects, are_few, is_outline, has_sizes, are_new, is_chart}
+use Rattle.vega_copies.specs.Tested.{keeps_object, are_few, is_outline}
 use Rattle.vega_copies.specs.inner.Outlined.{marks_in, is_group, marks_of}
-use Rattle.vega_copies.specs.inner.Tested.{is_object, are_objects, group_folds_fit, group_is_kept}
+use Rattle.vega_copies.specs.inner.Tested.{are_objects, group_folds_fit, group_is_kept}
 use Rattle.vega_copies.proofs.OutlineLemmas.{plain_first, group_first, opened_object, opened_marks, group_counted, group_grouped}
 
 and_true : (a : Bool) → (a && true) ≡ a
@@ -37,7 +36,7 @@ objects_first m ms = by_type (is_group (out-VgMark m)) refl
         → are_objects (marks_of (m ∷ ms)) ≡ (are_objects (marks_of (m ∷ [])) && are_objects (marks_of ms))
     by_type true e =
         ap are_objects (group_first m (marks_of ms) e)
-        ∙ and_assoc (is_object (object_here (out-Group (out-VgMark m).group))) (are_objects (marks_of (marks_in (out-Group (out-VgMark m).group))))
+        ∙ and_assoc (keeps_object (object_here (out-Group (out-VgMark m).group))) (are_objects (marks_of (marks_in (out-Group (out-VgMark m).group))))
         (are_objects (marks_of ms))
         ∙ sym (ap (λ first. are_objects first && are_objects (marks_of ms)) (group_first m NoMarks e))
     by_type false e =
@@ -47,7 +46,7 @@ objects_first m ms = by_type (is_group (out-VgMark m)) refl
 -- a mark alone
 pub group_objects : (m : VgMark) → is_group (out-VgMark m) ≡ true → group_is_kept (out-VgMark m) ≡ are_objects (marks_of (m ∷ []))
 group_objects m e =
-    ap (λ inside. is_object (object_here (out-Group (out-VgMark m).group)) && inside)
+    ap (λ inside. keeps_object (object_here (out-Group (out-VgMark m).group)) && inside)
     (sym (and_true (are_objects (marks_of (marks_in (out-Group (out-VgMark m).group))))))
     ∙ sym (ap are_objects (group_first m NoMarks e))
 
@@ -133,7 +132,7 @@ pub objects_numbered : (unit number : ℕ) (marks : Marks) → are_objects (numb
 objects_numbered unit number NoMarks = refl
 objects_numbered unit number (AMark old m others) = objects_numbered (suc unit) number others
 objects_numbered unit number (AGroup o inside others) = λ i.
-    is_object o && (objects_numbered unit (suc number) inside i
+    keeps_object o && (objects_numbered unit (suc number) inside i
     && objects_numbered (unit + count_marks inside) (suc number + count_groups inside) others i)
 
 pub fits_numbered : (unit number : ℕ) (marks : Marks) (products : Products)
@@ -157,21 +156,21 @@ groups_numbered unit number (AGroup o inside others) = λ i.
     suc (groups_numbered unit (suc number) inside i + groups_numbered (unit + count_marks inside) (suc number + count_groups inside) others i)
 
 -- the test of the top is that of its members and its marks
-outline_tested : (g : VgSpec) → is_outline is_object (outline_of g)
-    ≡ (is_object (object_here (out-Group g.group)) && (are_objects (marks_of (marks_in (out-Group g.group)))
+outline_tested : (g : VgSpec) → is_outline keeps_object (outline_of g)
+    ≡ (keeps_object (object_here (out-Group g.group)) && (are_objects (marks_of (marks_in (out-Group g.group)))
     && (are_few (marks_of (marks_in (out-Group g.group)))
     && folds_fit (object_here (out-Group g.group)).sets (marks_of (marks_in (out-Group g.group))))))
 outline_tested g =
     let marks = (opened g.group).marks in
-    (λ i. is_object (opened g.group).object && (objects_numbered 0 1 marks i
+    (λ i. keeps_object (opened g.group).object && (objects_numbered 0 1 marks i
     && ((nat_lt (marks_numbered 0 1 marks i) (2 ^ 32) && nat_lt (1 + groups_numbered 0 1 marks i) (2 ^ 32))
     && option_map_or (λ next. fits_numbered 0 1 marks next i) (products_fitted no_folds (opened g.group).object.sets) false)))
-    ∙ (λ i. is_object (opened_object g.group i) && (are_objects (opened_marks g.group i)
+    ∙ (λ i. keeps_object (opened_object g.group i) && (are_objects (opened_marks g.group i)
     && (are_few (opened_marks g.group i) && folds_fit (opened_object g.group i).sets (opened_marks g.group i))))
 
 -- what holds of the top and all groups leaves the folds to be tested
 abbrev pub all_kept : VgSpec → Bool
-all_kept g = is_object (object_here (out-Group g.group)) && (are_objects (marks_of (marks_in (out-Group g.group)))
+all_kept g = keeps_object (object_here (out-Group g.group)) && (are_objects (marks_of (marks_in (out-Group g.group)))
     && are_few (marks_of (marks_in (out-Group g.group))))
 
 folds_left : (a b c fit : Bool) → (a && (b && c)) ≡ true → (a && (b && (c && fit))) ≡ fit
@@ -187,53 +186,12 @@ none_left true false c fit e = refl
 none_left false b c fit e = refl
 
 pub outline_by_folds : (g : VgSpec) → true ≡ all_kept g
-    → folds_fit (object_here (out-Group g.group)).sets (marks_of (marks_in (out-Group g.group))) ≡ is_outline is_object (outline_of g)
+    → folds_fit (object_here (out-Group g.group)).sets (marks_of (marks_in (out-Group g.group))) ≡ is_outline keeps_object (outline_of g)
 outline_by_folds g e =
-    sym (outline_tested g ∙ folds_left (is_object (object_here (out-Group g.group))) (are_objects (marks_of (marks_in (out-Group g.group))))
+    sym (outline_tested g ∙ folds_left (keeps_object (object_here (out-Group g.group))) (are_objects (marks_of (marks_in (out-Group g.group))))
     (are_few (marks_of (marks_in (out-Group g.group)))) _ (sym e))
 
-pub no_outline : (g : VgSpec) → false ≡ all_kept g → false ≡ is_outline is_object (outline_of g)
+pub no_outline : (g : VgSpec) → false ≡ all_kept g → false ≡ is_outline keeps_object (outline_of g)
 no_outline g e =
-    sym (outline_tested g ∙ none_left (is_object (object_here (out-Group g.group))) (are_objects (marks_of (marks_in (out-Group g.group))))
+    sym (outline_tested g ∙ none_left (keeps_object (object_here (out-Group g.group))) (are_objects (marks_of (marks_in (out-Group g.group))))
     (are_few (marks_of (marks_in (out-Group g.group)))) _ (sym e))
-
--- ---- the test of a chart, object by object
-
-both_of_three : (a b c d e f : Bool) → ((a && b) && ((c && d) && (e && f))) ≡ ((a && (c && e)) && (b && (d && f)))
-both_of_three false b c d e f = refl
-both_of_three true true true true true f = refl
-both_of_three true true true true false f = refl
-both_of_three true true true false true f = refl
-both_of_three true true true false false f = refl
-both_of_three true true false d e f = refl
-both_of_three true false true d true f = refl
-both_of_three true false true d false f = refl
-both_of_three true false false d e f = refl
-
--- two tests of each object are both of each
-all_both : (p q : Object → Bool) (marks : Marks) → all_objects (λ o. p o && q o) marks ≡ (all_objects p marks && all_objects q marks)
-all_both p q NoMarks = refl
-all_both p q (AMark unit m others) = all_both p q others
-all_both p q (AGroup o inside others) =
-    (λ i. (p o && q o) && (all_both p q inside i && all_both p q others i))
-    ∙ both_of_three (p o) (q o) (all_objects p inside) (all_objects q inside) (all_objects p others) (all_objects q others)
-
-both_of_top : (a b c d few rest : Bool) → ((a && b) && ((c && (d && few)) && rest)) ≡ (((a && c) && ((b && d) && few)) && rest)
-both_of_top false b c d few rest = refl
-both_of_top true true c d few rest = refl
-both_of_top true false true d few rest = refl
-both_of_top true false false d few rest = refl
-
-chart_tested : (g : VgSpec) → is_chart g ≡ (is_outline is_object (outline_of g) && (has_sizes g && are_new [] (sources_of g)))
-chart_tested g =
-    let top = outline_of g in
-    both_of_top (is_plain_object top.object) (all_objects is_plain_object top.marks) (keeps_object top.object) (all_objects keeps_object top.marks)
-    (are_few top.marks && folds_fit top.object.sets top.marks) (has_sizes g && are_new [] (sources_of g))
-    ∙ ap (λ objects. (is_object top.object && (objects && (are_few top.marks && folds_fit top.object.sets top.marks)))
-    && (has_sizes g && are_new [] (sources_of g))) (sym (all_both is_plain_object keeps_object top.marks))
-
-pub chart_by_rest : (g : VgSpec) → true ≡ is_outline is_object (outline_of g) → (has_sizes g && are_new [] (sources_of g)) ≡ is_chart g
-chart_by_rest g e = ap (λ outline. outline && (has_sizes g && are_new [] (sources_of g))) e ∙ sym (chart_tested g)
-
-pub no_chart : (g : VgSpec) → false ≡ is_outline is_object (outline_of g) → false ≡ is_chart g
-no_chart g e = ap (λ outline. outline && (has_sizes g && are_new [] (sources_of g))) e ∙ sym (chart_tested g)

@@ -1,6 +1,6 @@
--- What a chart asks of a specification: that it has a meaning so far, and breaks no rule.
+-- What a chart asks of a specification: that it breaks no rule.
 use Rattle.std.specs.Prelude.{◌≡◌, refl, codes, false, ℕ, ◌+◌, ◌*◌, ◌^◌, ◌&&◌, ◌||◌, Bool, true, not, IsTrue, ℤ, pos, Option, Some, None, List}
-use Rattle.std.specs.Prelude.{[], ◌∷◌, ◌++◌, nat_lt, is_none}
+use Rattle.std.specs.Prelude.{[], ◌∷◌, ◌++◌, nat_lt}
 use Rattle.std.specs.List.{list_all, list_any}
 use Rattle.std.specs.Str.{bytes_eq}
 use Rattle.std.specs.Option.{option_map_or}
@@ -9,7 +9,6 @@ use Rattle.fixed_num.specs.Ranges.{◌>>=◌, is_within}
 use Rattle.vega_spec.specs.declared.data.DataSet.{DataSet}
 use Rattle.vega_spec.specs.declared.guides.Layout.{Layout}
 use Rattle.vega_spec.specs.declared.scales.Scale.{Scale as VegaScale}
-use Rattle.vega_spec.specs.declared.signals.Signal.{Signal}
 use Rattle.vega_spec.specs.declared.spec.Size.{Size}
 use Rattle.vega_spec.specs.declared.spec.Size.TheVariants as size
 use Rattle.vega_spec.specs.declared.spec.VgSpec.{VgSpec}
@@ -67,14 +66,6 @@ is_space n = is_within (pos 0) (pos (1000 * million)) n
 abbrev pub keeps_object : Object → Bool
 keeps_object o = list_all is_set o.sets && (list_all is_scale o.scales && (list_all is_kept_axis o.axes && has_columns o.layout))
 
--- a signal that does nothing on events is no selection
-abbrev pub is_plain : Signal → Bool
-is_plain s = is_none s.on
-
--- an object without selections
-abbrev pub is_plain_object : Object → Bool
-is_plain_object o = list_all is_plain o.signals
-
 -- whether each object among marks passes a test
 abbrev pub all_objects : (Object → Bool) → Marks → Bool
 all_objects test NoMarks = true
@@ -102,19 +93,8 @@ are_new before (name ∷ names) = not (list_any (bytes_eq name) before) && are_n
 abbrev pub keeps_rules : VgSpec → Bool
 keeps_rules g = is_outline keeps_object (outline_of g) && (has_sizes g && are_new [] (sources_of g))
 
--- it has a meaning so far: it has no selections
-abbrev pub is_built : VgSpec → Bool
-is_built g = is_plain_object (outline_of g).object && all_objects is_plain_object (outline_of g).marks
-
--- both
-abbrev pub is_chart : VgSpec → Bool
-is_chart g = is_built g && keeps_rules g
-
 abbrev pub KeepsRules : VgSpec → Type 0
 KeepsRules g = IsTrue (keeps_rules g)
-
-abbrev pub IsBuilt : VgSpec → Type 0
-IsBuilt g = IsTrue (is_built g)
 
 -- The rules at work.
 

@@ -29,7 +29,7 @@ use crate::levels::{level_in, with_level};
 use crate::marks::{is_group, marks_in};
 use crate::names::{Level, NamesAt};
 use cell_value::Named;
-use expr_eval::EvalError;
+use expr_eval::{EvalError, Stores};
 use std::alloc::Global;
 use text_kit::Seq;
 use vega_spec::VgMark;
@@ -49,7 +49,7 @@ pub fn count_plots(
     requires names { AreNames names.now }
     requires marks { MayStand (rows_at names.now.sources.now names.now.levels.now) marks.now }
     ensures { Evaluates result (counted (plots_in_facets (map dataset_of names.now.sources.now)
-        (marks_of marks.now) in_facet in_grid (names_at names.now.sources.now names.now.levels.now))) }
+        (marks_of marks.now) in_facet in_grid (names_at names.now.stores.now names.now.sources.now names.now.levels.now))) }
 {
     let mut plots = 0u64;
     for mark in marks {
@@ -98,7 +98,7 @@ fn count_of_mark(
     requires names { AreNames names.now }
     requires marks { MayStand (rows_at names.now.sources.now names.now.levels.now) (mark.now ∷ []) }
     ensures { Evaluates result (counted (plots_in_facets (map dataset_of names.now.sources.now)
-        (marks_of (mark.now ∷ [])) in_facet in_grid (names_at names.now.sources.now names.now.levels.now))) }
+        (marks_of (mark.now ∷ [])) in_facet in_grid (names_at names.now.stores.now names.now.sources.now names.now.levels.now))) }
 {
     if is_group(mark) {
         count_of_group(alloc, names, mark, in_facet, in_grid)
@@ -120,7 +120,7 @@ fn count_of_group(
     requires marks { MayStand (rows_at names.now.sources.now names.now.levels.now) (mark.now ∷ []) }
     requires group { is_group (out-VgMark mark.now) ≡ true }
     ensures { Evaluates result (counted (plots_in_facets (map dataset_of names.now.sources.now)
-        (marks_of (mark.now ∷ [])) in_facet in_grid (names_at names.now.sources.now names.now.levels.now))) }
+        (marks_of (mark.now ∷ [])) in_facet in_grid (names_at names.now.stores.now names.now.sources.now names.now.levels.now))) }
 {
     let deeper = is_deeper(mark, in_facet);
     if are_alike(mark) {
@@ -144,7 +144,7 @@ fn count_of_alike(
     requires group { is_group (out-VgMark mark.now) ≡ true }
     requires alike { are_alike (group_object 0 (out-VgMark mark.now)) (marks_of (marks_in (out-Group (out-VgMark mark.now).group))) ≡ true }
     ensures { Evaluates result (counted (total (plots_of_all (map dataset_of names.now.sources.now) in_facet in_grid (out-VgMark mark.now)
-        (names_at names.now.sources.now names.now.levels.now)
+        (names_at names.now.stores.now names.now.sources.now names.now.levels.now)
         (copies_of (scope_read (rows_at names.now.sources.now names.now.levels.now)) (group_object 0 (out-VgMark mark.now)))))) }
 {
     let copies = count_all_copies(alloc, names, mark)?;
@@ -164,7 +164,7 @@ fn count_of_each(
     requires marks { MayStand (rows_at names.now.sources.now names.now.levels.now) (mark.now ∷ []) }
     requires group { is_group (out-VgMark mark.now) ≡ true }
     ensures { Evaluates result (counted (total (plots_of_all (map dataset_of names.now.sources.now) in_facet in_grid (out-VgMark mark.now)
-        (names_at names.now.sources.now names.now.levels.now)
+        (names_at names.now.stores.now names.now.sources.now names.now.levels.now)
         (copies_of (scope_read (rows_at names.now.sources.now names.now.levels.now)) (group_object 0 (out-VgMark mark.now)))))) }
 {
     let CopiesCounted {
@@ -192,7 +192,7 @@ fn count_of_copies(
     requires copies { All (IsCopy names.now (out-VgMark mark.now)) copies }
     requires group { is_group (out-VgMark mark.now) ≡ true }
     ensures { Evaluates result (counted (total (plots_of_all (map dataset_of names.now.sources.now) in_facet in_grid (out-VgMark mark.now)
-        (names_at names.now.sources.now names.now.levels.now) (map copy_seen copies)))) }
+        (names_at names.now.stores.now names.now.sources.now names.now.levels.now) (map copy_seen copies)))) }
 {
     let mut plots = 0u64;
     for copy in copies.into_vec() {
@@ -219,7 +219,7 @@ fn count_with_bare(
     requires marks { MayStand (rows_at names.now.sources.now names.now.levels.now) (mark.now ∷ []) }
     requires group { is_group (out-VgMark mark.now) ≡ true }
     ensures { Evaluates result (with_bare plots copies (counted (plots_of_copy (map dataset_of names.now.sources.now) in_facet in_grid
-        (out-VgMark mark.now) (names_at names.now.sources.now names.now.levels.now) (bare_copy (facet_in (out-VgMark mark.now).from))))) }
+        (out-VgMark mark.now) (names_at names.now.stores.now names.now.sources.now names.now.levels.now) (bare_copy (facet_in (out-VgMark mark.now).from))))) }
 {
     if copies == 0 {
         return Ok(plots);
@@ -265,7 +265,7 @@ fn count_of_copy(
     requires copy { IsCopy outer.now (out-VgMark mark.now) copy }
     requires group { is_group (out-VgMark mark.now) ≡ true }
     ensures { Evaluates result (counted (plots_of_copy (map dataset_of outer.now.sources.now)
-        in_facet in_grid (out-VgMark mark.now) (names_at outer.now.sources.now outer.now.levels.now) (copy_seen copy))) }
+        in_facet in_grid (out-VgMark mark.now) (names_at outer.now.stores.now outer.now.sources.now outer.now.levels.now) (copy_seen copy))) }
 {
     match level_of(alloc, outer, copy, mark) {
         Ok(level) => count_with_level(alloc, outer, &level, mark, in_facet, in_grid),
@@ -311,13 +311,21 @@ fn count_under(
         (out-VgMark mark.now) (names_with_level outer.now level.now))) }
 {
     let levels = with_level(alloc, level, outer.levels)?;
-    count_inside(alloc, outer.sources, levels.as_slice(), mark, in_facet)
+    count_inside(
+        alloc,
+        outer.stores,
+        outer.sources,
+        levels.as_slice(),
+        mark,
+        in_facet,
+    )
 }
 
 // How many stand in a copy of a group, where these are the levels of names.
 #[cycle(counting_plots)]
 fn count_inside<'x>(
     alloc: Global,
+    stores: &'x Stores<'x>,
     sources: &'x [Named],
     levels: &'x [&'x Level],
     mark: &VgMark,
@@ -326,9 +334,13 @@ fn count_inside<'x>(
     requires names { AreLevels sources.now levels.now }
     requires marks { MayStand (rows_at sources.now levels.now) (marks_in (out-Group (out-VgMark mark.now).group)) }
     ensures { Evaluates result (counted (plots_inside (map dataset_of sources.now) in_facet
-        (out-VgMark mark.now) (names_at sources.now levels.now))) }
+        (out-VgMark mark.now) (names_at stores.now sources.now levels.now))) }
 {
-    let names = NamesAt { sources, levels };
+    let names = NamesAt {
+        stores,
+        sources,
+        levels,
+    };
     count_plots(
         alloc,
         &names,

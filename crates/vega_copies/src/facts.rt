@@ -3,7 +3,7 @@ ghost use Rattle.std.specs.Prelude.{◌≡◌, ◌∷◌, [], None, not, true, A
 ghost use Rattle.std.specs.List.{AllZip};
 ghost use Rattle.cell_value.specs.State.{dataset_of};
 ghost use Rattle.expr_eval.specs.Answers.{Evaluates};
-ghost use Rattle.expr_eval.specs.Plain.{no_values};
+ghost use Rattle.expr_eval.specs.Stores.{values_of_stores};
 ghost use Rattle.fixed_num.specs.Ranges.{all_found};
 ghost use Rattle.vega_signals.specs.Lacking.{lacks};
 ghost use Rattle.vega_scales.specs.Scales.{is_built, FitsScale};
@@ -29,7 +29,7 @@ use crate::marks::{is_group, marks_in};
 use crate::names::{Level, NamesAt, lacks_at};
 use crate::objects::scales_in;
 use cell_value::{Cell, Named};
-use expr_eval::EvalError;
+use expr_eval::{EvalError, Stores};
 use std::alloc::Global;
 use text_kit::{Copies, OutOfMemory, Seq, Text, copy_list};
 use vega_scales::{Scaled, domain_of};
@@ -70,15 +70,16 @@ pub struct MarkFacts {
 }
 
 // Whether a signal has a value.
+#[tactic(auto, using(crate::proofs::NameLemmas::lacks_the_same))]
 fn has_value(names: &NamesAt, signal: &Signal) -> bool
-    ensures { result ≡ not (lacks (values_at names.now.levels.now) signal.now.name) }
+    ensures { result ≡ not (lacks (values_at names.now.stores.now names.now.levels.now) signal.now.name) }
 {
     !lacks_at(names.levels, signal.name.as_str())
 }
 
 // Whether each own signal of an object has a value in a copy of it.
 fn keeps_own(names: &NamesAt, group: &Group) -> bool
-    ensures { result ≡ keeps_signals (names_at names.now.sources.now names.now.levels.now) (object_here (out-Group group.now)) }
+    ensures { result ≡ keeps_signals (names_at names.now.stores.now names.now.sources.now names.now.levels.now) (object_here (out-Group group.now)) }
 {
     signals_of(group)
         .iter()
@@ -89,7 +90,7 @@ fn keeps_own(names: &NamesAt, group: &Group) -> bool
 fn domain_at(alloc: Global, names: &NamesAt, scale: &Scale) -> Result<Scaled, EvalError>
     requires names { AreNames names.now }
     requires built { IsTrue (is_built scale.now) }
-    ensures value { Evaluates result (domain_at (names_at names.now.sources.now names.now.levels.now) scale.now) }
+    ensures value { Evaluates result (domain_at (names_at names.now.stores.now names.now.sources.now names.now.levels.now) scale.now) }
     ensures fits { IfOk result (FitsScale scale.now) }
 {
     let lists = *names;
@@ -100,7 +101,7 @@ fn domain_at(alloc: Global, names: &NamesAt, scale: &Scale) -> Result<Scaled, Ev
 fn domains_at(alloc: Global, names: &NamesAt, scales: &[Scale]) -> Result<Seq<Scaled>, EvalError>
     requires names { AreNames names.now }
     requires built { All (λ s. IsTrue (is_built s)) scales.now }
-    ensures value { Evaluates result (all_found (map (domain_at (names_at names.now.sources.now names.now.levels.now)) scales.now)) }
+    ensures value { Evaluates result (all_found (map (domain_at (names_at names.now.stores.now names.now.sources.now names.now.levels.now)) scales.now)) }
     ensures fits { IfOk result (λ domains. AllZip FitsScale scales.now domains) }
 {
     let mut domains = Seq::with_capacity(alloc, scales.len())?;
@@ -160,9 +161,9 @@ fn own_kept(
 ) -> Result<OwnFacts, EvalError>
     requires names { AreNames names.now }
     requires object { KeepsObject (object_here (out-Group group.now)) }
-    requires kept { keeps_signals (names_at names.now.sources.now names.now.levels.now) (object_here (out-Group group.now)) ≡ true }
-    ensures stops { Stops result (facts_here cells.now (object_here (out-Group group.now)) (names_at names.now.sources.now names.now.levels.now)) }
-    ensures own { IfOk result (IsOwn (object_here (out-Group group.now)) (names_at names.now.sources.now names.now.levels.now) signals.now cells.now) }
+    requires kept { keeps_signals (names_at names.now.stores.now names.now.sources.now names.now.levels.now) (object_here (out-Group group.now)) ≡ true }
+    ensures stops { Stops result (facts_here cells.now (object_here (out-Group group.now)) (names_at names.now.stores.now names.now.sources.now names.now.levels.now)) }
+    ensures own { IfOk result (IsOwn (object_here (out-Group group.now)) (names_at names.now.stores.now names.now.sources.now names.now.levels.now) signals.now cells.now) }
 {
     match domains_at(alloc, names, scales_in(group)) {
         Ok(domains) => Ok(own_with(alloc, signals, cells, domains)?),
@@ -180,8 +181,8 @@ fn own_facts(
 ) -> Result<OwnFacts, EvalError>
     requires names { AreNames names.now }
     requires object { KeepsObject (object_here (out-Group group.now)) }
-    ensures stops { Stops result (facts_here cells.now (object_here (out-Group group.now)) (names_at names.now.sources.now names.now.levels.now)) }
-    ensures own { IfOk result (IsOwn (object_here (out-Group group.now)) (names_at names.now.sources.now names.now.levels.now) signals.now cells.now) }
+    ensures stops { Stops result (facts_here cells.now (object_here (out-Group group.now)) (names_at names.now.stores.now names.now.sources.now names.now.levels.now)) }
+    ensures own { IfOk result (IsOwn (object_here (out-Group group.now)) (names_at names.now.stores.now names.now.sources.now names.now.levels.now) signals.now cells.now) }
 {
     if keeps_own(names, group) {
         own_kept(alloc, names, group, signals, cells)
@@ -222,10 +223,10 @@ fn facts_inside(
     made: &[CopiesMade],
 ) -> Result<Seq<MarkFacts>, EvalError>
     requires names { AreNames names.now }
-    requires marks { HaveCopies names.now.sources.now names.now.levels.now marks.now made.now }
+    requires marks { HaveCopies names.now.stores.now names.now.sources.now names.now.levels.now marks.now made.now }
     ensures stops { Stops result (found_in (map dataset_of names.now.sources.now) (marks_of marks.now)
-        (names_at names.now.sources.now names.now.levels.now)) }
-    ensures facts { IfOk result (HasFacts names.now.sources.now (marks_of marks.now) (levels_behind names.now.levels.now) made.now) }
+        (names_at names.now.stores.now names.now.sources.now names.now.levels.now)) }
+    ensures facts { IfOk result (HasFacts names.now.stores.now names.now.sources.now (marks_of marks.now) (levels_behind names.now.levels.now) made.now) }
 {
     let mut facts = Seq::with_capacity(alloc, marks.len())?;
     let mut at = 0;
@@ -249,10 +250,10 @@ fn facts_of_mark(
 ) -> Result<MarkFacts, EvalError>
     requires names { AreNames names.now }
     requires marks { MayStand (rows_at names.now.sources.now names.now.levels.now) (mark.now ∷ []) }
-    requires made { OneMade names.now.sources.now (levels_behind names.now.levels.now) mark.now made.now }
+    requires made { OneMade names.now.stores.now names.now.sources.now (levels_behind names.now.levels.now) mark.now made.now }
     ensures stops { Stops result (found_in (map dataset_of names.now.sources.now) (marks_of (mark.now ∷ []))
-        (names_at names.now.sources.now names.now.levels.now)) }
-    ensures facts { IfOk result (OneHasFacts names.now.sources.now (levels_behind names.now.levels.now) mark.now made.now) }
+        (names_at names.now.stores.now names.now.sources.now names.now.levels.now)) }
+    ensures facts { IfOk result (OneHasFacts names.now.stores.now names.now.sources.now (levels_behind names.now.levels.now) mark.now made.now) }
 {
     if is_group(mark) {
         facts_of_group(alloc, names, mark, made)
@@ -271,11 +272,11 @@ fn facts_of_group(
 ) -> Result<MarkFacts, EvalError>
     requires names { AreNames names.now }
     requires marks { MayStand (rows_at names.now.sources.now names.now.levels.now) (mark.now ∷ []) }
-    requires made { OneMade names.now.sources.now (levels_behind names.now.levels.now) mark.now made.now }
+    requires made { OneMade names.now.stores.now names.now.sources.now (levels_behind names.now.levels.now) mark.now made.now }
     requires group { is_group (out-VgMark mark.now) ≡ true }
     ensures stops { Stops result (found_in (map dataset_of names.now.sources.now) (marks_of (mark.now ∷ []))
-        (names_at names.now.sources.now names.now.levels.now)) }
-    ensures facts { IfOk result (OneHasFacts names.now.sources.now (levels_behind names.now.levels.now) mark.now made.now) }
+        (names_at names.now.stores.now names.now.sources.now names.now.levels.now)) }
+    ensures facts { IfOk result (OneHasFacts names.now.stores.now names.now.sources.now (levels_behind names.now.levels.now) mark.now made.now) }
 {
     let copies = made.copies.as_slice();
     let mut facts = Seq::with_capacity(alloc, copies.len())?;
@@ -301,20 +302,28 @@ fn facts_of_copy(
 ) -> Result<CopyFacts, EvalError>
     requires names { AreNames outer.now }
     requires marks { MayStand (rows_at outer.now.sources.now outer.now.levels.now) (mark.now ∷ []) }
-    requires copy { IsCopyMade outer.now.sources.now (levels_behind outer.now.levels.now) (out-VgMark mark.now) copy.now }
+    requires copy { IsCopyMade outer.now.stores.now outer.now.sources.now (levels_behind outer.now.levels.now) (out-VgMark mark.now) copy.now }
     requires group { is_group (out-VgMark mark.now) ≡ true }
     ensures stops { Stops result (copy_found_in (map dataset_of outer.now.sources.now) (out-VgMark mark.now)
-        (names_at outer.now.sources.now outer.now.levels.now) (made_seen copy.now)) }
-    ensures facts { IfOk result (CopyHasFacts outer.now.sources.now (levels_behind outer.now.levels.now) (out-VgMark mark.now) copy.now) }
+        (names_at outer.now.stores.now outer.now.sources.now outer.now.levels.now) (made_seen copy.now)) }
+    ensures facts { IfOk result (CopyHasFacts outer.now.stores.now outer.now.sources.now (levels_behind outer.now.levels.now) (out-VgMark mark.now) copy.now) }
 {
     let levels = with_level(alloc, &copy.level, outer.levels)?;
-    facts_entered(alloc, outer.sources, levels.as_slice(), mark, copy)
+    facts_entered(
+        alloc,
+        outer.stores,
+        outer.sources,
+        levels.as_slice(),
+        mark,
+        copy,
+    )
 }
 
 // The same where these are the levels of names in it.
 #[cycle(finding)]
 fn facts_entered<'x>(
     alloc: Global,
+    stores: &'x Stores<'x>,
     sources: &'x [Named],
     levels: &'x [&'x Level],
     mark: &VgMark,
@@ -322,15 +331,19 @@ fn facts_entered<'x>(
 ) -> Result<CopyFacts, EvalError>
     requires names { AreLevels sources.now levels.now }
     requires object { KeepsObject (object_here (out-Group (out-VgMark mark.now).group)) }
-    requires marks { HaveCopies sources.now levels.now (marks_in (out-Group (out-VgMark mark.now).group)) (out-CopyMade copy.now).inside }
+    requires marks { HaveCopies stores.now sources.now levels.now (marks_in (out-Group (out-VgMark mark.now).group)) (out-CopyMade copy.now).inside }
     ensures stops { Stops result (copy_found_at (map dataset_of sources.now) (out-CopyMade copy.now).cells
         (object_here (out-Group (out-VgMark mark.now).group)) (marks_of (marks_in (out-Group (out-VgMark mark.now).group)))
-        (names_at sources.now levels.now)) }
-    ensures facts { IfOk result (IsFactsOf sources.now (object_here (out-Group (out-VgMark mark.now).group))
-        (HasFacts sources.now (marks_of (marks_in (out-Group (out-VgMark mark.now).group)))) (levels_behind levels.now)
+        (names_at stores.now sources.now levels.now)) }
+    ensures facts { IfOk result (IsFactsOf stores.now sources.now (object_here (out-Group (out-VgMark mark.now).group))
+        (HasFacts stores.now sources.now (marks_of (marks_in (out-Group (out-VgMark mark.now).group)))) (levels_behind levels.now)
         (out-CopyMade copy.now).level.signals (out-CopyMade copy.now).cells (out-CopyMade copy.now).inside) }
 {
-    let names = NamesAt { sources, levels };
+    let names = NamesAt {
+        stores,
+        sources,
+        levels,
+    };
     match own_facts(
         alloc,
         &names,
@@ -358,11 +371,11 @@ pub fn facts_of(
 ) -> Result<CopyFacts, EvalError>
     requires names { AreNames names.now }
     requires object { KeepsObject (object_here (out-Group group.now)) }
-    requires marks { HaveCopies names.now.sources.now names.now.levels.now (marks_in (out-Group group.now)) made.now }
+    requires marks { HaveCopies names.now.stores.now names.now.sources.now names.now.levels.now (marks_in (out-Group group.now)) made.now }
     requires level { levels_behind names.now.levels.now ≡ level.now ∷ [] }
-    ensures value { Evaluates (result_map (λ facts. copy_seen (lists_on names.now.sources.now (top_made level.now made.now)) facts [] no_values) result)
+    ensures value { Evaluates (result_map (λ facts. copy_seen (lists_on names.now.sources.now (top_made level.now made.now)) facts [] (values_of_stores names.now.stores.now)) result)
         (facts_of (map dataset_of names.now.sources.now) (object_here (out-Group group.now)) (marks_of (marks_in (out-Group group.now)))
-        (names_at names.now.sources.now names.now.levels.now)) }
+        (names_at names.now.stores.now names.now.sources.now names.now.levels.now)) }
     ensures fits { IfOk result (FactsFit (object_here (out-Group group.now)) (marks_of (marks_in (out-Group group.now)))) }
 {
     match own_facts(alloc, names, group, level.signals.as_slice(), &None) {

@@ -1,11 +1,9 @@
 // The names of a copy of an object.
-ghost use Rattle.std.specs.Prelude.{◌≡◌, ◌∷◌, ◌++◌, not, unwrap_or, IfOk, OnOk, All, map, flat_map};
-ghost use Rattle.std.specs.List.{list_all};
+ghost use Rattle.std.specs.Prelude.{◌≡◌, ◌∷◌, ◌++◌, unwrap_or, IfOk, OnOk, All, map, flat_map};
 ghost use Rattle.cell_value.specs.declared.cell.Cell.TheVariants.{Null};
 ghost use Rattle.vega_spec.specs.declared.signals.Signal.{Signal};
 ghost use Rattle.vega_spec.specs.Names.{signals_of};
 ghost use Rattle.vega_signals.specs.Extents.{is_computed};
-ghost use Rattle.vega_signals.specs.Lacking.{lacks};
 ghost use Rattle.vega_copies.specs.inner.Results.{result_map};
 ghost use Rattle.cell_value.specs.State.{dataset_of};
 ghost use Rattle.expr_eval.specs.Answers.{Evaluates};
@@ -18,9 +16,8 @@ ghost use Rattle.vega_signals.specs.Signals.{data_of};
 ghost use Rattle.vega_copies.specs.Outlines.{object_here};
 ghost use Rattle.vega_copies.specs.Scopes.{written_here, names_in_object};
 ghost use Rattle.vega_copies.specs.inner.Levels.{parts_over, rows_at, names_over, names_with_level, rows_with_level, names_with_parts, AreNames, AreParts};
-ghost use Rattle.vega_copies.specs.inner.Made.{levels_behind, values_under};
 
-use crate::names::{Level, NamesAt, lacks_inside, part_named, referred};
+use crate::names::{Level, NamesAt, part_named, referred};
 use cell_value::{Cell, Keyed, Named};
 use expr_eval::EvalError;
 use std::alloc::Global;
@@ -169,21 +166,4 @@ pub fn with_level<'a>(
         levels.push(*other)?;
     }
     Ok(levels)
-}
-
-// Whether a signal has a value in a copy of an object, where these are the levels of names round it.
-#[tactic(auto, using(crate::proofs::StandLemmas::values_are_under))]
-fn is_kept_signal(outer: &[&Level], level: &Level, signal: &Signal) -> bool
-    ensures { result ≡ not (lacks (values_under (level.now ∷ levels_behind outer.now)) signal.now.name) }
-{
-    !lacks_inside(outer, level, signal.name.as_str())
-}
-
-/// Whether each own signal of an object has a value in a copy of it, where these are the levels of names round it.
-pub fn keeps_signals(outer: &[&Level], level: &Level, group: &Group) -> bool
-    ensures { result ≡ list_all (λ (s : Signal). not (lacks (values_under (level.now ∷ levels_behind outer.now)) s.name)) (signals_of (out-Group group.now)) }
-{
-    signals_of(group)
-        .iter()
-        .all(|signal| is_kept_signal(outer, level, signal))
 }

@@ -18,7 +18,7 @@ use crate::levels::{level_in, with_level};
 use crate::marks::{is_group, marks_in};
 use crate::names::{Level, NamesAt};
 use cell_value::{Cell, Named};
-use expr_eval::EvalError;
+use expr_eval::{EvalError, Stores};
 use std::alloc::Global;
 use text_kit::{Seq, Text};
 use vega_spec::VgMark;
@@ -56,9 +56,9 @@ pub fn made_in(
     requires names { AreNames names.now }
     requires marks { MayStand (rows_at names.now.sources.now names.now.levels.now) marks.now }
     ensures stops { (in_facet : Bool) → (in_grid : Bool) → Stops result (plots_in_facets (map dataset_of names.now.sources.now)
-        (marks_of marks.now) in_facet in_grid (names_at names.now.sources.now names.now.levels.now)) }
+        (marks_of marks.now) in_facet in_grid (names_at names.now.stores.now names.now.sources.now names.now.levels.now)) }
     ensures made { IfOk result (λ found.
-        AllZip (OneMade names.now.sources.now (levels_behind names.now.levels.now)) marks.now found) }
+        AllZip (OneMade names.now.stores.now names.now.sources.now (levels_behind names.now.levels.now)) marks.now found) }
 {
     let mut made = Seq::with_capacity(alloc, marks.len())?;
     for mark in marks {
@@ -76,8 +76,8 @@ fn made_of_mark(alloc: Global, names: &NamesAt, mark: &VgMark) -> Result<CopiesM
     requires names { AreNames names.now }
     requires marks { MayStand (rows_at names.now.sources.now names.now.levels.now) (mark.now ∷ []) }
     ensures stops { (in_facet : Bool) → (in_grid : Bool) → Stops result (plots_in_facets (map dataset_of names.now.sources.now)
-        (marks_of (mark.now ∷ [])) in_facet in_grid (names_at names.now.sources.now names.now.levels.now)) }
-    ensures made { IfOk result (λ found. OneMade names.now.sources.now (levels_behind names.now.levels.now) mark.now found) }
+        (marks_of (mark.now ∷ [])) in_facet in_grid (names_at names.now.stores.now names.now.sources.now names.now.levels.now)) }
+    ensures made { IfOk result (λ found. OneMade names.now.stores.now names.now.sources.now (levels_behind names.now.levels.now) mark.now found) }
 {
     if is_group(mark) {
         made_of_group(alloc, names, mark)
@@ -103,8 +103,8 @@ fn made_of_group(alloc: Global, names: &NamesAt, mark: &VgMark) -> Result<Copies
     requires marks { MayStand (rows_at names.now.sources.now names.now.levels.now) (mark.now ∷ []) }
     requires group { is_group (out-VgMark mark.now) ≡ true }
     ensures stops { (in_facet : Bool) → (in_grid : Bool) → Stops result (plots_in_facets (map dataset_of names.now.sources.now)
-        (marks_of (mark.now ∷ [])) in_facet in_grid (names_at names.now.sources.now names.now.levels.now)) }
-    ensures made { IfOk result (λ found. OneMade names.now.sources.now (levels_behind names.now.levels.now) mark.now found) }
+        (marks_of (mark.now ∷ [])) in_facet in_grid (names_at names.now.stores.now names.now.sources.now names.now.levels.now)) }
+    ensures made { IfOk result (λ found. OneMade names.now.stores.now names.now.sources.now (levels_behind names.now.levels.now) mark.now found) }
 {
     let CopiesOf { copies, across } = copies_of(alloc, names, mark)?;
     let mut made = Seq::with_capacity(alloc, copies.len())?;
@@ -133,9 +133,9 @@ fn made_copy(
     requires copy { IsCopy outer.now (out-VgMark mark.now) copy }
     requires group { is_group (out-VgMark mark.now) ≡ true }
     ensures stops { (in_facet : Bool) → (in_grid : Bool) → Stops result (plots_of_copy (map dataset_of outer.now.sources.now)
-        in_facet in_grid (out-VgMark mark.now) (names_at outer.now.sources.now outer.now.levels.now) (copy_seen copy)) }
+        in_facet in_grid (out-VgMark mark.now) (names_at outer.now.stores.now outer.now.sources.now outer.now.levels.now) (copy_seen copy)) }
     ensures seen { IfOk result (λ found. made_seen found ≡ copy_seen copy) }
-    ensures made { IfOk result (λ found. IsCopyMade outer.now.sources.now (levels_behind outer.now.levels.now) (out-VgMark mark.now) found) }
+    ensures made { IfOk result (λ found. IsCopyMade outer.now.stores.now outer.now.sources.now (levels_behind outer.now.levels.now) (out-VgMark mark.now) found) }
 {
     let CopyOf { cells, parts } = copy;
     let level = match level_in(alloc, outer, &mark.group, parts) {
@@ -165,17 +165,18 @@ fn made_under(
     requires marks { MayStand (rows_with_level outer.now level.now) (marks_in (out-Group (out-VgMark mark.now).group)) }
     ensures stops { (in_facet : Bool) → Stops result (plots_inside (map dataset_of outer.now.sources.now) in_facet
         (out-VgMark mark.now) (names_with_level outer.now level.now)) }
-    ensures made { IfOk result (λ found. AllZip (OneMade outer.now.sources.now (level.now ∷ levels_behind outer.now.levels.now))
+    ensures made { IfOk result (λ found. AllZip (OneMade outer.now.stores.now outer.now.sources.now (level.now ∷ levels_behind outer.now.levels.now))
         (marks_in (out-Group (out-VgMark mark.now).group)) found) }
 {
     let levels = with_level(alloc, level, outer.levels)?;
-    made_inside(alloc, outer.sources, levels.as_slice(), mark)
+    made_inside(alloc, outer.stores, outer.sources, levels.as_slice(), mark)
 }
 
 // The copies in a copy of a group, where these are the levels of names.
 #[cycle(making)]
 fn made_inside<'x>(
     alloc: Global,
+    stores: &'x Stores<'x>,
     sources: &'x [Named],
     levels: &'x [&'x Level],
     mark: &VgMark,
@@ -183,10 +184,14 @@ fn made_inside<'x>(
     requires names { AreLevels sources.now levels.now }
     requires marks { MayStand (rows_at sources.now levels.now) (marks_in (out-Group (out-VgMark mark.now).group)) }
     ensures stops { (in_facet : Bool) → Stops result (plots_inside (map dataset_of sources.now) in_facet
-        (out-VgMark mark.now) (names_at sources.now levels.now)) }
-    ensures made { IfOk result (λ found. AllZip (OneMade sources.now (levels_behind levels.now))
+        (out-VgMark mark.now) (names_at stores.now sources.now levels.now)) }
+    ensures made { IfOk result (λ found. AllZip (OneMade stores.now sources.now (levels_behind levels.now))
         (marks_in (out-Group (out-VgMark mark.now).group)) found) }
 {
-    let names = NamesAt { sources, levels };
+    let names = NamesAt {
+        stores,
+        sources,
+        levels,
+    };
     made_in(alloc, &names, marks_in(&mark.group))
 }

@@ -1,18 +1,19 @@
 // What names stand for at a copy of an object: lists of rows, and the values of signals.
 ghost use Rattle.std.specs.Prelude.{◌≡◌, [], IfOk, map, option_copied};
+ghost use Rattle.std.specs.List.{list_any};
 ghost use Rattle.cell_value.specs.declared.state.Named.{Named};
 ghost use Rattle.expr_eval.specs.Answers.{Evaluates};
 ghost use Rattle.vega_signals.specs.Lacking.{lacks};
-ghost use Rattle.vega_signals.specs.Settling.{values_inside};
+ghost use Rattle.vega_signals.specs.Settling.{is_own};
 ghost use Rattle.vega_copies.specs.inner.Levels.{part_named, rows_here, rows_at, signal_named, values_at};
 
 use cell_value::{Cell, Keyed, Named, Steps};
-use expr_eval::{EvalError, ParamReader, RowReader};
+use expr_eval::{EvalError, ParamReader, RowReader, Stores};
 use std::alloc::Global;
 use std::sync::ledger::Ledger;
 use text_kit::{OutOfMemory, Seq, Text};
 use vega_lists::{ListReader, Lists};
-use vega_signals::settled_value;
+use vega_signals::{is_own, settled_value};
 
 /// The names that a copy of an object gives itself.
 #[derive(Drop)]
@@ -28,6 +29,8 @@ pub struct Level {
 /// What names stand for at a copy of an object.
 #[derive(Clone, Copy)]
 pub struct NamesAt<'a> {
+    /// The stores of selections.
+    pub stores: &'a Stores<'a>,
     /// The sources of rows.
     pub sources: &'a [Named],
     /// The levels of names, the inner before the outer.
@@ -107,20 +110,25 @@ fn signal_named<'a>(
 }
 
 // The value of a signal; null where there is none of the name.
-fn value_at(levels: &[&Level], name: &str) -> Result<Cell, EvalError>
-    ensures { Evaluates result ((values_at levels.now).value name.now) }
+fn value_at(
+    alloc: Global,
+    stores: &Stores,
+    levels: &[&Level],
+    name: &str,
+) -> Result<Cell, EvalError>
+    ensures { Evaluates result ((values_at stores.now levels.now).value name.now) }
 {
     for level in levels {
         if let Some(signal) = signal_named(level.signals.as_slice(), name) {
             return settled_value(&signal.1);
         }
     }
-    Ok(Cell::Null)
+    stores.param(alloc, name)
 }
 
-/// Whether a name has no value.
+/// Whether a name has no value. Stores of selections give none, so it is asked as if there were none.
 pub(crate) fn lacks_at(levels: &[&Level], name: &str) -> bool
-    ensures { result ≡ lacks (values_at levels.now) name.now }
+    ensures { result ≡ lacks (values_at [] levels.now) name.now }
 {
     for level in levels {
         if let Some(signal) = signal_named(level.signals.as_slice(), name) {
@@ -130,39 +138,45 @@ pub(crate) fn lacks_at(levels: &[&Level], name: &str) -> bool
     false
 }
 
-/// Whether a name has no value with one more level inside.
-pub(crate) fn lacks_inside(outer: &[&Level], level: &Level, name: &str) -> bool
-    ensures { result ≡ lacks (values_inside level.now.signals (values_at outer.now)) name.now }
+// Whether one of some levels has a signal of the name.
+fn is_own_somewhere(levels: &[&Level], name: &str) -> bool
+    ensures { result ≡ list_any (λ level. is_own level.now.signals name.now) levels.now }
 {
-    match signal_named(level.signals.as_slice(), name) {
-        Some(signal) => signal.1.is_none(),
-        None => lacks_at(outer, name),
+    for level in levels {
+        if is_own(level.signals.as_slice(), name) {
+            return true;
+        }
     }
+    false
 }
 
 impl ParamReader for NamesAt<'_> {
-    ghost values = { λ names. values_at names.levels.now };
+    ghost values = { λ names. values_at names.stores.now names.levels.now };
 
-    fn param(&self, _: Global, name: &str) -> Result<Cell, EvalError> {
-        value_at(self.levels, name)
+    fn param(&self, alloc: Global, name: &str) -> Result<Cell, EvalError> {
+        value_at(alloc, self.stores, self.levels, name)
     }
 
-    fn member(&self, _: Global, _: &str, _: &str) -> Result<Cell, OutOfMemory> {
-        Ok(Cell::Null)
+    fn member(&self, alloc: Global, name: &str, field: &str) -> Result<Cell, OutOfMemory> {
+        if is_own_somewhere(self.levels, name) {
+            Ok(Cell::Null)
+        } else {
+            self.stores.member(alloc, name, field)
+        }
     }
 
-    fn stored(&self, _: &str) -> u64 {
-        0
+    fn stored(&self, store: &str) -> u64 {
+        self.stores.stored(store)
     }
 
     fn selected<R: RowReader, L: Ledger>(
         &self,
-        _: Global,
-        _: &str,
-        _: &R,
-        _: &mut Steps<L>,
+        alloc: Global,
+        store: &str,
+        row: &R,
+        steps: &mut Steps<L>,
     ) -> Result<bool, OutOfMemory> {
-        Ok(false)
+        self.stores.selected(alloc, store, row, steps)
     }
 
     fn domain_length(&self, _: &str) -> u64 {

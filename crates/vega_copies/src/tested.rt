@@ -1,4 +1,4 @@
-// Whether a specification has a meaning so far and keeps the rules.
+// Whether a specification keeps the rules.
 ghost use Rattle.std.specs.Prelude.{◌≡◌, ◌&&◌, ◌∷◌, ◌+◌, ◌-◌, ◌^◌, [], pos, min, int_lt, IfOk, true, nat_eq, nat_lt, length, unwrap_or};
 ghost use Rattle.std.specs.Option.{option_map_or};
 ghost use Rattle.std.specs.List.{list_all};
@@ -11,9 +11,9 @@ ghost use Rattle.vega_scales.specs.Ranges.{two_numbers};
 ghost use Rattle.vega_scales.specs.Scales.{given_ends};
 ghost use Rattle.vega_copies.specs.Outlines.{object_here, outline_of, count_marks, count_groups};
 ghost use Rattle.vega_copies.specs.Tested.{is_padding, is_pixel, is_range, is_set, has_places, is_scale, is_count, has_columns, is_size, is_space};
-ghost use Rattle.vega_copies.specs.Tested.{is_plain, are_few, is_outline, has_sizes, are_new, is_chart};
+ghost use Rattle.vega_copies.specs.Tested.{keeps_object, are_few, is_outline, has_sizes, are_new, keeps_rules};
 ghost use Rattle.vega_copies.specs.inner.Outlined.{marks_in, marks_of};
-ghost use Rattle.vega_copies.specs.inner.Tested.{is_object, are_objects, group_is_kept};
+ghost use Rattle.vega_copies.specs.inner.Tested.{are_objects, group_is_kept};
 
 use crate::apart::are_new;
 use crate::folds::folds_fit;
@@ -26,10 +26,9 @@ use text_kit::OutOfMemory;
 use vega_guides::has_kept_axes;
 use vega_lists::transforms_of;
 use vega_scales::{is_built, is_domain_built, is_ordinal};
-use vega_signals::{data_of, signals_of};
+use vega_signals::data_of;
 use vega_spec::{
-    DataSet, Group, Layout, Lookup, Range, Scale, Signal, Size, Transform, VgMark, VgSpec,
-    sources_of,
+    DataSet, Group, Layout, Lookup, Range, Scale, Size, Transform, VgMark, VgSpec, sources_of,
 };
 
 // A padding of bands is from 0 to 1.
@@ -233,26 +232,11 @@ fn is_size(size: &Option<Size>) -> bool
     }
 }
 
-// A signal that does nothing on events is no selection.
-fn is_plain(signal: &Signal) -> bool
-    ensures { result ≡ is_plain signal.now }
+// What an object has is as specifications may have it.
+fn keeps_object(group: &Group) -> bool
+    ensures { result ≡ keeps_object (object_here (out-Group group.now)) }
 {
-    signal.on.is_none()
-}
-
-// None of these is a selection.
-fn are_plain(signals: &[Signal]) -> bool
-    ensures { result ≡ list_all is_plain signals.now }
-{
-    signals.iter().all(is_plain)
-}
-
-// An object has no selections, and what it has is as specifications may have it.
-fn is_object(group: &Group) -> bool
-    ensures { result ≡ is_object (object_here (out-Group group.now)) }
-{
-    are_plain(signals_of(group))
-        && are_sets(data_of(group))
+    are_sets(data_of(group))
         && are_scales(scales_in(group))
         && has_kept_axes(group)
         && has_columns(&group.layout)
@@ -290,7 +274,7 @@ fn are_objects_in(mark: &VgMark) -> bool
 fn group_is_kept(mark: &VgMark) -> bool
     ensures { result ≡ group_is_kept (out-VgMark mark.now) }
 {
-    is_object(&mark.group) && are_objects(marks_in(&mark.group))
+    keeps_object(&mark.group) && are_objects(marks_in(&mark.group))
 }
 
 // How many marks other than groups there are, up to the greatest number of 64 bits.
@@ -370,16 +354,16 @@ fn are_few(marks: &[VgMark]) -> bool
 
 // All of this holds of the top with its marks.
 fn are_all_objects(group: &Group) -> bool
-    ensures { result ≡ (is_object (object_here (out-Group group.now))
+    ensures { result ≡ (keeps_object (object_here (out-Group group.now))
         && (are_objects (marks_of (marks_in (out-Group group.now))) && are_few (marks_of (marks_in (out-Group group.now))))) }
 {
-    is_object(group) && are_objects(marks_in(group)) && are_few(marks_in(group))
+    keeps_object(group) && are_objects(marks_in(group)) && are_few(marks_in(group))
 }
 
 // The same, and no path of data sets folds too far.
 #[tactic(auto, using(crate::proofs::TreeLemmas::outline_by_folds, crate::proofs::TreeLemmas::no_outline))]
 fn is_outline(alloc: Global, g: &VgSpec) -> Result<bool, OutOfMemory>
-    ensures { IfOk result (λ is. is ≡ is_outline is_object (outline_of g.now)) }
+    ensures { IfOk result (λ is. is ≡ is_outline keeps_object (outline_of g.now)) }
 {
     if are_all_objects(&g.group) {
         Ok(folds_fit(alloc, &g.group)?)
@@ -414,11 +398,10 @@ fn has_sizes_and_names(alloc: Global, g: &VgSpec) -> Result<bool, OutOfMemory>
     }
 }
 
-/// Whether a specification has a meaning so far, and keeps the rules that its chart needs. The time is near linear in the specification,
-/// times how deep groups stand in each other.
-#[tactic(auto, using(crate::proofs::TreeLemmas::chart_by_rest, crate::proofs::TreeLemmas::no_chart))]
-pub fn is_chart(alloc: Global, g: &VgSpec) -> Result<bool, OutOfMemory>
-    ensures { IfOk result (λ is. is ≡ is_chart g.now) }
+/// Whether a specification keeps the rules that its chart needs. The time is near linear in the specification, times how deep groups stand in
+/// each other.
+pub fn keeps_rules(alloc: Global, g: &VgSpec) -> Result<bool, OutOfMemory>
+    ensures { IfOk result (λ is. is ≡ keeps_rules g.now) }
 {
     if is_outline(alloc, g)? {
         has_sizes_and_names(alloc, g)

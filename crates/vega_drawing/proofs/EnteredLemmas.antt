@@ -49,7 +49,7 @@ moved_frame f x y is =
     record { scales = is.scales; set = is.set; sound = is.sound; axes = is.axes; width = is.width; height = is.height }
 
 pub entered_frame : (outer : HeldFrame) (path : Bor (List Step)) (levels : Bor (List (Bor Settled))) (cells : Option (Bor (List (List ℕ × Cell)))) → IsFrame outer
-    → IsFrame (record outer { path = path; values = record { levels = levels }; cells = cells })
+    → IsFrame (record outer { path = path; values = record { stores = outer.values.stores; levels = levels }; cells = cells })
 entered_frame outer path levels cells is =
     record { scales = is.scales; set = is.set; sound = is.sound; axes = is.axes; width = is.width; height = is.height }
 
@@ -62,8 +62,8 @@ module _ (items : ItemsOfMarks) (lists : ListsOnPaths) (outer : HeldFrame) (unit
       → drawn_entered items lists outer path levels cells unit number m copy
       ≡ drawn_copy items (frame_seen lists outer) unit number m (copy_in_frame lists outer step copy)
   copy_entered path levels cells there more both =
-      let values : values_over levels ≡ values_inside (out-CopyFacts copy).signals (values_of outer) =
-      values_entered levels outer.values.levels.now (out-CopyFacts copy).signals more in
+      let values : values_over outer.values.stores.now levels ≡ values_inside (out-CopyFacts copy).signals (values_of outer) =
+      values_entered outer.values.stores.now levels outer.values.levels.now (out-CopyFacts copy).signals more in
       (λ i. drawn_scaled items (record (frame_seen lists outer) {
         names = record { lists = lists (there i); values = values i };
         cells = both i;

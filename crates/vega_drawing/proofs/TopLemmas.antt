@@ -9,7 +9,8 @@ use Rattle.std.specs.List.{filter}
 use Rattle.fixed_num.specs.Ranges.{◌>>=◌}
 use Rattle.cell_value.specs.declared.cell.Cell.{Cell}
 use Rattle.expr_eval.specs.Answers.{Evaluates}
-use Rattle.expr_eval.specs.Plain.{no_values}
+use Rattle.cell_value.specs.declared.state.StoreOf.{StoreOf}
+use Rattle.expr_eval.specs.Stores.{values_of_stores}
 use Rattle.expr_eval.specs.Values.{Values}
 use Rattle.expr_eval.specs.declared.error.EvalError.{EvalError}
 use Rattle.expr_eval.specs.declared.error.EvalError.TheVariants.{Overflow, Memory}
@@ -173,17 +174,17 @@ module _ (items : ItemsOfMarks) (g : VgSpec) (found : Found) where
 abbrev pub scales_on_top : VgSpec → CopyFacts → List ScaleHere
 scales_on_top g facts = and_outer [] (own_scales (of_chart (top_of g).object.layout) (top_of g).object.scales (out-CopyFacts facts).domains)
 
-module _ (items : ItemsOfMarks) (lists : ListsOnPaths) (g : VgSpec) (facts : CopyFacts) where
+module _ (items : ItemsOfMarks) (lists : ListsOnPaths) (stores : List StoreOf) (g : VgSpec) (facts : CopyFacts) where
   abbrev values_on_top : Values
-  values_on_top = values_inside (out-CopyFacts facts).signals no_values
+  values_on_top = values_inside (out-CopyFacts facts).signals (values_of_stores stores)
 
   pub top_is_drawn : drawn_top items g (found_on_top lists values_on_top facts)
       (top_seen (names_on_top lists values_on_top) (out-CopyFacts facts).cells (scales_on_top g facts) (pos 0) (pos 0))
-      ≡ drawn_from_facts items g (outline_of g) (copy_seen lists facts [] no_values)
+      ≡ drawn_from_facts items g (outline_of g) (copy_seen lists facts [] (values_of_stores stores))
   top_is_drawn =
       ap (λ cells. drawn_top items g (found_on_top lists values_on_top facts) (top_seen (names_on_top lists values_on_top) cells (scales_on_top g facts) (pos 0) (pos 0)))
       (behind_none (out-CopyFacts facts).cells)
-      ∙ sym (λ i. drawn_from_facts items g (outline_is g i) (copy_opened lists facts [] no_values i))
+      ∙ sym (λ i. drawn_from_facts items g (outline_is g i) (copy_opened lists facts [] (values_of_stores stores) i))
 
 -- ---- scales that pass a test, one after the other
 

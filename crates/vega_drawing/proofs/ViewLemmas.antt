@@ -83,7 +83,7 @@ module _ (outer : HeldFrame) (spot : Spot) (scales : Bor (List HeldScale)) (axes
 
 pub headed_frame : (outer : HeldFrame) (path : Bor (List Step)) (levels : Bor (List (Bor Settled))) (cells : Option (Bor (List (List ℕ × Cell))))
     (headers : Bor (List Header)) → IsFrame outer
-    → IsFrame (record outer { path = path; values = record { levels = levels }; cells = cells; headers = headers })
+    → IsFrame (record outer { path = path; values = record { stores = outer.values.stores; levels = levels }; cells = cells; headers = headers })
 headed_frame outer path levels cells headers is =
     record { scales = is.scales; set = is.set; sound = is.sound; axes = is.axes; width = is.width; height = is.height }
 
@@ -97,8 +97,8 @@ module _ (items : ItemsOfMarks) (lists : ListsOnPaths) (outer : HeldFrame) (unit
       → view_entered items lists outer path levels cells headers unit number m copy
       ≡ view_at items (frame_seen lists outer) unit number m (copy_in_frame lists outer step copy)
   view_is_entered path levels cells headers there more both shown =
-      let values : values_over levels ≡ values_inside (out-CopyFacts copy).signals (values_of outer) =
-      values_entered levels outer.values.levels.now (out-CopyFacts copy).signals more in
+      let values : values_over outer.values.stores.now levels ≡ values_inside (out-CopyFacts copy).signals (values_of outer) =
+      values_entered outer.values.stores.now levels outer.values.levels.now (out-CopyFacts copy).signals more in
       (λ i. view_named items (record (frame_seen lists outer) {
         names = record { lists = lists (there i); values = values i };
         cells = both i;

@@ -2,7 +2,7 @@
 ghost use Rattle.std.specs.Prelude.{◌≡◌, ◌∷◌, ◌++◌, [], pos, map, IfOk, IfSome, OnOk};
 ghost use Rattle.std.specs.List.{filter};
 ghost use Rattle.expr_eval.specs.Answers.{Evaluates};
-ghost use Rattle.expr_eval.specs.Plain.{no_values};
+ghost use Rattle.expr_eval.specs.Stores.{values_of_stores};
 ghost use Rattle.scale_kit.specs.Scale.{IsPixel, AreScales};
 ghost use Rattle.vega_guides.specs.Shown.{IsCount};
 ghost use Rattle.vega_spec.specs.declared.spec.Group.{out-Group};
@@ -31,7 +31,7 @@ use crate::scales::{AxisHere, OfChart, ScaleHere, and_outer, scale_in, set_of};
 use crate::sizes::{number, padding_round, size_of};
 use crate::values::{ValuesAt, with_signals};
 use cell_value::Cell;
-use expr_eval::EvalError;
+use expr_eval::{EvalError, Stores};
 use fixed_num::Num;
 use guide_kit::GuideError;
 use mark_encode::IndexedSet;
@@ -143,8 +143,8 @@ fn draw_sized<'s, 'x, 'i, M: MarkItems>(
     requires scales { AreScales set.now }
     requires width { IsPixel width }
     requires height { IsPixel height }
-    ensures { Evaluates result (drawn_plot (M.items maker.now) g.now (found_on_top (M.lists maker.now) (values_over values.entry.levels.now) facts.now)
-        (top_seen (names_on_top (M.lists maker.now) (values_over values.entry.levels.now)) (cells_seen cells.entry) (map scale_seen scales.now)
+    ensures { Evaluates result (drawn_plot (M.items maker.now) g.now (found_on_top (M.lists maker.now) (values_over values.entry.stores.now values.entry.levels.now) facts.now)
+        (top_seen (names_on_top (M.lists maker.now) (values_over values.entry.stores.now values.entry.levels.now)) (cells_seen cells.entry) (map scale_seen scales.now)
         width height)) }
 {
     let frame = top_frame(&[], values, scales, set, &[], cells, &[], width, height);
@@ -174,8 +174,8 @@ fn draw_plot<'s, 'x, M: MarkItems>(
     requires sound { M.sound maker.now }
     requires top { IsTop g.now sizing.now.scales.now facts.now }
     ensures { Evaluates result (sized_plot (M.items maker.now) g.now
-        (found_on_top (M.lists maker.now) (values_over sizing.now.values.levels.now) facts.now)
-        (top_seen (names_on_top (M.lists maker.now) (values_over sizing.now.values.levels.now)) (cells_seen cells.entry)
+        (found_on_top (M.lists maker.now) (values_over sizing.now.values.stores.now sizing.now.values.levels.now) facts.now)
+        (top_seen (names_on_top (M.lists maker.now) (values_over sizing.now.values.stores.now sizing.now.values.levels.now)) (cells_seen cells.entry)
         (map scale_seen sizing.now.scales.now) (pos 0) (pos 0))) }
 {
     let width = match size_of(alloc, &g.width, sizing) {
@@ -224,8 +224,8 @@ fn draw_axes<'s, 'x, 'i, M: MarkItems>(
     requires columns { IfSome layout.now.columns IsCount }
     requires size { IsPixel size }
     ensures { Evaluates result (drawn_grid (M.items maker.now) g.now layout.now
-        (found_on_top (M.lists maker.now) (values_over values.entry.levels.now) facts.now)
-        (with_axes (map axis_seen axes.now) (top_seen (names_on_top (M.lists maker.now) (values_over values.entry.levels.now)) (cells_seen cells.entry)
+        (found_on_top (M.lists maker.now) (values_over values.entry.stores.now values.entry.levels.now) facts.now)
+        (with_axes (map axis_seen axes.now) (top_seen (names_on_top (M.lists maker.now) (values_over values.entry.stores.now values.entry.levels.now)) (cells_seen cells.entry)
         (map scale_seen scales.now) size size))) }
 {
     let frame = top_frame(&[], values, scales, set, axes, cells, &[], size, size);
@@ -259,8 +259,8 @@ fn draw_grid<'s, 'x, M: MarkItems>(
     requires top { IsTop g.now scales.now facts.now }
     requires columns { IfSome layout.now.columns IsCount }
     ensures { Evaluates result (grid_with_axes (M.items maker.now) g.now layout.now
-        (found_on_top (M.lists maker.now) (values_over values.entry.levels.now) facts.now)
-        (top_seen (names_on_top (M.lists maker.now) (values_over values.entry.levels.now)) (cells_seen cells.entry) (map scale_seen scales.now)
+        (found_on_top (M.lists maker.now) (values_over values.entry.stores.now values.entry.levels.now) facts.now)
+        (top_seen (names_on_top (M.lists maker.now) (values_over values.entry.stores.now values.entry.levels.now)) (cells_seen cells.entry) (map scale_seen scales.now)
         (pos 0) (pos 0))) }
 {
     let size = no_length();
@@ -294,8 +294,8 @@ fn draw_top<'s, 'x, M: MarkItems>(
 ) -> Result<Drawing, EvalError>
     requires sound { M.sound maker.now }
     requires top { IsTop g.now scales.now facts.now }
-    ensures { Evaluates result (drawn_top (M.items maker.now) g.now (found_on_top (M.lists maker.now) (values_over values.entry.levels.now) facts.now)
-        (top_seen (names_on_top (M.lists maker.now) (values_over values.entry.levels.now)) (cells_seen cells.entry) (map scale_seen scales.now)
+    ensures { Evaluates result (drawn_top (M.items maker.now) g.now (found_on_top (M.lists maker.now) (values_over values.entry.stores.now values.entry.levels.now) facts.now)
+        (top_seen (names_on_top (M.lists maker.now) (values_over values.entry.stores.now values.entry.levels.now)) (cells_seen cells.entry) (map scale_seen scales.now)
         (pos 0) (pos 0))) }
 {
     match &g.group.layout {
@@ -319,19 +319,21 @@ fn of_top(layout: &Option<Layout>) -> OfChart
 
 /// What is drawn of a specification of which these facts were found, with the items of its marks from a maker: the picture with its panels,
 /// and the scales of its plots. `Overflow` comes exactly where a number is out of range. No row is read: the domains of scales, the values of
-/// signals and the copies of groups are those of the facts. The time is near linear in the facts and in what is drawn, for each plot in the
-/// domains of the scales that have names in it, and for each axis and legend in the domain of its scale.
-pub fn drawn<M: MarkItems>(
+/// signals and the copies of groups are those of the facts; what is read of selections is read of the stores. The time is near linear in the
+/// facts and in what is drawn, for each plot in the domains of the scales that have names in it, and for each axis and legend in the domain
+/// of its scale.
+pub fn drawn<'x, M: MarkItems>(
     alloc: Global,
     g: &VgSpec,
-    facts: &CopyFacts,
+    facts: &'x CopyFacts,
+    stores: &'x Stores<'x>,
     maker: &M,
 ) -> Result<Drawing, EvalError>
     requires kept { KeepsAll g.now }
     requires sound { M.sound maker.now }
     requires fit { FactsFit (object_here (out-Group g.now.group)) (marks_of (marks_in (out-Group g.now.group))) facts.now }
     ensures { Evaluates result (drawn_from_facts (M.items maker.now) g.now (outline_of g.now)
-        (copy_seen (M.lists maker.now) facts.now [] no_values)) }
+        (copy_seen (M.lists maker.now) facts.now [] (values_of_stores stores.now))) }
 {
     let own = kept_scales(
         alloc,
@@ -349,7 +351,10 @@ pub fn drawn<M: MarkItems>(
         maker,
         g,
         facts,
-        ValuesAt { levels: signals },
+        ValuesAt {
+            stores,
+            levels: signals,
+        },
         slice_of(&facts.cells),
         here,
     )

@@ -70,7 +70,7 @@ fn length_of(scales: &[ScaleHere], name: &str) -> u64
 }
 
 impl ParamReader for Sizing<'_, '_> {
-    ghost values = { λ sizing. with_domains (map scale_seen sizing.scales.now) (values_over sizing.values.levels.now) };
+    ghost values = { λ sizing. with_domains (map scale_seen sizing.scales.now) (values_over sizing.values.stores.now sizing.values.levels.now) };
 
     fn param(&self, alloc: Global, name: &str) -> Result<Cell, EvalError> {
         self.values.param(alloc, name)

@@ -384,7 +384,10 @@ fn entered_view<'s, 'x, M: MarkItems>(
 {
     let named = Frame {
         path,
-        values: ValuesAt { levels },
+        values: ValuesAt {
+            stores: outer.values.stores,
+            levels,
+        },
         cells,
         headers,
         ..*outer

@@ -245,7 +245,10 @@ fn draw_entered<'x, M: MarkItems>(
 {
     let named = Frame {
         path,
-        values: ValuesAt { levels },
+        values: ValuesAt {
+            stores: outer.values.stores,
+            levels,
+        },
         cells,
         ..*outer
     };

@@ -1,4 +1,5 @@
 mod ColumnLemmas
 mod KnownLemmas
 mod ScaleLemmas
+pub mod FitsLemmas
 mod TimeLemmas

@@ -1,5 +1,5 @@
 -- What holds of the domains of scales.
-use Rattle.std.specs.Prelude.{◌≡◌, ℕ, ℤ, true, false, Option, Some, None, List}
+use Rattle.std.specs.Prelude.{◌≡◌, ℕ, ℤ, true, false, Option, Some, None, IsTrue, List}
 use Rattle.std.specs.Option.{option_map}
 use Rattle.cell_value.specs.declared.cell.Cell.{Cell}
 use Rattle.expr_eval.specs.Values.{Values}
@@ -14,7 +14,8 @@ use Rattle.vega_spec.specs.declared.scales.Scale.{Scale}
 use Rattle.vega_lists.specs.Scopes.{Scope}
 use Rattle.vega_scales.specs.declared.scaled.Scaled.{Scaled}
 use Rattle.vega_scales.specs.Domains.{cells_referred, entries_referred}
-use Rattle.vega_scales.specs.Scales.{is_discrete, domain_of, domain_size, domain_length}
+use Rattle.scale_kit.specs.Scale.{IsScale, IsPixel}
+use Rattle.vega_scales.specs.Scales.{is_discrete, is_built, domain_of, domain_size, domain_length, scale_over, FitsScale, KeepsBounds}
 use Rattle.vega_scales.specs.Known.{references_of, sort_of, numbers_referred, domain_of_numbers, domain_of_cells, domain_by_rank}
 
 -- a scale that has a domain is as long as that
@@ -51,3 +52,13 @@ RanksGiveTheDomain =
     → sort_of s.domain ≡ Some (order.Operation direction op field)
     → option_map (λ ranks. domain_by_rank ranks s) (all_ranked op (entries_referred scope field (references_of s.domain)))
     ≡ domain_of values scope s
+
+-- what a scale scales fits it
+abbrev pub DomainsFit : Type 0
+DomainsFit = (values : Values) (scope : Scope) (s : Scale) (domain : Scaled) → domain_of values scope s ≡ Some domain → FitsScale s domain
+
+-- what callers ask of a scale holds of one over a domain that fits it, in a plot of a size that plots may have
+abbrev pub ScalesAreSound : Type 0
+ScalesAreSound =
+    (s : Scale) (width height : ℤ) (domain : Scaled) → IsTrue (is_built s) → KeepsBounds s → IsPixel width → IsPixel height → FitsScale s domain
+    → IsScale (scale_over s width height domain)

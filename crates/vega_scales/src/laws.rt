@@ -1,5 +1,5 @@
 // Laws that callers build on.
-ghost use Rattle.vega_scales.specs.Laws.{LengthIsSize, NumbersGiveTheDomain, CellsGiveTheDomain, RanksGiveTheDomain};
+ghost use Rattle.vega_scales.specs.Laws.{LengthIsSize, NumbersGiveTheDomain, CellsGiveTheDomain, RanksGiveTheDomain, DomainsFit, ScalesAreSound};
 
 /// A scale that has a domain is as long as that.
 pub fn laws_of_scales()
@@ -12,4 +12,10 @@ pub fn laws_of_known_domains()
     ensures numbers { NumbersGiveTheDomain }
     ensures cells { CellsGiveTheDomain }
     ensures ranks { RanksGiveTheDomain }
+{}
+
+/// What a scale scales fits it, and the scale over that is such as callers ask for.
+pub fn laws_of_domains()
+    ensures fit { DomainsFit }
+    ensures sound { ScalesAreSound }
 {}

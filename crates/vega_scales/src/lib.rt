@@ -15,7 +15,7 @@ mod scales;
 
 pub use domains::discrete_domain;
 pub use known::{domain_by_rank, domain_of_cells, domain_of_numbers};
-pub use laws::{laws_of_known_domains, laws_of_scales};
+pub use laws::{laws_of_domains, laws_of_known_domains, laws_of_scales};
 pub use scaled::{Scaled, domain_size};
 pub use scales::{
     domain_length, domain_of, is_built, is_discrete, is_domain_built, is_ordinal, scale_of,

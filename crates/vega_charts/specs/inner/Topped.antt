@@ -1,7 +1,8 @@
 -- The top of a specification behind references.
 use Rattle.std.specs.Prelude.{List}
 use Rattle.cell_value.specs.declared.state.Named.{Named}
-use Rattle.expr_eval.specs.Plain.{no_values}
+use Rattle.cell_value.specs.declared.state.StoreOf.{StoreOf}
+use Rattle.expr_eval.specs.Stores.{values_of_stores}
 use Rattle.vega_spec.specs.declared.spec.Group.{out-Group}
 use Rattle.vega_spec.specs.declared.spec.VgSpec.{VgSpec}
 use Rattle.vega_lists.specs.Held.{scope_read}
@@ -21,8 +22,8 @@ top_of g = record { object = object_here (out-Group g.group); marks = marks_from
 abbrev pub rows_on_top : List Named → Level → RowsByName
 rows_on_top sources level = rows_inside sources (parts_over level.parts no_rows) level.lists
 
-abbrev pub names_on_top : List Named → Level → Names
-names_on_top sources level = record {
+abbrev pub names_on_top : List StoreOf → List Named → Level → Names
+names_on_top stores sources level = record {
   lists = scope_read (rows_on_top sources level);
-  values = values_inside level.signals no_values;
+  values = values_inside level.signals (values_of_stores stores);
 }

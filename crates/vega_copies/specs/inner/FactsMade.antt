@@ -5,9 +5,11 @@ use Rattle.std.specs.List.{AllZip}
 use Rattle.fixed_num.specs.Ranges.{◌>>=◌, all_found}
 use Rattle.cell_value.specs.declared.cell.Cell.{Cell}
 use Rattle.cell_value.specs.declared.state.Named.{Named}
+use Rattle.cell_value.specs.declared.state.StoreOf.{StoreOf}
 use Rattle.cell_value.specs.State.{Dataset}
 use Rattle.vega_scales.specs.Scales.{domain_of, FitsScale}
 use Rattle.vega_scales.specs.declared.scaled.Scaled.{Scaled}
+use Rattle.vega_lists.specs.Held.{scope_read}
 use Rattle.vega_signals.specs.Extents.{Settled}
 use Rattle.vega_spec.specs.declared.scales.Scale.{Scale as VegaScale}
 use Rattle.vega_spec.specs.declared.spec.Group.{Group, out-Group}
@@ -25,7 +27,7 @@ use Rattle.vega_copies.specs.Facets.{Copy}
 use Rattle.vega_copies.specs.CopyNames.{names_in_copy}
 use Rattle.vega_copies.specs.Facts.{CopyFound, copy_found, found_in}
 use Rattle.vega_copies.specs.inner.FactsSeen.{ListsOnPaths}
-use Rattle.vega_copies.specs.inner.Made.{names_under}
+use Rattle.vega_copies.specs.inner.Made.{names_under, rows_under}
 use Rattle.vega_copies.specs.inner.Outlined.{group_object, marks_in, marks_of}
 
 -- ---- what names stand for on paths
@@ -72,7 +74,7 @@ levels_at level made (step ∷ outer) =
 
 -- the rows for which names stand there
 abbrev pub lists_on : List Named → MadeAt → ListsOnPaths
-lists_on sources top path = (names_under sources (made_at top path).levels).lists
+lists_on sources top path = scope_read (rows_under sources (made_at top path).levels)
 
 -- ---- facts of what was made
 
@@ -108,24 +110,24 @@ facts_over own inside = roll-CopyFacts (record { cells = own.cells; signals = ow
 
 -- What holds of the facts of a copy of an object, where these are its levels of names, the values of its own signals and its cells, and this was
 -- made of the marks in it.
-pub record IsFactsOf (sources : List Named) (o : Object) (Inside : List Level → List CopiesMade → List MarkFacts → Type 0) (levels : List Level)
+pub record IsFactsOf (stores : List StoreOf) (sources : List Named) (o : Object) (Inside : List Level → List CopiesMade → List MarkFacts → Type 0) (levels : List Level)
     (signals : Settled) (cells : Option (List (List ℕ × Cell))) (made : List CopiesMade) (c : CopyFacts) : Type 0 where
   pub cells_are : (out-CopyFacts c).cells ≡ cells
   pub signals_are : (out-CopyFacts c).signals ≡ signals
-  pub kept : keeps_signals (names_under sources levels) o ≡ true
-  pub domains : all_found (map (domain_at (names_under sources levels)) o.scales) ≡ Some (out-CopyFacts c).domains
+  pub kept : keeps_signals (names_under stores sources levels) o ≡ true
+  pub domains : all_found (map (domain_at (names_under stores sources levels)) o.scales) ≡ Some (out-CopyFacts c).domains
   pub fits : AllZip FitsScale o.scales (out-CopyFacts c).domains
   pub inside : Inside levels made (out-CopyFacts c).inside
 
 -- the same of a copy of a group that was made
-abbrev pub IsFactsIn : List Named → Object → (List Level → List CopiesMade → List MarkFacts → Type 0) → List Level → CopyMade → CopyFacts → Type 0
-IsFactsIn sources o Inside levels copy c =
-    IsFactsOf sources o Inside ((out-CopyMade copy).level ∷ levels) (out-CopyMade copy).level.signals (out-CopyMade copy).cells (out-CopyMade copy).inside c
+abbrev pub IsFactsIn : List StoreOf → List Named → Object → (List Level → List CopiesMade → List MarkFacts → Type 0) → List Level → CopyMade → CopyFacts → Type 0
+IsFactsIn stores sources o Inside levels copy c =
+    IsFactsOf stores sources o Inside ((out-CopyMade copy).level ∷ levels) (out-CopyMade copy).level.signals (out-CopyMade copy).cells (out-CopyMade copy).inside c
 
 -- the facts of a group: those of its copies
-pub record AreGroupFacts (sources : List Named) (o : Object) (Inside : List Level → List CopiesMade → List MarkFacts → Type 0) (levels : List Level)
+pub record AreGroupFacts (stores : List StoreOf) (sources : List Named) (o : Object) (Inside : List Level → List CopiesMade → List MarkFacts → Type 0) (levels : List Level)
     (made : CopiesMade) (facts : MarkFacts) : Type 0 where
-  pub copies : AllZip (IsFactsIn sources o Inside levels) (out-CopiesMade made).copies (out-MarkFacts facts).copies
+  pub copies : AllZip (IsFactsIn stores sources o Inside levels) (out-CopiesMade made).copies (out-MarkFacts facts).copies
   pub across : (out-MarkFacts facts).across ≡ (out-CopiesMade made).across
 
 -- those of a mark other than a group
@@ -134,22 +136,22 @@ pub record IsNoFacts (facts : MarkFacts) : Type 0 where
   pub across : (out-MarkFacts facts).across ≡ None
 
 -- the facts of each of some marks, where these are the levels of names and this was made of each
-abbrev pub HasFacts : List Named → Marks → List Level → List CopiesMade → List MarkFacts → Type 0
-HasFacts sources NoMarks levels made [] = Unit {0}
-HasFacts sources NoMarks levels made (facts ∷ more) = ⊥
-HasFacts sources (AMark unit mark others) levels [] facts = ⊥
-HasFacts sources (AMark unit mark others) levels (found ∷ made) [] = ⊥
-HasFacts sources (AMark unit mark others) levels (found ∷ made) (facts ∷ more) = IsNoFacts facts × HasFacts sources others levels made more
-HasFacts sources (AGroup o inside others) levels [] facts = ⊥
-HasFacts sources (AGroup o inside others) levels (found ∷ made) [] = ⊥
-HasFacts sources (AGroup o inside others) levels (found ∷ made) (facts ∷ more) =
-    AreGroupFacts sources o (HasFacts sources inside) levels found facts × HasFacts sources others levels made more
+abbrev pub HasFacts : List StoreOf → List Named → Marks → List Level → List CopiesMade → List MarkFacts → Type 0
+HasFacts stores sources NoMarks levels made [] = Unit {0}
+HasFacts stores sources NoMarks levels made (facts ∷ more) = ⊥
+HasFacts stores sources (AMark unit mark others) levels [] facts = ⊥
+HasFacts stores sources (AMark unit mark others) levels (found ∷ made) [] = ⊥
+HasFacts stores sources (AMark unit mark others) levels (found ∷ made) (facts ∷ more) = IsNoFacts facts × HasFacts stores sources others levels made more
+HasFacts stores sources (AGroup o inside others) levels [] facts = ⊥
+HasFacts stores sources (AGroup o inside others) levels (found ∷ made) [] = ⊥
+HasFacts stores sources (AGroup o inside others) levels (found ∷ made) (facts ∷ more) =
+    AreGroupFacts stores sources o (HasFacts stores sources inside) levels found facts × HasFacts stores sources others levels made more
 
 -- the facts of one mark
-abbrev pub OneHasFacts : List Named → List Level → VgMark → CopiesMade → MarkFacts → Type 0
-OneHasFacts sources levels m found facts = HasFacts sources (marks_of (m ∷ [])) levels (found ∷ []) (facts ∷ [])
+abbrev pub OneHasFacts : List StoreOf → List Named → List Level → VgMark → CopiesMade → MarkFacts → Type 0
+OneHasFacts stores sources levels m found facts = HasFacts stores sources (marks_of (m ∷ [])) levels (found ∷ []) (facts ∷ [])
 
 -- those of a copy of a group
-abbrev pub CopyHasFacts : List Named → List Level → VgMark-F Group VgMark → CopyMade → CopyFacts → Type 0
-CopyHasFacts sources levels m copy c =
-    IsFactsIn sources (group_object 0 m) (HasFacts sources (marks_of (marks_in (out-Group m.group)))) levels copy c
+abbrev pub CopyHasFacts : List StoreOf → List Named → List Level → VgMark-F Group VgMark → CopyMade → CopyFacts → Type 0
+CopyHasFacts stores sources levels m copy c =
+    IsFactsIn stores sources (group_object 0 m) (HasFacts stores sources (marks_of (marks_in (out-Group m.group)))) levels copy c

@@ -6,7 +6,8 @@ use Rattle.std.specs.Borrow.{Bor}
 use Rattle.cell_value.specs.declared.cell.Cell.{Cell}
 use Rattle.cell_value.specs.declared.state.Keyed.{Keyed}
 use Rattle.cell_value.specs.declared.state.Named.{Named}
-use Rattle.expr_eval.specs.Plain.{no_values}
+use Rattle.cell_value.specs.declared.state.StoreOf.{StoreOf}
+use Rattle.expr_eval.specs.Stores.{values_of_stores}
 use Rattle.expr_eval.specs.Values.{Values}
 use Rattle.vega_lists.specs.Inside.{RowsByName, no_rows, rows_held, rows_inside}
 use Rattle.vega_lists.specs.Held.{scope_read, AreSources, AreAllRows}
@@ -47,18 +48,18 @@ abbrev pub rows_at : List Named → List (Bor Level) → RowsByName
 rows_at sources [] = no_rows
 rows_at sources (level ∷ outer) = rows_inside sources (parts_over level.now.parts (rows_at sources outer)) level.now.lists
 
--- the values of signals there
-abbrev pub values_at : List (Bor Level) → Values
-values_at [] = no_values
-values_at (level ∷ outer) = values_inside level.now.signals (values_at outer)
+-- the values of signals there, and what is read of these stores of selections
+abbrev pub values_at : List StoreOf → List (Bor Level) → Values
+values_at stores [] = values_of_stores stores
+values_at stores (level ∷ outer) = values_inside level.now.signals (values_at stores outer)
 
 -- what names stand for there
-abbrev pub names_at : List Named → List (Bor Level) → Names
-names_at sources levels = record { lists = scope_read (rows_at sources levels); values = values_at levels }
+abbrev pub names_at : List StoreOf → List Named → List (Bor Level) → Names
+names_at stores sources levels = record { lists = scope_read (rows_at sources levels); values = values_at stores levels }
 
 -- what names stand for round a copy with parts of lists
 abbrev pub names_over : NamesAt → List Named → Names
-names_over outer parts = record (names_at outer.sources.now outer.levels.now) {
+names_over outer parts = record (names_at outer.stores.now outer.sources.now outer.levels.now) {
   lists = scope_read (parts_over parts (rows_at outer.sources.now outer.levels.now));
 }
 
@@ -71,7 +72,7 @@ rows_with_level outer level =
 abbrev pub names_with_level : NamesAt → Level → Names
 names_with_level outer level = record {
   lists = scope_read (rows_with_level outer level);
-  values = values_inside level.signals (values_at outer.levels.now);
+  values = values_inside level.signals (values_at outer.stores.now outer.levels.now);
 }
 
 -- what names stand for in an object whose given signals have these values, where a facet gives parts of lists

@@ -6,9 +6,9 @@ use Rattle.std.specs.BTreeMap as tree
 use Rattle.vega_spec.specs.declared.spec.Group.{Group, out-Group}
 use Rattle.vega_spec.specs.declared.spec.VgMark.{VgMark, VgMark-F}
 use Rattle.vega_lists.specs.Products.{Products, no_folds}
-use Rattle.vega_copies.specs.Outlines.{Object, Marks, object_here, facet_in}
+use Rattle.vega_copies.specs.Outlines.{Marks, object_here, facet_in}
 use Rattle.vega_copies.specs.Fitting.{products_in_copy, products_fitted, folds_fit_in}
-use Rattle.vega_copies.specs.Tested.{keeps_object, is_plain_object, all_objects}
+use Rattle.vega_copies.specs.Tested.{keeps_object, all_objects}
 use Rattle.vega_copies.specs.inner.Outlined.{marks_in, marks_of}
 
 -- the products of the names that an object gives itself
@@ -33,13 +33,10 @@ group_folds_fit products m =
     option_map_or (λ next. folds_fit_in next (marks_of (marks_in (out-Group m.group))))
     (products_fitted (products_in_copy (facet_in m.from) products) (object_here (out-Group m.group)).sets) false
 
--- an object that has no selections, and what it has is as specifications may have it
-abbrev pub is_object : Object → Bool
-is_object o = is_plain_object o && keeps_object o
-
+-- what each object among marks has is as specifications may have it
 abbrev pub are_objects : Marks → Bool
-are_objects = all_objects is_object
+are_objects = all_objects keeps_object
 
 -- whether a group is an object as specifications may have it, and so is each group in it
 abbrev pub group_is_kept : VgMark-F Group VgMark → Bool
-group_is_kept m = is_object (object_here (out-Group m.group)) && are_objects (marks_of (marks_in (out-Group m.group)))
+group_is_kept m = keeps_object (object_here (out-Group m.group)) && are_objects (marks_of (marks_in (out-Group m.group)))

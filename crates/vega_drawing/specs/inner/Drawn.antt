@@ -84,14 +84,14 @@ drawn_scaled items named unit number m domains found =
 -- a copy in another to which these steps lead, where these are the levels of signals and the cells of the facets round it
 abbrev pub entered : ListsOnPaths → HeldFrame → List Step → List (Bor Settled) → Option (Bor (List (List ℕ × Cell))) → Frame
 entered lists outer path levels cells =
-    record (frame_seen lists outer) { names = record { lists = lists path; values = values_over levels }; cells = cells_seen cells }
+    record (frame_seen lists outer) { names = record { lists = lists path; values = values_over outer.values.stores.now levels }; cells = cells_seen cells }
 
 -- what it draws
 abbrev pub drawn_entered : ItemsOfMarks → ListsOnPaths → HeldFrame → List Step → List (Bor Settled) → Option (Bor (List (List ℕ × Cell))) → ℕ → ℕ
     → VgMark-F Group VgMark → CopyFacts → Option Inside
 drawn_entered items lists outer path levels cells unit number m copy =
     drawn_scaled items (entered lists outer path levels cells) unit number m (out-CopyFacts copy).domains
-    (marks_seen lists path (values_over levels) 0 (out-CopyFacts copy).inside)
+    (marks_seen lists path (values_over outer.values.stores.now levels) 0 (out-CopyFacts copy).inside)
 
 abbrev pub drawn_copy : ItemsOfMarks → Frame → ℕ → ℕ → VgMark-F Group VgMark → CopyFound → Option Inside
 drawn_copy items outer unit number m copy = moved_copy outer (group_object number m) copy.facts >>= drawn_inside items unit number m copy.inside

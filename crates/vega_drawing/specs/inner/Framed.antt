@@ -21,7 +21,7 @@ cells_seen cells = option_map (λ c. c.now) cells
 
 -- the values of signals in a copy
 abbrev pub values_of : HeldFrame → Values
-values_of f = values_over f.values.levels.now
+values_of f = values_over f.values.stores.now f.values.levels.now
 
 -- a copy, where names stand for these rows on each path
 abbrev pub frame_seen : ListsOnPaths → HeldFrame → Frame

@@ -73,7 +73,7 @@ abbrev pub view_entered : ItemsOfMarks → ListsOnPaths → HeldFrame → List S
     → ℕ → ℕ → VgMark-F Group VgMark → CopyFacts → Option Placed
 view_entered items lists outer path levels cells headers unit number m copy =
     view_named items (record (entered lists outer path levels cells) { headers = headers }) unit number m (out-CopyFacts copy).domains
-    (marks_seen lists path (values_over levels) 0 (out-CopyFacts copy).inside)
+    (marks_seen lists path (values_over outer.values.stores.now levels) 0 (out-CopyFacts copy).inside)
 
 -- a copy in what stands round it, with its headers
 abbrev pub headed : Frame → Object → Facts → Frame

@@ -29,5 +29,5 @@ drawing_within-requires-clause-level c = ap (map (λ l. l.now)) c.as_slice.ensur
 pub returns-in-Ok : goal.returns-in-Ok
 returns-in-Ok c =
     subst (λ names. Comes (drawn_within (map dataset_of c.args.sources.now) c.args.g.now names) c.drawing_within.result)
-    (names_alike c.args.sources.now c.as_slice.result.now c.args.level.now (ap (map (λ l. l.now)) c.as_slice.ensures ∙ c.in-Ok.ensures))
+    (names_alike c.args.stores.now c.args.sources.now c.as_slice.result.now c.args.level.now (ap (map (λ l. l.now)) c.as_slice.ensures ∙ c.in-Ok.ensures))
     c.drawing_within.ensures

@@ -15,6 +15,6 @@ returns-then-plots-gt-MOST_PANELS c = too_many _ c.args.plots (grind (arith, nat
 pub returns-else-plots-gt-MOST_PANELS : goal.returns-else-plots-gt-MOST_PANELS
 returns-else-plots-gt-MOST_PANELS c =
     let drawn = drawing_over c.args.g.now (map dataset_of c.args.names.sources.now) (top_of c.args.g.now)
-    (names_at c.args.names.sources.now c.args.names.levels.now) in
+    (names_at c.args.names.stores.now c.args.names.sources.now c.args.names.levels.now) in
     subst (λ o. Comes o c.answered.result) (sym (few_enough (in_reach drawn) c.args.plots (grind (arith, nat_tests))))
     (subst (Comes (in_reach drawn)) (sym c.answered.ensures) (comes drawn c.drawing_made.result c.drawing_made.ensures))

@@ -21,7 +21,7 @@ made_in-requires-clause-marks c =
 
 pub drawing_of_made-requires-clause-marks : goal.drawing_of_made-requires-clause-marks
 drawing_of_made-requires-clause-marks c =
-    let one : VgMark → CopiesMade → Type 0 = OneMade c.args.names.sources.now (levels_behind c.args.names.levels.now) in
+    let one : VgMark → CopiesMade → Type 0 = OneMade c.args.names.stores.now c.args.names.sources.now (levels_behind c.args.names.levels.now) in
     record {
       stand = c.requires.marks;
       made =
@@ -33,7 +33,7 @@ pub returns-in-Err : goal.returns-in-Err
 returns-in-Err c =
     let g = c.args.g.now in
     let sources = map dataset_of c.args.names.sources.now in
-    let names = names_at c.args.names.sources.now c.args.names.levels.now in
+    let names = names_at c.args.names.stores.now c.args.names.sources.now c.args.names.levels.now in
     none_stopped (plots_in_facets sources (marks_of (marks_in (out-Group g.group))) false (is_some (out-Group g.group).layout) names) c.in-Err.error
     c.requires.counted
     (subst (λ marks. Evaluates {X = ℕ} (Err c.in-Err.error) (plots_in_facets sources (marks_of marks) false (is_some (out-Group g.group).layout) names)) c.marks_in.ensures

@@ -2,7 +2,7 @@ use Rattle.std.proofs.Common.{Err, map, sym, ◌∙◌, subst}
 use Rattle.std.proofs.lemmas.List.Elements.{All-nil}
 use Rattle.cell_value.specs.State.{dataset_of}
 use Rattle.expr_eval.specs.Answers.{Evaluates}
-use Rattle.expr_eval.specs.Plain.{no_values}
+use Rattle.expr_eval.specs.Stores.{values_of_stores}
 use Rattle.vega_lists.specs.Inside.{no_rows, AllKeysFit, SetsMayFold}
 use Rattle.vega_lists.specs.Products.{no_folds}
 use Rattle.vega_charts.specs.Answers.{Comes}
@@ -45,17 +45,17 @@ pub returns-in-Ok : goal.returns-in-Ok
 returns-in-Ok c =
     let sources = map dataset_of c.args.sources.now in
     let g = c.args.g.now in
-    subst (λ o. Comes o c.drawing_at.result) (sym (from_top g c.args.params.now sources))
-    (named c.drawing_at.result (names_at_top no_values c.args.params.now sources (top_of g).object) (drawn_within sources g)
-    (names_on_top c.args.sources.now c.in-Ok.level)
-    (sym (named_by sources c.new.result c.args.params.now (top_of g).object c.new.ensures) ∙ c.in-Ok.ensures.value) c.drawing_at.ensures)
+    subst (λ o. Comes o c.drawing_at.result) (sym (from_top (values_of_stores c.args.stores.now) g c.args.params.now sources))
+    (named c.drawing_at.result (names_at_top (values_of_stores c.args.stores.now) c.args.params.now sources (top_of g).object) (drawn_within sources g)
+    (names_on_top c.args.stores.now c.args.sources.now c.in-Ok.level)
+    (sym (named_by (values_of_stores c.args.stores.now) sources c.new.result c.args.params.now (top_of g).object c.new.ensures) ∙ c.in-Ok.ensures.value) c.drawing_at.ensures)
 
 pub returns-in-Err : goal.returns-in-Err
 returns-in-Err c =
     let sources = map dataset_of c.args.sources.now in
     let g = c.args.g.now in
-    subst (λ e. Comes (drawing_of g no_values c.args.params.now sources) (Err e)) (sym c.stopped.ensures)
-    (subst (λ o. Comes o (Err (stopped c.in-Err.error))) (sym (from_top g c.args.params.now sources))
-    (not_named c.in-Err.error (names_at_top no_values c.args.params.now sources (top_of g).object) (drawn_within sources g)
+    subst (λ e. Comes (drawing_of g (values_of_stores c.args.stores.now) c.args.params.now sources) (Err e)) (sym c.stopped.ensures)
+    (subst (λ o. Comes o (Err (stopped c.in-Err.error))) (sym (from_top (values_of_stores c.args.stores.now) g c.args.params.now sources))
+    (not_named c.in-Err.error (names_at_top (values_of_stores c.args.stores.now) c.args.params.now sources (top_of g).object) (drawn_within sources g)
     (subst (λ o. Evaluates {X = Names} (Err c.in-Err.error) o)
-    (named_by sources c.new.result c.args.params.now (top_of g).object c.new.ensures) c.in-Err.ensures.value)))
+    (named_by (values_of_stores c.args.stores.now) sources c.new.result c.args.params.now (top_of g).object c.new.ensures) c.in-Err.ensures.value)))

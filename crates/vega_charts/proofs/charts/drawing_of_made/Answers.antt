@@ -1,7 +1,7 @@
 use Rattle.std.proofs.Common.{[], map, sym, subst}
 use Rattle.cell_value.specs.State.{dataset_of}
 use Rattle.expr_eval.specs.Answers.{Evaluates}
-use Rattle.expr_eval.specs.Plain.{no_values}
+use Rattle.expr_eval.specs.Stores.{values_of_stores}
 use Rattle.vega_spec.specs.declared.spec.Group.{out-Group}
 use Rattle.vega_copies.specs.inner.FactsMade.{lists_on, top_made}
 use Rattle.vega_copies.specs.inner.FactsSeen.{copy_seen}
@@ -23,11 +23,11 @@ drawing_of_facts-requires-clause-rows c = record {
 pub returns-in-Ok : goal.returns-in-Ok
 returns-in-Ok c =
     subst (Evaluates c.drawing_of_facts.result)
-    (sym (drawn_is c.args.g.now (map dataset_of c.args.names.sources.now) (names_at c.args.names.sources.now c.args.names.levels.now)
-    (copy_seen (lists_on c.args.names.sources.now (top_made c.args.level.now c.args.made.now)) c.in-Ok.facts [] no_values) c.in-Ok.ensures.value))
+    (sym (drawn_is c.args.g.now (map dataset_of c.args.names.sources.now) (names_at c.args.names.stores.now c.args.names.sources.now c.args.names.levels.now)
+    (copy_seen (lists_on c.args.names.sources.now (top_made c.args.level.now c.args.made.now)) c.in-Ok.facts [] (values_of_stores c.args.names.stores.now)) c.in-Ok.ensures.value))
     c.drawing_of_facts.ensures
 
 pub returns-in-Err : goal.returns-in-Err
 returns-in-Err c =
-    drawn_stops c.args.g.now (map dataset_of c.args.names.sources.now) (names_at c.args.names.sources.now c.args.names.levels.now) c.in-Err.error
+    drawn_stops c.args.g.now (map dataset_of c.args.names.sources.now) (names_at c.args.names.stores.now c.args.names.sources.now c.args.names.levels.now) c.in-Err.error
     c.in-Err.ensures.value

@@ -24,7 +24,7 @@ pub drawing_counted-requires-clause-counted : goal.drawing_counted-requires-clau
 drawing_counted-requires-clause-counted c =
     let g = c.args.g.now in
     let sources = map dataset_of c.args.names.sources.now in
-    let names = names_at c.args.names.sources.now c.args.names.levels.now in
+    let names = names_at c.args.names.stores.now c.args.names.sources.now c.args.names.levels.now in
     is_counted (plots_in_facets sources (marks_of (marks_in (out-Group g.group))) false (is_some (out-Group g.group).layout) names) c.in-Ok.plots
     ((λ i. option_map (λ n. min n (2 ^ 64 - 1)) (plots_in_facets sources (marks_of (sym c.marks_in.ensures i)) false (sym c.is_some.ensures i) names)) ∙ c.in-Ok.ensures)
 
@@ -32,7 +32,7 @@ pub returns-in-Ok : goal.returns-in-Ok
 returns-in-Ok c =
     let g = c.args.g.now in
     let sources = map dataset_of c.args.names.sources.now in
-    let names = names_at c.args.names.sources.now c.args.names.levels.now in
+    let names = names_at c.args.names.stores.now c.args.names.sources.now c.args.names.levels.now in
     after_count (in_reach (drawing_over g sources (top_of g) names))
     (plots_in_facets sources (top_of g).marks false (is_some (top_of g).object.layout) names) c.in-Ok.plots c.drawing_counted.result
     (ap (option_map (λ n. min n (2 ^ 64 - 1))) (counted_alike sources (marks_of (marks_in (out-Group g.group))) 0 1 false _ names)
@@ -44,7 +44,7 @@ pub returns-in-Err : goal.returns-in-Err
 returns-in-Err c =
     let g = c.args.g.now in
     let sources = map dataset_of c.args.names.sources.now in
-    let names = names_at c.args.names.sources.now c.args.names.levels.now in
+    let names = names_at c.args.names.stores.now c.args.names.sources.now c.args.names.levels.now in
     subst (λ e. Comes (drawn_within sources g names) (Err e)) (sym c.stopped.ensures)
     (not_counted (in_reach (drawing_over g sources (top_of g) names))
     (plots_in_facets sources (top_of g).marks false (is_some (top_of g).object.layout) names) c.in-Err.error

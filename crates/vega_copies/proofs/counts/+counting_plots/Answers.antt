@@ -24,7 +24,7 @@ use Rattle.vega_copies.proofs.counts.+counting_plots.Goals as goal
 pub count_plots-loop-mark-init : goal.count_plots-loop-mark-init
 count_plots-loop-mark-init t c =
     marks_count (map dataset_of c.args.names.now.sources.now) c.args.in_facet c.args.in_grid
-    (names_at c.args.names.now.sources.now c.args.names.now.levels.now) c.args.marks.now
+    (names_at c.args.names.now.stores.now c.args.names.now.sources.now c.args.names.now.levels.now) c.args.marks.now
 
 pub count_plots-count_of_mark-requires : goal.count_plots-count_of_mark-requires
 count_plots-count_of_mark-requires t c =
@@ -42,7 +42,7 @@ count_plots-count_of_mark-requires t c =
 pub count_plots-loop-mark-preserved : goal.count_plots-loop-mark-preserved
 count_plots-loop-mark-preserved t c =
     let names = c.args.names.now in
-    more_at (plots_alone (map dataset_of names.sources.now) c.args.in_facet c.args.in_grid (names_at names.sources.now names.levels.now))
+    more_at (plots_alone (map dataset_of names.sources.now) c.args.in_facet c.args.in_grid (names_at names.stores.now names.sources.now names.levels.now))
     c.args.marks.now c.loop-mark.mark-index c.mark-item.result c.loop-mark-test.true c.mark-item.is c.loop-mark.plots c.in-Ok.found _ _
     c.in-Ok.ensures c.saturating_add-plots.ensures c.loop-mark.invariant
 
@@ -51,20 +51,20 @@ count_plots-loop-mark-preserved t c =
 pub count_of_group-returns-then-are_alike : goal.count_of_group-returns-then-are_alike
 count_of_group-returns-then-are_alike t c =
     group_counts (map dataset_of c.args.names.now.sources.now) c.args.mark.now c.args.in_facet c.args.in_grid
-    (names_at c.args.names.now.sources.now c.args.names.now.levels.now) c.requires.group c.is_deeper-deeper.result c.count_of_alike.result
+    (names_at c.args.names.now.stores.now c.args.names.now.sources.now c.args.names.now.levels.now) c.requires.group c.is_deeper-deeper.result c.count_of_alike.result
     c.is_deeper-deeper.ensures c.count_of_alike.ensures
 
 pub count_of_group-returns-else-are_alike : goal.count_of_group-returns-else-are_alike
 count_of_group-returns-else-are_alike t c =
     group_counts (map dataset_of c.args.names.now.sources.now) c.args.mark.now c.args.in_facet c.args.in_grid
-    (names_at c.args.names.now.sources.now c.args.names.now.levels.now) c.requires.group c.is_deeper-deeper.result c.count_of_each.result
+    (names_at c.args.names.now.stores.now c.args.names.now.sources.now c.args.names.now.levels.now) c.requires.group c.is_deeper-deeper.result c.count_of_each.result
     c.is_deeper-deeper.ensures c.count_of_each.ensures
 
 pub count_of_alike-returns : goal.count_of_alike-returns
 count_of_alike-returns t c =
     let names = c.args.names.now in
     subst (Evaluates c.count_with_bare.result)
-    (alike_plots (map dataset_of names.sources.now) c.args.mark.now c.args.in_facet c.args.in_grid (names_at names.sources.now names.levels.now)
+    (alike_plots (map dataset_of names.sources.now) c.args.mark.now c.args.in_facet c.args.in_grid (names_at names.stores.now names.sources.now names.levels.now)
     c.in_ok-copies.copies c.requires.alike c.in_ok-copies.ensures)
     c.count_with_bare.ensures
 
@@ -72,7 +72,7 @@ pub count_of_each-returns-in-Ok : goal.count_of_each-returns-in-Ok
 count_of_each-returns-in-Ok t c =
     let names = c.args.names.now in
     subst (Evaluates c.count_with_bare.result)
-    (each_plots (map dataset_of names.sources.now) c.args.mark.now c.args.in_facet c.args.in_grid (names_at names.sources.now names.levels.now)
+    (each_plots (map dataset_of names.sources.now) c.args.mark.now c.args.in_facet c.args.in_grid (names_at names.stores.now names.sources.now names.levels.now)
     c.in_ok-with_rows.field-0.with_rows c.in_ok-with_rows.ensures.with_rows c.in_ok-with_rows.field-0.without_rows c.in-Ok.plots
     c.in_ok-with_rows.ensures.without_rows c.in-Ok.ensures)
     c.count_with_bare.ensures
@@ -80,7 +80,7 @@ count_of_each-returns-in-Ok t c =
 pub count_of_each-returns-in-Err : goal.count_of_each-returns-in-Err
 count_of_each-returns-in-Err t c =
     let names = c.args.names.now in
-    each_stops (map dataset_of names.sources.now) c.args.mark.now c.args.in_facet c.args.in_grid (names_at names.sources.now names.levels.now)
+    each_stops (map dataset_of names.sources.now) c.args.mark.now c.args.in_facet c.args.in_grid (names_at names.stores.now names.sources.now names.levels.now)
     c.in_ok-with_rows.field-0.with_rows c.in_ok-with_rows.ensures.with_rows c.in-Err.error c.in-Err.ensures
 
 -- ---- copies one after the other
@@ -92,9 +92,9 @@ count_of_copies-loop-copy-init t c =
     c.into_iter-copy-iterator.ensures.into_iter_gives.0 ∙ c.into_vec-copy-items.ensures in
     record {
       counts =
-          ap (λ copies. counted_from 0 (map (plots_held (map dataset_of names.sources.now) c.args.in_facet c.args.in_grid (out-VgMark c.args.mark.now) (names_at names.sources.now names.levels.now)) copies)) items
+          ap (λ copies. counted_from 0 (map (plots_held (map dataset_of names.sources.now) c.args.in_facet c.args.in_grid (out-VgMark c.args.mark.now) (names_at names.stores.now names.sources.now names.levels.now)) copies)) items
           ∙ copies_count (map dataset_of names.sources.now) c.args.in_facet c.args.in_grid (out-VgMark c.args.mark.now)
-          (names_at names.sources.now names.levels.now) c.args.copies;
+          (names_at names.stores.now names.sources.now names.levels.now) c.args.copies;
       copies = subst (All (IsCopy names (out-VgMark c.args.mark.now))) (sym items) c.requires.copies;
     }
 
@@ -121,10 +121,10 @@ count_of_copies-loop-copy-preserved t c =
     let sources = map dataset_of names.sources.now in
     record {
       counts =
-          ap (λ k. counted_from k (map (plots_held sources c.args.in_facet c.args.in_grid m (names_at names.sources.now names.levels.now)) (into_iter_items c.next.new.self))) c.saturating_add-plots.ensures
-          ∙ one_more c.loop-copy.plots c.in-Ok.found (plots_held sources c.args.in_facet c.args.in_grid m (names_at names.sources.now names.levels.now) c.in-Some.copy)
-          (map (plots_held sources c.args.in_facet c.args.in_grid m (names_at names.sources.now names.levels.now)) (into_iter_items c.next.new.self)) _ c.in-Ok.ensures
-          (ap (λ copies. counted_from c.loop-copy.plots (map (plots_held sources c.args.in_facet c.args.in_grid m (names_at names.sources.now names.levels.now)) copies)) (sym c.in-Some.ensures.steps.0)
+          ap (λ k. counted_from k (map (plots_held sources c.args.in_facet c.args.in_grid m (names_at names.stores.now names.sources.now names.levels.now)) (into_iter_items c.next.new.self))) c.saturating_add-plots.ensures
+          ∙ one_more c.loop-copy.plots c.in-Ok.found (plots_held sources c.args.in_facet c.args.in_grid m (names_at names.stores.now names.sources.now names.levels.now) c.in-Some.copy)
+          (map (plots_held sources c.args.in_facet c.args.in_grid m (names_at names.stores.now names.sources.now names.levels.now)) (into_iter_items c.next.new.self)) _ c.in-Ok.ensures
+          (ap (λ copies. counted_from c.loop-copy.plots (map (plots_held sources c.args.in_facet c.args.in_grid m (names_at names.stores.now names.sources.now names.levels.now)) copies)) (sym c.in-Some.ensures.steps.0)
           ∙ c.loop-copy.invariant.counts);
       copies =
           All-tail (IsCopy names m) c.in-Some.copy (into_iter_items c.next.new.self)
@@ -144,7 +144,7 @@ count_with_bare-returns-in-Ok t c =
     let names = c.args.names.now in
     with_each_bare c.args.plots c.args.copies c.in-Ok.each _ _ _ (omega arith)
     (ap (λ copy. counted (plots_of_copy (map dataset_of names.sources.now) c.args.in_facet c.args.in_grid (out-VgMark c.args.mark.now)
-    (names_at names.sources.now names.levels.now) copy)) (sym c.in_ok-copy.ensures.seen) ∙ c.in-Ok.ensures)
+    (names_at names.stores.now names.sources.now names.levels.now) copy)) (sym c.in_ok-copy.ensures.seen) ∙ c.in-Ok.ensures)
     c.saturating_mul.ensures c.saturating_add.ensures
 
 pub count_with_bare-returns-in-Err : goal.count_with_bare-returns-in-Err
@@ -152,7 +152,7 @@ count_with_bare-returns-in-Err t c =
     let names = c.args.names.now in
     bare_stops c.args.plots c.args.copies _ c.in-Err.error (omega arith)
     (subst (λ copy. Evaluates {X = ℕ} (Err c.in-Err.error) (counted (plots_of_copy (map dataset_of names.sources.now) c.args.in_facet c.args.in_grid
-    (out-VgMark c.args.mark.now) (names_at names.sources.now names.levels.now) copy))) c.in_ok-copy.ensures.seen c.in-Err.ensures)
+    (out-VgMark c.args.mark.now) (names_at names.stores.now names.sources.now names.levels.now) copy))) c.in_ok-copy.ensures.seen c.in-Err.ensures)
 
 -- ---- a copy
 

@@ -11,4 +11,4 @@ invariant-facts_inside-loop-mark l = FactsLeft l.names l.marks l.made (drop l.ma
 
 abbrev pub invariant-facts_of_group-loop-copy : goal.invariant-facts_of_group-loop-copy
 invariant-facts_of_group-loop-copy l =
-    AllZip (CopyHasFacts l.names.sources.now (levels_behind l.names.levels.now) (out-VgMark l.mark)) (take l.copy-index l.copies) l.facts
+    AllZip (CopyHasFacts l.names.stores.now l.names.sources.now (levels_behind l.names.levels.now) (out-VgMark l.mark)) (take l.copy-index l.copies) l.facts

@@ -17,7 +17,7 @@ loop-scale-init c = record {
 
 pub loop-scale-preserved : goal.loop-scale-preserved
 loop-scale-preserved c =
-    let one = domain_at (names_at c.args.names.now.sources.now c.args.names.now.levels.now) in
+    let one = domain_at (names_at c.args.names.now.stores.now c.args.names.now.sources.now c.args.names.now.levels.now) in
     record {
       value =
           all_more one c.args.scales.now c.loop-scale.scale-index _ c.loop-scale.domains c.in-Ok.domain c.loop-scale-test.true c.scale-item.is
@@ -31,12 +31,12 @@ loop-scale-preserved c =
 
 pub returns-in-Err-clause-value : goal.returns-in-Err-clause-value
 returns-in-Err-clause-value c =
-    stops_all (domain_at (names_at c.args.names.now.sources.now c.args.names.now.levels.now)) c.args.scales.now c.loop-scale.scale-index _
+    stops_all (domain_at (names_at c.args.names.now.stores.now c.args.names.now.sources.now c.args.names.now.levels.now)) c.args.scales.now c.loop-scale.scale-index _
     c.loop-scale-test.true c.scale-item.is c.in-Err.error c.in-Err.ensures.value
 
 pub returns-clause-value : goal.returns-clause-value
 returns-clause-value c =
-    ap (λ scales. all_found (map (domain_at (names_at c.args.names.now.sources.now c.args.names.now.levels.now)) scales))
+    ap (λ scales. all_found (map (domain_at (names_at c.args.names.now.stores.now c.args.names.now.sources.now c.args.names.now.levels.now)) scales))
     (sym (take_all c.loop-scale.scale-index c.args.scales.now c.loop-scale-test.false))
     ∙ c.loop-scale.invariant.value
 

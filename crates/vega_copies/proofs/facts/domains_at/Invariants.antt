@@ -8,6 +8,6 @@ use Rattle.vega_copies.proofs.facts.domains_at.Given as goal
 
 abbrev pub invariant-loop-scale : goal.invariant-loop-scale
 invariant-loop-scale l = record {
-  value : all_found (map (domain_at (names_at l.names.sources.now l.names.levels.now)) (take l.scale-index l.scales)) ≡ Some l.domains;
+  value : all_found (map (domain_at (names_at l.names.stores.now l.names.sources.now l.names.levels.now)) (take l.scale-index l.scales)) ≡ Some l.domains;
   fits : AllZip FitsScale (take l.scale-index l.scales) l.domains;
 }

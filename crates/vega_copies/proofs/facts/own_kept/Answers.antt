@@ -17,7 +17,7 @@ domains_at-requires-clause-built c = subst (All (λ s. IsTrue (is_built s))) (sy
 
 pub returns-in_ok-own_with-in-Ok-clause-own : goal.returns-in_ok-own_with-in-Ok-clause-own
 returns-in_ok-own_with-in-Ok-clause-own c =
-    let names = names_at c.args.names.now.sources.now c.args.names.now.levels.now in
+    let names = names_at c.args.names.now.stores.now c.args.names.now.sources.now c.args.names.now.levels.now in
     own_parts (object_here (out-Group c.args.group.now)) names c.args.signals.now c.args.cells.now c.in-Ok.domains c.in_ok-own_with-in-Ok.field-0 c.in_ok-own_with-in-Ok.ensures
     c.requires.kept (ap (λ scales. all_found (map (domain_at names) scales)) (sym c.scales_in.ensures) ∙ c.in-Ok.ensures.value)
     (subst (λ scales. AllZip FitsScale scales c.in-Ok.domains) c.scales_in.ensures c.in-Ok.ensures.fits)
@@ -25,6 +25,6 @@ returns-in_ok-own_with-in-Ok-clause-own c =
 pub returns-in-Err-clause-stops : goal.returns-in-Err-clause-stops
 returns-in-Err-clause-stops c =
     let o = object_here (out-Group c.args.group.now) in
-    let names = names_at c.args.names.now.sources.now c.args.names.now.levels.now in
+    let names = names_at c.args.names.now.stores.now c.args.names.now.sources.now c.args.names.now.levels.now in
     hands_on c.in-Err.error (all_found (map (domain_at names) o.scales)) (facts_here c.args.cells.now o names) (domains_lost c.args.cells.now o names)
     (subst (λ scales. Evaluates {X = List Scaled} (Err c.in-Err.error) (all_found (map (domain_at names) scales))) c.scales_in.ensures c.in-Err.ensures.value)

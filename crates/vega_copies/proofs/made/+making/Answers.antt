@@ -41,7 +41,7 @@ made_in-made_of_mark-requires t c =
 pub made_in-loop-mark-preserved : goal.made_in-loop-mark-preserved
 made_in-loop-mark-preserved t c =
     let names = c.args.names.now in
-    let one : VgMark → CopiesMade → Type 0 = OneMade names.sources.now (levels_behind names.levels.now) in
+    let one : VgMark → CopiesMade → Type 0 = OneMade names.stores.now names.sources.now (levels_behind names.levels.now) in
     subst (AllZip one (take (c.loop-mark.mark-index + 1) c.args.marks.now)) (sym c.in_ok-push-in-Ok.ensures.ok)
     (zip_more one c.args.marks.now c.loop-mark.made c.loop-mark.mark-index c.mark-item.result c.in-Ok.found c.loop-mark-test.true c.mark-item.is
     c.loop-mark.invariant c.in-Ok.ensures.made)
@@ -50,7 +50,7 @@ pub made_in-returns-in-Err-clause-stops : goal.made_in-returns-in-Err-clause-sto
 made_in-returns-in-Err-clause-stops t c =
     let names = c.args.names.now in
     λ in_facet in_grid.
-    mark_stops (map dataset_of names.sources.now) in_facet in_grid (names_at names.sources.now names.levels.now) c.args.marks.now c.loop-mark.mark-index c.mark-item.result
+    mark_stops (map dataset_of names.sources.now) in_facet in_grid (names_at names.stores.now names.sources.now names.levels.now) c.args.marks.now c.loop-mark.mark-index c.mark-item.result
     c.in-Err.error c.loop-mark-test.true c.mark-item.is (c.in-Err.ensures.stops in_facet in_grid)
 
 -- ---- the copies of a group
@@ -66,8 +66,8 @@ made_of_group-loop-copy-init t c =
       seen =
           (λ i. map made_seen (none i) ++ map copy_seen (items i)) ∙ c.in_ok-copies.ensures.copies;
       made =
-          subst (All (IsCopyMade names.sources.now (levels_behind names.levels.now) (out-VgMark c.args.mark.now))) (sym none)
-          (All-nil (IsCopyMade names.sources.now (levels_behind names.levels.now) (out-VgMark c.args.mark.now)));
+          subst (All (IsCopyMade names.stores.now names.sources.now (levels_behind names.levels.now) (out-VgMark c.args.mark.now))) (sym none)
+          (All-nil (IsCopyMade names.stores.now names.sources.now (levels_behind names.levels.now) (out-VgMark c.args.mark.now)));
     }
 
 pub made_of_group-made_copy-requires : goal.made_of_group-made_copy-requires
@@ -99,8 +99,8 @@ made_of_group-loop-copy-preserved t c =
           (into_iter_items c.loop-copy.copy-iterator) (into_iter_items c.next.new.self) c.in-Some.copy c.in-Some.ensures.steps.0 c.in_ok-push-in-Ok.ensures.ok
           c.in-Ok.ensures.seen c.loop-copy.invariant.seen;
       made =
-          subst (All (IsCopyMade names.sources.now (levels_behind names.levels.now) m)) (sym c.in_ok-push-in-Ok.ensures.ok)
-          (All-push (IsCopyMade names.sources.now (levels_behind names.levels.now) m) c.loop-copy.made c.in-Ok.found c.loop-copy.invariant.made c.in-Ok.ensures.made);
+          subst (All (IsCopyMade names.stores.now names.sources.now (levels_behind names.levels.now) m)) (sym c.in_ok-push-in-Ok.ensures.ok)
+          (All-push (IsCopyMade names.stores.now names.sources.now (levels_behind names.levels.now) m) c.loop-copy.made c.in-Ok.found c.loop-copy.invariant.made c.in-Ok.ensures.made);
     }
 
 pub made_of_group-returns-in-Err-clause-stops : goal.made_of_group-returns-in-Err-clause-stops
@@ -108,7 +108,7 @@ made_of_group-returns-in-Err-clause-stops t c =
     let names = c.args.names.now in
     let m = out-VgMark c.args.mark.now in
     λ in_facet in_grid.
-    one_copy_stops (map dataset_of names.sources.now) c.args.mark.now in_facet in_grid (names_at names.sources.now names.levels.now) c.requires.group
+    one_copy_stops (map dataset_of names.sources.now) c.args.mark.now in_facet in_grid (names_at names.stores.now names.sources.now names.levels.now) c.requires.group
     (map made_seen c.loop-copy.made) (copy_seen c.in-Some.copy) (map copy_seen (into_iter_items c.next.new.self)) c.in-Err.error
     (ap (λ copies. map made_seen c.loop-copy.made ++ map copy_seen copies) (sym c.in-Some.ensures.steps.0) ∙ c.loop-copy.invariant.seen)
     (c.in-Err.ensures.stops (in_facet || is_some (facet_in m.from)) in_grid)

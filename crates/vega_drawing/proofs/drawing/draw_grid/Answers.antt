@@ -30,7 +30,7 @@ pub returns : goal.returns
 returns g c =
     let items = g.M.MarkItems.items c.args.maker.now in
     let lists = g.M.MarkItems.lists c.args.maker.now in
-    let values = values_over c.args.values.levels.now in
+    let values = values_over c.args.values.stores.now c.args.values.levels.now in
     let names = names_on_top lists values in
     let found = found_on_top lists values c.args.facts.now in
     let cells = cells_seen c.args.cells in

@@ -13,7 +13,7 @@ draw_grid-requires-clause-columns g c = top_columns c.args.g.now c.requires.top.
 pub returns-in-Some : goal.returns-in-Some
 returns-in-Some g c =
     let lists = g.M.MarkItems.lists c.args.maker.now in
-    let values = values_over c.args.values.levels.now in
+    let values = values_over c.args.values.stores.now c.args.values.levels.now in
     subst (Evaluates c.draw_grid.result)
     (sym (top_is_grid (g.M.MarkItems.items c.args.maker.now) c.args.g.now (found_on_top lists values c.args.facts.now)
     (top_seen (names_on_top lists values) (cells_seen c.args.cells) (map scale_seen c.args.scales.now) (pos 0) (pos 0)) c.in-Some.layout c.in-Some.is))
@@ -22,7 +22,7 @@ returns-in-Some g c =
 pub returns-in-None : goal.returns-in-None
 returns-in-None g c =
     let lists = g.M.MarkItems.lists c.args.maker.now in
-    let values = values_over c.args.values.levels.now in
+    let values = values_over c.args.values.stores.now c.args.values.levels.now in
     subst (Evaluates c.draw_plot.result)
     (sym (top_is_plot (g.M.MarkItems.items c.args.maker.now) c.args.g.now (found_on_top lists values c.args.facts.now)
     (top_seen (names_on_top lists values) (cells_seen c.args.cells) (map scale_seen c.args.scales.now) (pos 0) (pos 0)) c.in-None.is))

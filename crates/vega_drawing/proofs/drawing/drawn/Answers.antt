@@ -1,7 +1,7 @@
 use Rattle.std.proofs.Common.{◌≡◌, [], All, IsTrue, map, pos, sym, ap, ◌∙◌, subst}
 use Rattle.std.specs.List.{AllZip}
 use Rattle.expr_eval.specs.Answers.{Evaluates}
-use Rattle.expr_eval.specs.Plain.{no_values}
+use Rattle.expr_eval.specs.Stores.{values_of_stores}
 use Rattle.vega_scales.specs.Scales.{is_built, FitsScale, KeepsBounds}
 use Rattle.vega_signals.specs.Settling.{values_inside}
 use Rattle.vega_spec.specs.declared.scales.Scale.{Scale}
@@ -42,8 +42,8 @@ returns g c =
     let lists = g.M.MarkItems.lists c.args.maker.now in
     let spec = c.args.g.now in
     let facts = c.args.facts.now in
-    let values : values_over c.as_slice-signals.result.now ≡ values_inside (out-CopyFacts facts).signals no_values =
-    values_entered c.as_slice-signals.result.now [] (out-CopyFacts facts).signals (ap (map (λ l. l.now)) c.as_slice-signals.ensures ∙ c.in_ok-levels.ensures) in
+    let values : values_over c.args.stores.now c.as_slice-signals.result.now ≡ values_inside (out-CopyFacts facts).signals (values_of_stores c.args.stores.now) =
+    values_entered c.args.stores.now c.as_slice-signals.result.now [] (out-CopyFacts facts).signals (ap (map (λ l. l.now)) c.as_slice-signals.ensures ∙ c.in_ok-levels.ensures) in
     let scales : map scale_seen c.as_slice-here.result.now ≡ scales_on_top spec facts =
     ap (map scale_seen) c.as_slice-here.ensures ∙ c.in_ok-scales.ensures.value
     ∙ ap (and_outer []) (ap (map kept_seen) c.as_slice-mine.ensures ∙ c.in_ok-own.ensures.value
@@ -51,5 +51,5 @@ returns g c =
     subst (Evaluates c.draw_top.result)
     ((λ i. drawn_top items spec (found_on_top lists (values i) facts)
     (top_seen (names_on_top lists (values i)) (c.slice_of.ensures i) (scales i) (pos 0) (pos 0)))
-    ∙ top_is_drawn items lists spec facts)
+    ∙ top_is_drawn items lists c.args.stores.now spec facts)
     c.draw_top.ensures

@@ -11,5 +11,5 @@ pub returns : goal.returns
 returns c =
     subst (Evaluates c.number_encoded.result)
     (λ i. number_encoded (c.requires.frame.set i) (out-VgMark c.args.mark.now).encode c.args.channel (c.cells_of.ensures i)
-    (with_domains (map scale_seen c.args.frame.now.scales.now) (values_over c.args.frame.now.values.levels.now)))
+    (with_domains (map scale_seen c.args.frame.now.scales.now) (values_over c.args.frame.now.values.stores.now c.args.frame.now.values.levels.now)))
     c.number_encoded.ensures

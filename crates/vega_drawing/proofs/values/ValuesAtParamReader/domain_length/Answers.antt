@@ -2,4 +2,4 @@ use Rattle.vega_drawing.proofs.ValueLemmas.{no_length}
 use Rattle.vega_drawing.proofs.values.ValuesAtParamReader.domain_length.Goals as goal
 
 pub returns : goal.returns
-returns c = no_length c.args.self.now.levels.now c.args.arg2.now
+returns c = no_length c.args.self.now.stores.now c.args.self.now.levels.now c.args.arg2.now

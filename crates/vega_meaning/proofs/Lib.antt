@@ -1,0 +1,13 @@
+pub mod Stretches
+pub mod PlotsFound
+pub mod DrawnFacts
+pub mod DrawnFrames
+pub mod DrawnParts
+pub mod SpansFound
+pub mod DrawnOutcomes
+pub mod BrushedScenes
+pub mod DrawnScenes
+pub mod Meant
+pub mod GuideItems
+pub mod MarkItems
+pub mod ItemRows
