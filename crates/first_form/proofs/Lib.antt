@@ -4,6 +4,7 @@ pub mod NiceLemmas
 pub mod PlaceLemmas
 pub mod DrawableLemmas
 pub mod OpeningStates
+pub mod Unbrushed
 pub mod SameChart
 pub mod Opened
 pub mod BarCharts

@@ -7,11 +7,16 @@ use Rattle.std.proofs.lemmas.List.Kept.{AllPairs-cons}
 use Rattle.cell_value.specs.Datum.{Datum, datum_of}
 use Rattle.cell_value.specs.State.{Dataset, state_of, ids_of, all_rows, ReadsItsId}
 use Rattle.vega_spec.specs.Names.{parameter_of, signals_of}
-use Rattle.vega_meaning.specs.States.{settable_names}
+use Rattle.param_flow.specs.States.{settable_names}
+use Rattle.selection_events.specs.Kept.{AreStoresOf}
+use Rattle.vega_selections.specs.Plots.{plots_of}
+use Rattle.vega_events.specs.Laws.{plain_of}
+use Rattle.vega_meaning.specs.Semantics.{param_of}
+use Rattle.vega_meaning.specs.Times.{temporal_of}
 use Rattle.first_form.specs.declared.form.Value.{Value}
 use Rattle.first_form.specs.Bars.{with_ids}
-use Rattle.first_form.specs.Opening.{value_row, opening_of}
-use Rattle.first_form.proofs.BarCharts.{opened_group, named_sources}
+use Rattle.first_form.specs.Opening.{value_row, bars_of, opening_of}
+use Rattle.first_form.proofs.BarCharts.{opened_group, named_sources, no_selections}
 use Rattle.first_form.specs.Laws.{OpeningIsState}
 
 module _ (x y : List ℕ) where
@@ -66,6 +71,6 @@ is_state_of form drawable =
         few_rows = let count = ap length all in omega (arith, count, long);
       };
       sources = sym (named_sources form);
-      params = ap (λ top. settable_names (map parameter_of (signals_of top))) (sym (opened_group form));
-      stores = refl;
+      params = ap (λ top. settable_names (map param_of (map parameter_of (signals_of top)))) (sym (opened_group form));
+      stores = subst (λ selections. AreStoresOf (temporal_of (bars_of form)) (plots_of (bars_of form)) (map plain_of selections) []) (sym (no_selections form)) tt;
     }

@@ -88,6 +88,7 @@ use Rattle.first_form.proofs.RangeLemmas.{in_range_at_number, rounded_multiple}
 use Rattle.first_form.proofs.PlaceLemmas.{space_usual, width_usual, width_known, IsPlace, place_to, base_within, place_in_range}
 use Rattle.first_form.proofs.DrawableLemmas.{bar_at, IsBar, height_known, width, base, bar_drawn, bars_drawn, form_scene, scene_from}
 use Rattle.first_form.proofs.BarCharts.{bars_object, the_bars, outlined}
+use Rattle.first_form.proofs.Unbrushed.{unbrushed}
 
 -- ---- the width of the plot
 
@@ -464,4 +465,9 @@ same_scene form drawable =
     ∙ ap in_reach (sym (scene_from rs known bars.0 bars.1))
 
 pub vega_chart_is : VegaChartIsTheChart
-vega_chart_is form drawable = ap (outcome_map svg_of) (same_scene form drawable)
+vega_chart_is form drawable =
+    unbrushed (bars_of form) (drawing_of (bars_of form) no_values [] (record {
+      name = form.name;
+      rows = map datum_of (map (value_row form.x form.y) (with_ids 1 form.values));
+    } ∷ []))
+    ∙ ap (outcome_map svg_of) (same_scene form drawable)

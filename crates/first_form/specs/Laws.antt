@@ -1,11 +1,12 @@
 -- What holds of each chart of the first form.
-use Rattle.std.specs.Prelude.{◌≡◌, ℕ, true, Ok, List, [], map}
+use Rattle.std.specs.Prelude.{◌≡◌, ℕ, Ok, List, [], map}
 use Rattle.json_exact.specs.declared.json.Json.{Json}
 use Rattle.cell_value.specs.declared.state.Keyed.{Keyed}
 use Rattle.cell_value.specs.State.{state_of}
 use Rattle.data_rows.specs.JsonRows.{rows_of_json}
 use Rattle.scene_tree.specs.Outcome.{Drawn}
-use Rattle.vega_copies.specs.Tested.{is_chart}
+use Rattle.vega_copies.specs.Tested.{KeepsRules}
+use Rattle.vega_selections.specs.Kept.{KeepsSelections}
 use Rattle.vega_meaning.specs.Charts.{vega_chart_of}
 use Rattle.vega_meaning.specs.States.{IsStateOf}
 use Rattle.first_form.specs.declared.form.FirstForm.{FirstForm}
@@ -30,9 +31,9 @@ ChartsAreDrawn = (form : FirstForm) → IsDrawable form → (text : List ℕ) ×
 abbrev pub OpeningIsState : Type 0
 OpeningIsState = (form : FirstForm) → IsDrawable form → IsStateOf (bars_of form) (state_of (opening_of form))
 
--- its Vega specification has a meaning and keeps the rules
-abbrev pub BarsAreCharts : Type 0
-BarsAreCharts = (form : FirstForm) → is_chart (bars_of form) ≡ true
+-- its Vega specification keeps the rules of charts and of selections
+abbrev pub BarsKeepRules : Type 0
+BarsKeepRules = (form : FirstForm) → KeepsRules (bars_of form) × KeepsSelections (bars_of form)
 
 -- the values that its Vega specification has, read as rows, are those of its opening state
 abbrev pub ValuesAreRows : Type 0

@@ -1,5 +1,5 @@
 //! What holds of each chart of the first form.
-ghost use Rattle.first_form.specs.Laws.{FormsAreDrawable, VegaChartIsTheChart, ChartsAreDrawn, OpeningIsState, BarsAreCharts, ValuesAreRows};
+ghost use Rattle.first_form.specs.Laws.{FormsAreDrawable, VegaChartIsTheChart, ChartsAreDrawn, OpeningIsState, BarsKeepRules, ValuesAreRows};
 
 /// A form that is read has at most 1,000 values, with amounts from 0 to 1,000,000,000, under two fields.
 pub fn forms_are_drawable()
@@ -24,10 +24,9 @@ pub fn opening_is_a_state()
     ensures { OpeningIsState }
 {}
 
-/// The Vega specification of a form has a meaning and keeps the rules.
-#[tactic(auto, using(crate::proofs::BarCharts::bars_are_charts))]
-pub fn bars_are_charts()
-    ensures { BarsAreCharts }
+/// The Vega specification of a form keeps the rules of charts and of selections.
+pub fn bars_keep_rules()
+    ensures { BarsKeepRules }
 {}
 
 /// The values of its Vega specification, read as rows, are the rows of the state in which it opens.

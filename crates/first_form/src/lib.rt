@@ -12,7 +12,7 @@ mod parts;
 pub use bars::bars_of;
 pub use form::{FirstForm, Value, first_form};
 pub use laws::{
-    bars_are_charts, charts_are_drawn, forms_are_drawable, opening_is_a_state, values_are_rows,
+    bars_keep_rules, charts_are_drawn, forms_are_drawable, opening_is_a_state, values_are_rows,
     vega_chart_is_the_chart,
 };
 pub use opening::opening_of;

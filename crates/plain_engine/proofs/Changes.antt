@@ -9,10 +9,12 @@ use Rattle.std.proofs.lemmas.List.{length-map, map-append}
 use Rattle.std.proofs.lemmas.List.Elements.{All-nil, All-cons, All-head, All-tail}
 use Rattle.cell_value.specs.declared.cell.Cell.{Cell}
 use Rattle.cell_value.specs.declared.state.Keyed.{Keyed}
+use Rattle.cell_value.specs.declared.state.StoreOf.{StoreOf}
 use Rattle.cell_value.specs.declared.state.Named.{Named}
 use Rattle.cell_value.specs.declared.state.ChartState.{ChartState}
 use Rattle.cell_value.specs.Datum.{Datum, datum_of}
 use Rattle.cell_value.specs.State.{Dataset, dataset_of, IsState, ids_of, most_rows, greatest_id}
+use Rattle.expr_eval.specs.Stores.{values_of_stores}
 use Rattle.expr_eval.specs.Values.{Values}
 use Rattle.param_flow.specs.declared.command.ChangeOf.{ChangeOf}
 use Rattle.param_flow.specs.declared.reply.Reply.{Reply}
@@ -66,16 +68,16 @@ few_here sources index =
     let read = ap length (read_at sources index) in
     omega (arith, few, read, length-map (rows_at sources index) datum_of)
 
-module _ (next_id : ℕ) (params signals : List (List ℕ × Cell)) (sources : List Named) (index : ℕ) (change : ChangeOf) where
+module _ (stores : List StoreOf) (next_id : ℕ) (params signals : List (List ℕ × Cell)) (sources : List Named) (index : ℕ) (change : ChangeOf) where
   -- the rows of a source fit a chart
-  pub rows_fit : index < length sources → IsState (state_in next_id params (map dataset_of sources)) → Fits (rows_at sources index)
+  pub rows_fit : index < length sources → IsState (state_in stores next_id params (map dataset_of sources)) → Fits (rows_at sources index)
   rows_fit within h =
       let here = within_data sources index within in
       let few = few_here sources index in
       record {
         few = omega (arith, few, h.few_rows);
         ids = low_ids next_id (rows_at sources index) h.next_id_to
-            (subst (λ rows. All (λ id. id < next_id) (ids_of rows)) (sym (read_at sources index)) (ids_at next_id params signals
+            (subst (λ rows. All (λ id. id < next_id) (ids_of rows)) (sym (read_at sources index)) (ids_at stores next_id params signals
             (map dataset_of sources)
             index change here h));
       }
@@ -83,25 +85,25 @@ module _ (next_id : ℕ) (params signals : List (List ℕ × Cell)) (sources : L
   -- the limit
   pub past_is : (all others staying more : ℕ) (past : Bool) → all ≡ count_in (map dataset_of sources)
       → others + length (rows_at sources index) ≡ all
-      → staying ≡ count_staying (values_with signals []) change.remove (map datum_of (rows_at sources index)) → more ≡ length change.insert
+      → staying ≡ count_staying (values_with (values_of_stores stores) signals []) change.remove (map datum_of (rows_at sources index)) → more ≡ length change.insert
       → past ≡ (nat_lt most_rows ((others + staying) + more) || nat_lt (greatest_id + 1) (next_id + more))
-      → past ≡ is_past next_id signals (map dataset_of sources) index change
+      → past ≡ is_past stores next_id signals (map dataset_of sources) index change
   past_is all others staying more past is rest count long e =
       let read = read_at sources index in
       let rows = ap length read in
-      let left = count ∙ ap (count_staying (values_with signals []) change.remove) read in
-      let same : others + staying ≡ staying_in_all next_id signals (map dataset_of sources) index change =
+      let left = count ∙ ap (count_staying (values_with (values_of_stores stores) signals []) change.remove) read in
+      let same : others + staying ≡ staying_in_all stores next_id signals (map dataset_of sources) index change =
       omega (arith, is, rest, rows, left, length-map (rows_at sources index) datum_of) in
       e ∙ (λ i. nat_lt most_rows (same i + long i) || nat_lt (greatest_id + 1) (next_id + long i))
 
   module _ (edits : Edits) (is : data_edited edits (rows_at sources index)
-      ≡ rows_after (values_with signals []) change (map datum_of (rows_at sources index))) where
-    found : data_edited edits (rows_at sources index) ≡ rows_after (values_with signals []) change (data_at (map dataset_of sources) index)
-    found = is ∙ ap (rows_after (values_with signals []) change) (read_at sources index)
+      ≡ rows_after (values_with (values_of_stores stores) signals []) change (map datum_of (rows_at sources index))) where
+    found : data_edited edits (rows_at sources index) ≡ rows_after (values_with (values_of_stores stores) signals []) change (data_at (map dataset_of sources) index)
+    found = is ∙ ap (rows_after (values_with (values_of_stores stores) signals []) change) (read_at sources index)
 
     -- the sources after edits of which none is out of range
     module _ (more : List Keyed) (known : edits.overflows ≡ false) (new : more ≡ new_rows next_id change.insert) where
-      changed_by : rows_changed next_id signals (map dataset_of sources) index change
+      changed_by : rows_changed stores next_id signals (map dataset_of sources) index change
           ≡ Some (map datum_of (edited edits.each (rows_at sources index) ++ more))
       changed_by =
           let read : List Datum = map datum_of (edited edits.each (rows_at sources index)) in
@@ -110,31 +112,31 @@ module _ (next_id : ℕ) (params signals : List (List ℕ × Cell)) (sources : L
           ∙ ap (λ more. Some (read ++ map datum_of more)) (sym new)
           ∙ ap Some (sym (map-append datum_of (edited edits.each (rows_at sources index)) more))
 
-      pub sources_by : sources_changed next_id signals (map dataset_of sources) index change
+      pub sources_by : sources_changed stores next_id signals (map dataset_of sources) index change
           ≡ Some (map dataset_of (with_rows sources index (edited edits.each (rows_at sources index) ++ more)))
       sources_by =
           ap (option_map (with_data (map dataset_of sources) index)) changed_by
           ∙ ap Some (sym (read_with sources index (edited edits.each (rows_at sources index) ++ more)))
 
       -- they are those of a state
-      pub fit_by : index < length sources → IsState (state_in next_id params (map dataset_of sources))
-          → is_past next_id signals (map dataset_of sources) index change ≡ false
+      pub fit_by : index < length sources → IsState (state_in stores next_id params (map dataset_of sources))
+          → is_past stores next_id signals (map dataset_of sources) index change ≡ false
           → AreSources (with_rows sources index (edited edits.each (rows_at sources index) ++ more))
       fit_by within h free =
           let rows : List Keyed = edited edits.each (rows_at sources index) ++ more in
-          let still = still_state next_id params signals (map dataset_of sources) index change (within_data sources index within) h
+          let still = still_state stores next_id params signals (map dataset_of sources) index change (within_data sources index within) h
           (map datum_of rows) free changed_by in
           let now : ChartState = record {
             next_id = next_id + length change.insert;
             sources = with_rows sources index rows;
             params = params;
-            stores = [];
+            stores = stores;
           } in
           sources_of_state now
-          (subst (λ sources. IsState (state_in (next_id + length change.insert) params sources)) (sym (read_with sources index rows)) still)
+          (subst (λ sources. IsState (state_in stores (next_id + length change.insert) params sources)) (sym (read_with sources index rows)) still)
 
     -- where one is
-    pub out_of_range_by : edits.overflows ≡ true → sources_changed next_id signals (map dataset_of sources) index change ≡ None
+    pub out_of_range_by : edits.overflows ≡ true → sources_changed stores next_id signals (map dataset_of sources) index change ≡ None
     out_of_range_by over =
         ap (λ found. option_map (with_data (map dataset_of sources) index) (option_map
         (λ left. left ++ new_data next_id change.insert) found))
@@ -142,17 +144,17 @@ module _ (next_id : ℕ) (params signals : List (List ℕ × Cell)) (sources : L
         ∙ ap (λ overflows. if overflows then None else Some (map datum_of (edited edits.each (rows_at sources index)))) over)
 
   -- the reply to a change that is past the limit
-  pub reply_past : (g : VgSpec) → is_past next_id signals (map dataset_of sources) index change ≡ true
-      → Refused cause.Limit ≡ reply_at g next_id params signals (map dataset_of sources) index change
+  pub reply_past : (g : VgSpec) → is_past stores next_id signals (map dataset_of sources) index change ≡ true
+      → Refused cause.Limit ≡ reply_at g stores next_id params signals (map dataset_of sources) index change
   reply_past g past =
       ap (λ past. if past then Refused cause.Limit
-      else reply_to_sources g params (sources_changed next_id signals (map dataset_of sources) index change)) (sym past)
+      else reply_to_sources g stores params (sources_changed stores next_id signals (map dataset_of sources) index change)) (sym past)
 
   -- and to one that isn't
-  pub reply_by : (g : VgSpec) (after : Option (List Dataset)) → is_past next_id signals (map dataset_of sources) index change ≡ false
-      → sources_changed next_id signals (map dataset_of sources) index change ≡ after
-      → reply_at g next_id params signals (map dataset_of sources) index change ≡ reply_to_sources g params after
-  reply_by g after free changed = λ i. if free i then Refused cause.Limit else reply_to_sources g params (changed i)
+  pub reply_by : (g : VgSpec) (after : Option (List Dataset)) → is_past stores next_id signals (map dataset_of sources) index change ≡ false
+      → sources_changed stores next_id signals (map dataset_of sources) index change ≡ after
+      → reply_at g stores next_id params signals (map dataset_of sources) index change ≡ reply_to_sources g stores params after
+  reply_by g after free changed = λ i. if free i then Refused cause.Limit else reply_to_sources g stores params (changed i)
 
 -- sources that are put where others were read as changed
 pub left_by : {E : Type 0} (result : Result Reply E) (changed : Option (List Dataset)) (old target new : List Named)

@@ -5,3 +5,8 @@ pub mod Places
 pub mod Changes
 pub mod Replies
 pub mod SettingLemmas
+pub mod PictureLemmas
+pub mod EventLemmas
+pub mod TopLemmas
+pub mod RowLemmas
+pub mod PrintLemmas

@@ -13,30 +13,32 @@ use Rattle.cell_value.specs.declared.state.Named.{Named}
 use Rattle.cell_value.specs.State.{Dataset, State, IsState, dataset_of, state_of, most_rows, greatest_id}
 use Rattle.data_rows.specs.JsonRows.{first_bad}
 use Rattle.fixed_num.specs.Ranges.{◌>>=◌}
-use Rattle.scene_tree.specs.declared.scene.Scene.{Scene}
-use Rattle.scene_tree.specs.Outcome.{Outcome, Drawn, Overflow, Panels, outcome_map}
-use Rattle.svg_text.specs.SceneText.{svg_of}
+use Rattle.plot_scenes.specs.declared.scenes.Drawing.{Drawing}
+use Rattle.scene_tree.specs.Outcome.{Outcome, Drawn, outcome_map}
 use Rattle.param_flow.specs.declared.command.ChangeOf.{ChangeOf}
 use Rattle.param_flow.specs.declared.command.Command.{Command}
-use Rattle.param_flow.specs.declared.command.Command.TheVariants.{Change, Set}
+use Rattle.param_flow.specs.declared.command.Command.TheVariants.{Change, Set, Event as OfMouse}
+use Rattle.param_flow.specs.declared.event.Event.{Event}
 use Rattle.param_flow.specs.declared.reply.Reply.{Reply}
 use Rattle.param_flow.specs.declared.reply.Reply.TheVariants.{Done, Refused}
 use Rattle.param_flow.specs.declared.reply.Cause.TheVariants as cause
 use Rattle.param_flow.specs.Change.{names_of_change}
-use Rattle.param_flow.specs.Semantics.{Semantics, has_source, has_param}
-use Rattle.param_flow.specs.Machine.{count_left, is_past_limit, has_names, reply_to_chart, reply_to_state, reply_to_change}
-use Rattle.param_flow.specs.Machine.{reply_to_set, state_changed, state_if, state_set}
+use Rattle.param_flow.specs.Semantics.{Semantics, Picture, has_source, has_param}
+use Rattle.param_flow.specs.States.{settable_names}
+use Rattle.param_flow.specs.Machine.{count_left, is_past_limit, has_names, reply_to_state, reply_to_change}
+use Rattle.param_flow.specs.Machine.{reply_to_event, reply_to_set, state_by, state_changed, state_if, state_set}
 use Rattle.param_flow.specs.Machine.{reply_of, state_after}
 use Rattle.vega_spec.specs.declared.spec.VgSpec.{VgSpec}
 use Rattle.vega_spec.specs.Names.{sources_of}
-use Rattle.vega_copies.specs.Tested.{is_chart}
-use Rattle.vega_meaning.specs.Charts.{scene_over}
+use Rattle.vega_copies.specs.Tested.{KeepsRules}
+use Rattle.vega_meaning.specs.Charts.{vega_picture_of}
+use Rattle.vega_selections.specs.Kept.{KeepsSelections}
 use Rattle.vega_meaning.specs.Semantics.{vega_semantics, signals_in, values_in}
-use Rattle.vega_meaning.specs.States.{IsStateOf}
 use Rattle.play_script.specs.Meaning.{Meaning}
-use Rattle.plain_engine.specs.inner.Kept.{IsKept}
+use Rattle.plain_engine.specs.inner.Kept.{param_names, IsKept, MayBeStores}
+use Rattle.plain_engine.specs.inner.Pictures.{shown}
 use Rattle.plain_engine.specs.inner.Sources.{state_in, with_data, rows_changed, sources_changed, staying_in_all}
-use Rattle.plain_engine.specs.inner.Sources.{is_past, reply_to_sources, reply_at, state_at, AreApart}
+use Rattle.plain_engine.specs.inner.Sources.{is_past, reply_to_sources, reply_at, state_at, AreApart, IsDrawingOf}
 use Rattle.plain_engine.proofs.Places.{has_name, names_of, changed_at, counted_at, few_at, placed, not_placed, any_named}
 use Rattle.plain_engine.proofs.StateRows.{still_state, names_stay, new_data}
 
@@ -73,6 +75,21 @@ module _ (meaning : Semantics) (st : State) (c : Command) (param : List ℕ) (va
       ∙ ap (λ c. meant (state_after meaning st c)) (sym is)
   done_set meant now (Err e) replied stands = tt
 
+module _ (meaning : Semantics) (st : State) (c : Command) (event asked_for : Event) (is : c ≡ OfMouse event) (same : asked_for ≡ event) where
+  -- so does an event
+  pub asked_event : reply_to_event meaning st asked_for ≡ reply_of meaning st c
+  asked_event = ap (reply_to_event meaning st) same ∙ ap (reply_of meaning st) (sym is)
+
+  pub done_event : {M E : Type 0} (meant : State → M) (now : M) (result : Result Reply E)
+      → IfOk result (λ reply. reply ≡ reply_to_event meaning st asked_for)
+      → IfOk result (λ reply. now ≡ meant (state_if reply st (Some (state_by meaning st asked_for))))
+      → OnOk result (now ≡ meant (state_after meaning st c))
+  done_event meant now (Ok reply) replied stands =
+      stands ∙ ap (λ reply. meant (state_if reply st (Some (state_by meaning st asked_for)))) replied
+      ∙ ap (λ e. meant (state_if (reply_to_event meaning st e) st (Some (state_by meaning st e)))) same
+      ∙ ap (λ c. meant (state_after meaning st c)) (sym is)
+  done_event meant now (Err e) replied stands = tt
+
 -- what is meant after a change
 pub meant_by : {E : Type 0} (g : VgSpec) (st now : State) (found other : Option State) → other ≡ found → (result : Result Reply E)
     → IfOk result (λ reply. now ≡ state_if reply st found)
@@ -83,16 +100,10 @@ meant_by g st now found other same (Ok reply) h =
     ap meant (h ∙ ap (state_if reply st) (sym same))
 meant_by g st now found other same (Err e) h = tt
 
--- a picture's text is drawn where the picture is
-pub to_drawn : (scene : Outcome Scene) → reply_to_chart (outcome_map svg_of scene) ≡ reply_to_chart scene
-to_drawn (Drawn scene) = refl
-to_drawn Overflow = refl
-to_drawn (Panels n) = refl
-
-module _ (g : VgSpec) (st : ChartState) (name : List ℕ) (change : ChangeOf) (h : IsStateOf g (state_of st)) where
+module _ (g : VgSpec) (st : ChartState) (name : List ℕ) (change : ChangeOf) (named : names_of (map dataset_of st.sources) ≡ sources_of g) where
   -- the source is there
   there : list_any (has_name name) st.sources ≡ has_source (vega_semantics g) name
-  there = sym (any_named name st.sources) ∙ ap (list_any (λ other. bytes_eq other name)) h.sources
+  there = sym (any_named name st.sources) ∙ ap (list_any (λ other. bytes_eq other name)) named
 
   -- it isn't
   pub not_there : None ≡ position (has_name name) st.sources
@@ -122,7 +133,7 @@ module _ (g : VgSpec) (st : ChartState) (name : List ℕ) (change : ChangeOf) (h
 
       module _ (good : first_bad 0 change.insert ≡ None) (apart : AreApart (sources_of g)) where
         own_names : AreApart (names_of (map dataset_of st.sources))
-        own_names = subst AreApart (sym h.sources) apart
+        own_names = subst AreApart (sym named) apart
 
         -- the state of these sources after it
         abbrev state_now : List Dataset → State
@@ -147,7 +158,7 @@ module _ (g : VgSpec) (st : ChartState) (name : List ℕ) (change : ChangeOf) (h
             made _ ∙ ap (option_map state_now) found
 
         -- the limit
-        limit : is_past_limit (values_in g (state_of st)) (state_of st) name change ≡ is_past st.next_id (signals_in g (state_of st))
+        limit : is_past_limit (values_in g (state_of st)) (state_of st) name change ≡ is_past st.stores st.next_id (signals_in g (state_of st))
             (map dataset_of st.sources) index change
         limit =
             let place = placed name st.sources index e in
@@ -155,24 +166,24 @@ module _ (g : VgSpec) (st : ChartState) (name : List ℕ) (change : ChangeOf) (h
             (omega (arith, place.within, length-map st.sources dataset_of)) own_names place.named in
             let few = few_at (map dataset_of st.sources) index in
             let same : sum_by (count_left (values_in g (state_of st)) name change) (map dataset_of st.sources)
-            ≡ staying_in_all st.next_id (signals_in g (state_of st)) (map dataset_of st.sources) index change = omega (arith, count, few) in
+            ≡ staying_in_all st.stores st.next_id (signals_in g (state_of st)) (map dataset_of st.sources) index change = omega (arith, count, few) in
             ap (λ n. nat_lt most_rows (n + length change.insert) || nat_lt (greatest_id + 1) (st.next_id + length change.insert)) same
 
         reply_to_found : (found : Option (List Dataset))
             → reply_to_state (vega_semantics g) (option_map state_now found)
-            ≡ reply_to_sources g st.params found
+            ≡ reply_to_sources g st.stores st.params found
         reply_to_found None = refl
-        reply_to_found (Some sources) = to_drawn (scene_over g sources st.params)
+        reply_to_found (Some sources) = refl
 
         -- the reply
-        pub replied : reply_at g st.next_id st.params (signals_in g (state_of st)) (map dataset_of st.sources) index change
+        pub replied : reply_at g st.stores st.next_id st.params (signals_in g (state_of st)) (map dataset_of st.sources) index change
             ≡ reply_to_change (vega_semantics g) (state_of st) name change
         replied =
             let last = ap (reply_to_state (vega_semantics g)) changed
-            ∙ reply_to_found (sources_changed st.next_id (signals_in g (state_of st)) (map dataset_of st.sources) index change) in
+            ∙ reply_to_found (sources_changed st.stores st.next_id (signals_in g (state_of st)) (map dataset_of st.sources) index change) in
             let whole : (if is_past_limit (values_in g (state_of st)) (state_of st) name change then Refused cause.Limit
             else reply_to_state (vega_semantics g) (state_changed (values_in g (state_of st)) (state_of st) name change))
-            ≡ reply_at g st.next_id st.params (signals_in g (state_of st)) (map dataset_of st.sources) index change =
+            ≡ reply_at g st.stores st.next_id st.params (signals_in g (state_of st)) (map dataset_of st.sources) index change =
             λ i. if limit i then Refused cause.Limit else last i in
             rw (has_all, good) (sym whole)
 
@@ -186,64 +197,66 @@ done_is_free : (past : Bool) (reply : Reply) → Done ≡ (if past then Refused 
 done_is_free true reply h = absurd (cc)
 done_is_free false reply h = refl
 
-module _ (g : VgSpec) (st : ChartState) (signals : List (List ℕ × Cell)) (index : ℕ) (change : ChangeOf) (within : index < length st.sources) (h : IsStateOf g
-    (state_of st)) where
-  -- the state without its selections, of which it has none
-  pub plain_state : IsState (state_in st.next_id st.params (map dataset_of st.sources))
-  plain_state =
-      let none = h.stores in
-      let at : State → Type 0 = λ st. IsState st in
-      subst at (λ i. record { next_id = st.next_id; sources = map dataset_of st.sources; params = st.params; stores = none i }) h.is
+-- what is held of a picture is its scene, and its scales
+scene_held : (g : VgSpec) (held : Drawing) (o : Outcome Picture) → o ≡ Drawn (shown g held) → outcome_map (λ (p : Picture). p.scene) o ≡ Drawn held.scene
+scene_held g held o e = ap (outcome_map (λ (p : Picture). p.scene)) e
 
+-- what is kept of a state of which this is drawn
+pub kept_with : (g : VgSpec) (st : ChartState) (held : Drawing) → KeepsRules g → ∥ KeepsSelections g ∥₁ → IsState (state_of st)
+    → names_of (map dataset_of st.sources) ≡ sources_of g → param_names st.params ≡ settable_names (vega_semantics g).params
+    → MayBeStores g st.stores → IsDrawingOf g (map dataset_of st.sources) st.params st.stores held → IsKept g st held
+kept_with g st held rules selections is sources params stores drawn = record {
+  rules = rules;
+  selections = selections;
+  is = is;
+  sources = sources;
+  params = params;
+  stores = stores;
+  scene = scene_held g held (vega_picture_of g (state_of st)) drawn.picture;
+  scales = drawn.scales;
+}
+
+module _ (g : VgSpec) (st : ChartState) (old : Drawing) (signals : List (List ℕ × Cell)) (index : ℕ) (change : ChangeOf) (within : index < length st.sources)
+    (h : IsKept g st old) where
   -- what is kept after a change that is done
-  pub kept_done : (sources : List Named) (scene : Scene) → is_chart g ≡ true
-      → sources_changed st.next_id signals (map dataset_of st.sources) index change ≡ Some (map dataset_of sources)
-      → Done ≡ reply_at g st.next_id st.params signals (map dataset_of st.sources) index change
-      → scene_over g (map dataset_of sources) st.params ≡ Drawn scene
+  pub kept_done : (sources : List Named) (held : Drawing)
+      → sources_changed st.stores st.next_id signals (map dataset_of st.sources) index change ≡ Some (map dataset_of sources)
+      → Done ≡ reply_at g st.stores st.next_id st.params signals (map dataset_of st.sources) index change
+      → IsDrawingOf g (map dataset_of sources) st.params st.stores held
       → (let now : ChartState = record {
         next_id = st.next_id + length change.insert;
         sources = sources;
         params = st.params;
-        stores =
-            st.stores;
+        stores = st.stores;
       } in
-      IsKept g now scene)
-  kept_done sources scene chart changed replied drawn =
+      IsKept g now held)
+  kept_done sources held changed replied drawn =
       let free = done_is_free _ _ replied in
-      let found = some_of (rows_changed st.next_id signals (map dataset_of st.sources) index change) (map dataset_of st.sources)
+      let found = some_of (rows_changed st.stores st.next_id signals (map dataset_of st.sources) index change) (map dataset_of st.sources)
       (map dataset_of sources) index changed in
-      let still = still_state st.next_id st.params signals (map dataset_of st.sources) index change
-      (omega (arith, within, length-map st.sources dataset_of)) plain_state found.0 free found.1 in
-      let none = h.stores in
+      let still = still_state st.stores st.next_id st.params signals (map dataset_of st.sources) index change
+      (omega (arith, within, length-map st.sources dataset_of)) h.is found.0 free found.1 in
       let same = found.2 in
-      let at : State → Type 0 = λ st. IsState st in
-      record {
-        chart = chart;
-        of = record {
-          is = subst at (λ i. record {
-            next_id = st.next_id + length change.insert;
-            sources = sym same i;
-            params = st.params;
-            stores =
-                sym none i;
-          }) still;
-          sources = ap names_of same ∙ names_stay (map dataset_of st.sources) index found.0 ∙ h.sources;
-          params = h.params;
-          stores = h.stores;
-        };
-        drawn = drawn;
-      }
+      let now : ChartState = record {
+        next_id = st.next_id + length change.insert;
+        sources = sources;
+        params = st.params;
+        stores = st.stores;
+      } in
+      kept_with g now held h.rules h.selections
+      (subst (λ sources. IsState (state_in st.stores (st.next_id + length change.insert) st.params sources)) (sym same) still)
+      (ap names_of same ∙ names_stay (map dataset_of st.sources) index found.0 ∙ h.sources) h.params h.stores drawn
 
--- a state whose sources and scene are as they were is kept
-pub kept_same : (g : VgSpec) (st : ChartState) (scene drawn : Scene) (sources : List Named) → IsKept g st scene → sources ≡ st.sources
-    → drawn ≡ scene
-    → (let now : ChartState = record { next_id = st.next_id; sources = sources; params = st.params; stores = st.stores } in IsKept g now drawn)
-kept_same g st scene drawn sources h same shown =
+-- a state whose sources are as they were is kept, with what is drawn of it
+pub kept_same : (g : VgSpec) (st : ChartState) (old held : Drawing) (sources : List Named) → IsKept g st old → sources ≡ st.sources
+    → held ≡ old
+    → (let now : ChartState = record { next_id = st.next_id; sources = sources; params = st.params; stores = st.stores } in IsKept g now held)
+kept_same g st old held sources h same shown =
     let at : List Named → Type 0 = λ sources. (let now : ChartState = record {
       next_id = st.next_id;
       sources = sources;
       params = st.params;
       stores = st.stores;
     } in
-    IsKept g now drawn) in
+    IsKept g now held) in
     subst at (sym same) (subst (IsKept g st) (sym shown) h)

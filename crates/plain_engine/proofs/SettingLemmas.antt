@@ -7,8 +7,7 @@ use Rattle.cell_value.specs.declared.cell.Cell.{Cell}
 use Rattle.cell_value.specs.declared.state.ChartState.{ChartState}
 use Rattle.cell_value.specs.declared.state.Params.{Params}
 use Rattle.cell_value.specs.State.{dataset_of, state_of}
-use Rattle.scene_tree.specs.declared.scene.Scene.{Scene}
-use Rattle.scene_tree.specs.Outcome.{Drawn}
+use Rattle.plot_scenes.specs.declared.scenes.Drawing.{Drawing}
 use Rattle.param_flow.specs.declared.param_error.ParamError.{ParamError}
 use Rattle.param_flow.specs.declared.param_error.ParamError.TheVariants as error
 use Rattle.param_flow.specs.declared.reply.Reply.TheVariants.{Refused}
@@ -17,17 +16,18 @@ use Rattle.param_flow.specs.Machine.{with_value, reply_to_chart, reply_to_set}
 use Rattle.param_flow.specs.Semantics.{ParamOf}
 use Rattle.param_flow.specs.Semantics as meaning
 use Rattle.param_flow.specs.Settings.{is_settable, has_name, has_settable, params_set}
+use Rattle.param_flow.specs.States.{settable_names}
 use Rattle.vega_spec.specs.declared.names.Parameter.{Parameter}
 use Rattle.vega_spec.specs.declared.names.ParameterKind.{ParameterKind}
 use Rattle.vega_spec.specs.declared.names.ParameterKind.TheVariants as kind
 use Rattle.vega_spec.specs.declared.spec.VgSpec.{VgSpec}
 use Rattle.vega_spec.specs.Names.{parameters_of}
-use Rattle.vega_meaning.specs.Charts.{scene_over}
+use Rattle.vega_meaning.specs.Charts.{picture_over}
 use Rattle.vega_meaning.specs.Semantics.{param_kind_of, param_of, vega_semantics}
-use Rattle.vega_meaning.specs.States.{settable_names}
 use Rattle.plain_engine.specs.inner.Kept.{IsKept}
 use Rattle.plain_engine.specs.inner.Settings.{names_of}
-use Rattle.plain_engine.proofs.Replies.{to_drawn}
+use Rattle.plain_engine.specs.inner.Sources.{IsDrawingOf}
+use Rattle.plain_engine.proofs.Replies.{kept_with}
 
 same_kind : (k : ParameterKind) → meaning.is_settable (param_kind_of k) ≡ is_settable k
 same_kind kind.Settable = refl
@@ -59,28 +59,21 @@ names_stay name value (param ∷ params) = ap₂ (λ first rest. first ∷ rest)
     same_name false = refl
 
 -- what is kept once values were put in place
-pub kept_put : (g : VgSpec) (st : ChartState) (scene drawn : Scene) (params : List (List ℕ × Cell)) → IsKept g st scene → names_of params ≡ settable_names (parameters_of g)
-    → scene_over g (map dataset_of st.sources) params ≡ Drawn drawn
-    → (let put : ChartState = record { next_id = st.next_id; sources = st.sources; params = params; stores = st.stores } in IsKept g put drawn)
-kept_put g st scene drawn params h names e = record {
-  chart = h.chart;
-  of = record {
-    is = record {
-      ids_read = h.of.is.ids_read;
-      no_branch = h.of.is.no_branch;
-      ids_rise = h.of.is.ids_rise;
-      ids_distinct = h.of.is.ids_distinct;
-      ids_below_next = h.of.is.ids_below_next;
-      next_id_from = h.of.is.next_id_from;
-      next_id_to = h.of.is.next_id_to;
-      few_rows = h.of.is.few_rows;
-    };
-    sources = h.of.sources;
-    params = names;
-    stores = h.of.stores;
-  };
-  drawn = e;
-}
+pub kept_put : (g : VgSpec) (st : ChartState) (old held : Drawing) (params : List (List ℕ × Cell)) → IsKept g st old
+    → names_of params ≡ settable_names (vega_semantics g).params → IsDrawingOf g (map dataset_of st.sources) params st.stores held
+    → (let put : ChartState = record { next_id = st.next_id; sources = st.sources; params = params; stores = st.stores } in IsKept g put held)
+kept_put g st old held params h names drawn =
+    let put : ChartState = record { next_id = st.next_id; sources = st.sources; params = params; stores = st.stores } in
+    kept_with g put held h.rules h.selections (record {
+      ids_read = h.is.ids_read;
+      no_branch = h.is.no_branch;
+      ids_rise = h.is.ids_rise;
+      ids_distinct = h.is.ids_distinct;
+      ids_below_next = h.is.ids_below_next;
+      next_id_from = h.is.next_id_from;
+      next_id_to = h.is.next_id_to;
+      few_rows = h.is.few_rows;
+    }) h.sources names h.stores drawn
 
 module _ (g : VgSpec) (st : ChartState) (name : List ℕ) (value : Cell) where
   -- the state after the setting has these values
@@ -102,11 +95,10 @@ module _ (g : VgSpec) (st : ChartState) (name : List ℕ) (value : Cell) where
     pub values_set : next.params ≡ now
     values_set = ap (λ (params : Params). params.params) (sym both.1)
 
-    pub reply_set : reply_to_chart (scene_over g (map dataset_of st.sources) next.params) ≡ reply_to_set (vega_semantics g) (state_of st) name value
+    pub reply_set : reply_to_chart (picture_over g (map dataset_of st.sources) next.params st.stores) ≡ reply_to_set (vega_semantics g) (state_of st) name value
     reply_set =
         let there : meaning.has_settable (vega_semantics g) name ≡ true = same_settable (parameters_of g) name ∙ both.0 in
-        ap (λ params. reply_to_chart (scene_over g (map dataset_of st.sources) params)) values_set
-        ∙ sym (to_drawn (scene_over g (map dataset_of st.sources) now))
+        ap (λ params. reply_to_chart (picture_over g (map dataset_of st.sources) params st.stores)) values_set
         ∙ sym (rw there refl)
 
   -- where none was

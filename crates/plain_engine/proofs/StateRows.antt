@@ -15,8 +15,10 @@ use Rattle.json_exact.specs.declared.json.Json.{Json}
 use Rattle.cell_value.specs.declared.cell.Cell.{Cell}
 use Rattle.cell_value.specs.declared.cell.Cell.TheVariants.{Number}
 use Rattle.cell_value.specs.declared.state.Keyed.{Keyed}
+use Rattle.cell_value.specs.declared.state.StoreOf.{StoreOf}
 use Rattle.cell_value.specs.Datum.{Datum, datum_of}
 use Rattle.cell_value.specs.State.{Dataset, ids_of, most_rows, greatest_id, ReadsItsId, IsState}
+use Rattle.expr_eval.specs.Stores.{values_of_stores}
 use Rattle.data_rows.specs.JsonRows.{row_of_json}
 use Rattle.param_flow.specs.declared.command.ChangeOf.{ChangeOf}
 use Rattle.param_flow.specs.Change.{rows_after}
@@ -180,9 +182,9 @@ new_of : (found : Option (List Datum)) (more new : List Datum) → option_map (�
 new_of None more new h = absurd (cc)
 new_of (Some left) more new h = (left, refl, cc)
 
-module _ (next_id : ℕ) (params signals : List (List ℕ × Cell)) (sources : List Dataset) (index : ℕ) (change : ChangeOf)
+module _ (stores : List StoreOf) (next_id : ℕ) (params signals : List (List ℕ × Cell)) (sources : List Dataset) (index : ℕ) (change : ChangeOf)
     (within : index < length sources)
-    (h : IsState (state_in next_id params sources)) where
+    (h : IsState (state_in stores next_id params sources)) where
   -- the rows of all sources are those of one source and the others
   pub parts_of_all : (let parts = split sources index within in rows_in sources ≡ parts.before ++ (data_at sources index ++ parts.later))
   parts_of_all =
@@ -201,11 +203,11 @@ module _ (next_id : ℕ) (params signals : List (List ℕ × Cell)) (sources : L
       (subst (All (λ id. id < next_id)) (map-append (λ (datum : Datum). datum.key.id) old parts.later) later)
 
   -- a state stays one
-  pub still_state : (new : List Datum) → is_past next_id signals sources index change ≡ false
-      → rows_changed next_id signals sources index change ≡ Some new
-      → IsState (state_in (next_id + length change.insert) params (with_data sources index new))
+  pub still_state : (new : List Datum) → is_past stores next_id signals sources index change ≡ false
+      → rows_changed stores next_id signals sources index change ≡ Some new
+      → IsState (state_in stores (next_id + length change.insert) params (with_data sources index new))
   still_state new free changed =
-      let values = values_with signals [] in
+      let values = values_with (values_of_stores stores) signals [] in
       let old = data_at sources index in
       let parts = split sources index within in
       let all = parts_of_all in
@@ -246,7 +248,7 @@ module _ (next_id : ℕ) (params signals : List (List ℕ × Cell)) (sources : L
       let left_below = all_former (λ id. id < next_id) (ids_of left) (ids_of parts.later) ids_left_later in
       let new_rise = subst (λ rows. AllPairs (λ a b. a < b) (ids_of rows)) (sym found.2)
       (rising next_id change.insert left left_rise left_below) in
-      let room = within_limits most_rows (greatest_id + 1) (staying_in_all next_id signals sources index change + length change.insert)
+      let room = within_limits most_rows (greatest_id + 1) (staying_in_all stores next_id signals sources index change + length change.insert)
       (next_id + length change.insert) free in
       let long_new = ap length found.2 ∙ length-append left more in
       let long_more = counted next_id change.insert in

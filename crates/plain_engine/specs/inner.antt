@@ -3,3 +3,6 @@ pub mod Mentions
 pub mod Sources
 pub mod Kept
 pub mod Settings
+pub mod Pictures
+pub mod Drawn
+pub mod Rows

@@ -1,52 +1,54 @@
 // The engine.
-ghost use Rattle.std.specs.Prelude.{◌≡◌, true, Some, IfOk, OnErr};
+ghost use Rattle.std.specs.Prelude.{◌≡◌, Some, IfOk, OnErr};
 ghost use Rattle.cell_value.specs.State.{state_of};
-ghost use Rattle.param_flow.specs.Machine.{reply_to_change, reply_to_set, state_changed, state_if, state_set};
-ghost use Rattle.vega_copies.specs.Tested.{is_chart};
+ghost use Rattle.param_flow.specs.Machine.{reply_to_change, reply_to_event, reply_to_set, state_by, state_changed, state_if, state_set};
+ghost use Rattle.vega_copies.specs.Tested.{KeepsRules};
+ghost use Rattle.vega_selections.specs.Kept.{KeepsSelections};
 ghost use Rattle.vega_meaning.specs.Semantics.{vega_semantics, values_in};
 ghost use Rattle.vega_meaning.specs.States.{IsStateOf};
 ghost use Rattle.plain_engine.specs.inner.Kept.{IsKept, IsKept-prop};
 
+use crate::events::do_event;
 use crate::json_rows::first_bad;
 use crate::mentions::mentions_params;
-use crate::scenes::scene_of_state;
+use crate::pictures::{picture_of_state, print_scene};
 use crate::settings::set_param;
 use crate::sources::{change_source, place_of};
 use cell_value::{Cell, ChartState, Steps};
-use chart_io::{Sink, WriteFault};
-use param_flow::{Cause, ChangeOf, Command, Reply};
+use chart_io::Sink;
+use param_flow::{Cause, ChangeOf, Command, Event, Reply};
 use play_script::{Engine, PrintError};
-use scene_tree::Scene;
+use plot_scenes::Drawing;
 use std::alloc::Global;
 use std::sync::ledger::Ledger;
-use svg_text::print;
 use text_kit::{OutOfMemory, Text};
 use vega_meaning::OpenError;
 use vega_spec::VgSpec;
 
-/// An engine that evaluates the whole chart after each command. It keeps its state, and the scene of that.
+/// An engine that evaluates the whole chart after each command. It keeps its state, and what is drawn of that.
 #[derive(Debug, Drop)]
 pub struct PlainEngine {
     spec: VgSpec,
     state: ChartState,
-    scene: Scene,
-    ghost kept: { IsKept spec state scene } by { IsKept-prop spec state scene },
+    drawing: Drawing,
+    ghost kept: { IsKept spec state drawing } by { IsKept-prop spec state drawing },
 }
 
 impl PlainEngine {
     ghost use Rattle.plain_engine.specs.Engine.{meaning_of, Opens};
 
-    /// Opens a specification that has a meaning so far in a state of it. `Overflow` and `Panels` come exactly where its chart is that.
+    /// Opens a specification that breaks no rule in a state of it. `Overflow` and `Panels` come exactly where its chart is that.
     pub fn open(alloc: Global, g: VgSpec, st: ChartState) -> Result<PlainEngine, OpenError>
-        requires built { is_chart g ≡ true }
+        requires rules { KeepsRules g }
+        requires selections { KeepsSelections g }
         requires state { IsStateOf g (state_of st) }
         ensures { Opens (record { spec = g; state = state_of st }) result }
     {
-        let scene = scene_of_state(alloc, &g, &st)?;
+        let drawing = picture_of_state(alloc, &g, &st)?;
         Ok(PlainEngine {
             spec: g,
             state: st,
-            scene,
+            drawing,
         })
     }
 
@@ -75,7 +77,7 @@ impl PlainEngine {
             alloc,
             &self.spec,
             &mut self.state,
-            &mut self.scene,
+            &mut self.drawing,
             index,
             change,
         )
@@ -95,10 +97,23 @@ impl PlainEngine {
             alloc,
             &self.spec,
             &mut self.state,
-            &mut self.scene,
+            &mut self.drawing,
             name,
             value,
         )
+    }
+
+    // Does an event of the mouse. Where it is refused, or memory is, all stays.
+    fn event(&mut self, alloc: Global, e: &Event) -> Result<Reply, OutOfMemory>
+        ensures reply { IfOk result (λ reply. reply ≡ reply_to_event (vega_semantics self.old.spec) (state_of self.old.state) e.now) }
+        ensures done { IfOk result (λ reply. meaning_of self.new ≡ record {
+          spec = self.old.spec;
+          state = state_if reply (state_of self.old.state)
+              (Some (state_by (vega_semantics self.old.spec) (state_of self.old.state) e.now));
+        }) }
+        ensures kept { OnErr result (meaning_of self.new ≡ meaning_of self.old) }
+    {
+        do_event(alloc, &self.spec, &mut self.state, &mut self.drawing, e)
     }
 }
 
@@ -110,7 +125,7 @@ impl Engine for PlainEngine {
 
     ghost reads = { λ _. 0 };
 
-    ghost stands = { λ engine. standing engine.spec engine.state engine.scene engine.kept };
+    ghost stands = { λ engine. standing engine.spec engine.state engine.drawing engine.kept };
 
     fn apply<L: Ledger>(
         &mut self,
@@ -121,15 +136,13 @@ impl Engine for PlainEngine {
         match c {
             Command::Change { source, change } => { self.change(alloc, source.as_str(), change) }
             Command::Set { name, value } => self.set(alloc, name.as_str(), value),
-            Command::Event(_) | Command::Print => Ok(Reply::Done),
+            Command::Event(event) => self.event(alloc, event),
+            Command::Print => Ok(Reply::Done),
         }
     }
 
     fn print<K: Sink>(&self, out: &mut K) -> Result<(), PrintError> {
-        match print(&self.scene, out) {
-            Ok(()) => Ok(()),
-            Err(WriteFault) => Err(PrintError::Write),
-        }
+        print_scene(&self.drawing.scene, out)
     }
 
     fn last_reads(&self) -> u64 {

@@ -1,10 +1,10 @@
 //! The sources of a state.
-ghost use Rattle.std.specs.Prelude.{◌≡◌, ◌≤◌, ◌<◌, ◌+◌, ◌++◌, ◌||◌, nat_lt, length, map, position, true, IfOk, OnErr};
+ghost use Rattle.std.specs.Prelude.{◌≡◌, ◌≤◌, ◌<◌, ◌+◌, ◌++◌, ◌||◌, nat_lt, length, map, position, IfOk, OnErr};
 ghost use Rattle.std.specs.Str.{bytes_eq};
 ghost use Rattle.cell_value.specs.State.{IsState, state_of, dataset_of, most_rows, greatest_id};
 ghost use Rattle.vega_lists.specs.Held.{AreSources};
-ghost use Rattle.vega_copies.specs.Tested.{is_chart};
-ghost use Rattle.vega_meaning.specs.Charts.{scene_over};
+ghost use Rattle.vega_copies.specs.Tested.{KeepsRules};
+ghost use Rattle.vega_meaning.specs.Charts.{picture_over};
 ghost use Rattle.vega_meaning.specs.Semantics.{signals_in};
 ghost use Rattle.param_flow.specs.Machine.{state_if, reply_to_chart};
 ghost use Rattle.row_edits.specs.Edits.{edited};
@@ -14,12 +14,12 @@ ghost use Rattle.plain_engine.specs.inner.Sources.{rows_at, with_rows, state_in,
 ghost use Rattle.plain_engine.specs.inner.Sources.{sources_if, IsLeft, IsShown};
 
 use crate::json_rows::new_rows;
-use crate::scenes::scene_over;
-use cell_value::{Cell, ChartState, Keyed, Named, Rows};
-use expr_eval::EvalError;
+use crate::pictures::picture_over;
+use cell_value::{Cell, ChartState, Keyed, Named, Rows, StoreOf};
+use expr_eval::{EvalError, Stores};
 use param_flow::{Cause, ChangeOf, Reply};
+use plot_scenes::Drawing;
 use row_edits::{Edit, Edits, Undo, commit, edits_of, take_back};
-use scene_tree::Scene;
 use std::alloc::Global;
 use std::mem::replace;
 use text_kit::{OutOfMemory, Seq, Text};
@@ -73,11 +73,18 @@ fn is_past_limit(next_id: u64, staying: usize, more: usize) -> bool
 
 // The values of the signals in a state of a specification; none where one of them is out of range.
 fn signals_in(alloc: Global, g: &VgSpec, st: &ChartState) -> Result<Seq<(Text, Cell)>, OutOfMemory>
-    requires built { is_chart g.now ≡ true }
+    requires rules { KeepsRules g.now }
     requires state { IsState (state_of st.now) }
     ensures { IfOk result (λ signals. signals ≡ signals_in g.now (state_of st.now)) }
 {
-    match signal_values(alloc, &g.group, st.sources.as_slice(), st.params.as_slice()) {
+    let stores = Stores::of(alloc, st.stores.as_slice())?;
+    match signal_values(
+        alloc,
+        &stores,
+        &g.group,
+        st.sources.as_slice(),
+        st.params.as_slice(),
+    ) {
         Ok(signals) => Ok(signals),
         Err(EvalError::Overflow) => Ok(Seq::new(alloc)),
         Err(EvalError::Memory) => Err(OutOfMemory),
@@ -120,25 +127,26 @@ fn put_rows(
     sources: &mut [Named],
     index: usize,
     params: &[(Text, Cell)],
-    scene: &mut Scene,
+    stores: &[StoreOf],
+    drawing: &mut Drawing,
     edits: Seq<Edit>,
     more: Rows,
 ) -> Result<Reply, OutOfMemory>
-    requires built { is_chart g.now ≡ true }
+    requires rules { KeepsRules g.now }
     requires within { index < length sources.old }
     requires each { length edits ≡ length (rows_at sources.old index) }
     requires fit { AreSources (with_rows sources.old index (edited edits (rows_at sources.old index) ++ more)) }
     ensures reply { IfOk result (λ reply. reply ≡ reply_to_chart
-        (scene_over g.now (map dataset_of (with_rows sources.old index (edited edits (rows_at sources.old index) ++ more))) params.now)) }
+        (picture_over g.now (map dataset_of (with_rows sources.old index (edited edits (rows_at sources.old index) ++ more))) params.now stores.now)) }
     ensures sources { IfOk result (λ reply. sources.new
         ≡ sources_if reply sources.old (with_rows sources.old index (edited edits (rows_at sources.old index) ++ more))) }
-    ensures drawn { IfOk result (λ reply. IsShown reply g.now params.now sources.new scene.old scene.new) }
-    ensures kept { OnErr result ((sources.new ≡ sources.old) × (scene.new ≡ scene.old)) }
+    ensures drawn { IfOk result (λ reply. IsShown reply g.now params.now stores.now sources.new drawing.old drawing.new) }
+    ensures kept { OnErr result ((sources.new ≡ sources.old) × (drawing.new ≡ drawing.old)) }
 {
     let undo = commit_at(alloc, sources, index, edits, more)?;
-    match scene_over(alloc, g, sources, params) {
+    match picture_over(alloc, g, sources, params, stores) {
         Ok(drawn) => {
-            *scene = drawn;
+            *drawing = drawn;
             Ok(Reply::Done)
         }
         Err(OpenError::Overflow) => {
@@ -163,22 +171,25 @@ fn change_rows(
     sources: &mut [Named],
     index: usize,
     params: &[(Text, Cell)],
+    stores: &[StoreOf],
     signals: &[(Text, Cell)],
-    scene: &mut Scene,
+    drawing: &mut Drawing,
     next_id: u64,
     change: &ChangeOf,
 ) -> Result<Reply, OutOfMemory>
-    requires built { is_chart g.now ≡ true }
+    requires rules { KeepsRules g.now }
     requires within { index < length sources.old }
-    requires state { IsState (state_in next_id params.now (map dataset_of sources.old)) }
-    ensures reply { IfOk result (λ reply. reply ≡ reply_at g.now next_id params.now signals.now
+    requires state { IsState (state_in stores.now next_id params.now (map dataset_of sources.old)) }
+    ensures reply { IfOk result (λ reply. reply ≡ reply_at g.now stores.now next_id params.now signals.now
         (map dataset_of sources.old) index change.now) }
     ensures sources { IfOk result (λ reply. IsLeft reply
-        (sources_changed next_id signals.now (map dataset_of sources.old) index change.now) sources.old sources.new) }
-    ensures drawn { IfOk result (λ reply. IsShown reply g.now params.now sources.new scene.old scene.new) }
-    ensures kept { OnErr result ((sources.new ≡ sources.old) × (scene.new ≡ scene.old)) }
+        (sources_changed stores.now next_id signals.now (map dataset_of sources.old) index change.now) sources.old sources.new) }
+    ensures drawn { IfOk result (λ reply. IsShown reply g.now params.now stores.now sources.new drawing.old drawing.new) }
+    ensures kept { OnErr result ((sources.new ≡ sources.old) × (drawing.new ≡ drawing.old)) }
 {
+    let held = Stores::of(alloc, stores)?;
     let plain = PlotParams {
+        stores: &held,
         params: signals,
         lengths: &[],
     };
@@ -197,28 +208,30 @@ fn change_rows(
         return Ok(Reply::Refused(Cause::Overflow));
     }
     let more = new_rows(alloc, next_id, change.insert.as_slice())?;
-    put_rows(alloc, g, sources, index, params, scene, each, more)
+    put_rows(
+        alloc, g, sources, index, params, stores, drawing, each, more,
+    )
 }
 
-/// Does a change of the source at an index, over a state of a specification and the scene of that. Where it is refused, or memory is, all
+/// Does a change of the source at an index, over a state of a specification and what is drawn of that. Where it is refused, or memory is, all
 /// stays.
 pub fn change_source(
     alloc: Global,
     g: &VgSpec,
     st: &mut ChartState,
-    scene: &mut Scene,
+    drawing: &mut Drawing,
     index: usize,
     change: &ChangeOf,
 ) -> Result<Reply, OutOfMemory>
-    requires kept { IsKept g.now st.old scene.old }
+    requires kept { IsKept g.now st.old drawing.old }
     requires within { index < length st.old.sources }
     ensures reply { IfOk result (λ reply. reply
-        ≡ reply_at g.now st.old.next_id st.old.params (signals_in g.now (state_of st.old)) (map dataset_of st.old.sources) index
+        ≡ reply_at g.now st.old.stores st.old.next_id st.old.params (signals_in g.now (state_of st.old)) (map dataset_of st.old.sources) index
         change.now) }
     ensures done { IfOk result (λ reply. state_of st.new ≡ state_if reply (state_of st.old)
         (state_at (signals_in g.now (state_of st.old)) (state_of st.old) index change.now)) }
     ensures memory { OnErr result (st.new ≡ st.old) }
-    ensures kept { IsKept g.now st.new scene.new }
+    ensures kept { IsKept g.now st.new drawing.new }
 {
     let signals = signals_in(alloc, g, st)?;
     let mut sources = replace(&mut st.sources, Seq::new(alloc)).into_vec();
@@ -228,8 +241,9 @@ pub fn change_source(
         &mut sources,
         index,
         st.params.as_slice(),
+        st.stores.as_slice(),
         signals.as_slice(),
-        scene,
+        drawing,
         st.next_id,
         change,
     );

@@ -35,7 +35,7 @@ module _ {X : Type 0} (meaning now : Meaning) (n : ℕ) (line : List ℕ) (held 
       → IsLineDone IsReplyIn n line meaning now (sinks held noted faults) (sinks held_now noted faults) result
   told_done c is other after =
       let at : Meaning → Type 0 = λ m. IsReplyIn meaning n line (reply_text (reply_in meaning c)) [] m in
-      replied (reply_text (reply_in meaning c)) (subst at (sym after) (refl, told meaning.state n line c is other))
+      replied (reply_text (reply_in meaning c)) (subst at (sym after) (refl, told meaning.state n line [] c is other refl))
 
   -- a line that is no command
   pub refused_done : ((c : Command) → IsCommand line c → ⊥) → now ≡ meaning → OnOk result (Appended held held_now refused_line)

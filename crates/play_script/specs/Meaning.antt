@@ -19,7 +19,7 @@ chart_in meaning = vega_chart_of meaning.spec meaning.state
 
 -- the state is one of the specification, and its chart is drawn
 pub record IsStanding (meaning : Meaning) : Type 0 where
-  pub of : IsStateOf meaning.spec meaning.state
+  pub of : ∥ IsStateOf meaning.spec meaning.state ∥₁
   pub drawn : (text : List ℕ) × (chart_in meaning ≡ Drawn text)
 
 -- what the direct machine replies to a command other than a print

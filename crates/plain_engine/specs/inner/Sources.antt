@@ -6,9 +6,11 @@ use Rattle.std.specs.List.{AllPairs}
 use Rattle.cell_value.specs.declared.cell.Cell.{Cell}
 use Rattle.cell_value.specs.declared.state.Keyed.{Keyed}
 use Rattle.cell_value.specs.declared.state.Named.{Named}
+use Rattle.cell_value.specs.declared.state.StoreOf.{StoreOf}
 use Rattle.cell_value.specs.Datum.{Datum, datum_of}
 use Rattle.cell_value.specs.State.{Dataset, dataset_of, State, most_rows, greatest_id}
-use Rattle.scene_tree.specs.declared.scene.Scene.{Scene}
+use Rattle.plot_scenes.specs.declared.scenes.Drawing.{Drawing}
+use Rattle.expr_eval.specs.Stores.{values_of_stores}
 use Rattle.scene_tree.specs.Outcome.{Drawn}
 use Rattle.param_flow.specs.declared.command.ChangeOf.{ChangeOf}
 use Rattle.param_flow.specs.declared.reply.Reply.{Reply}
@@ -18,7 +20,9 @@ use Rattle.param_flow.specs.Change.{rows_after, count_staying}
 use Rattle.param_flow.specs.Machine.{new_rows, reply_to_chart}
 use Rattle.vega_spec.specs.declared.spec.VgSpec.{VgSpec}
 use Rattle.vega_signals.specs.Parameters.{values_with}
-use Rattle.vega_meaning.specs.Charts.{scene_over}
+use Rattle.vega_charts.specs.Charts.{drawing_of}
+use Rattle.vega_meaning.specs.Charts.{picture_over}
+use Rattle.plain_engine.specs.inner.Pictures.{shown, HasScales}
 
 -- the rows of the source at an index; none where there is no source
 abbrev pub rows_at : List Named → ℕ → List Keyed
@@ -43,9 +47,9 @@ with_data [] index rows = []
 with_data (source ∷ sources) zero rows = record { name = source.name; rows = rows } ∷ sources
 with_data (source ∷ sources) (suc index) rows = source ∷ with_data sources index rows
 
--- a state without selections
-abbrev pub state_in : ℕ → List (List ℕ × Cell) → List Dataset → State
-state_in next_id params sources = record { next_id = next_id; sources = sources; params = params; stores = [] }
+-- a state with these stores
+abbrev pub state_in : List StoreOf → ℕ → List (List ℕ × Cell) → List Dataset → State
+state_in stores next_id params sources = record { next_id = next_id; sources = sources; params = params; stores = stores }
 
 -- how many rows sources have
 abbrev pub count_in : List Dataset → ℕ
@@ -55,12 +59,12 @@ count_in sources = length (flat_map (λ (source : Dataset). source.rows) sources
 abbrev pub AreApart : List (List ℕ) → Type 0
 AreApart names = AllPairs (λ a b. a ≢ b) names
 
-module _ (next_id : ℕ) (signals : List (List ℕ × Cell)) (sources : List Dataset) (index : ℕ) (change : ChangeOf) where
+module _ (stores : List StoreOf) (next_id : ℕ) (signals : List (List ℕ × Cell)) (sources : List Dataset) (index : ℕ) (change : ChangeOf) where
   -- the rows of a source after a change; None where an expression is out of range
   abbrev pub rows_changed : Option (List Datum)
   rows_changed =
       option_map (λ left. left ++ map datum_of (new_rows next_id change.insert))
-      (rows_after (values_with signals []) change (data_at sources index))
+      (rows_after (values_with (values_of_stores stores) signals []) change (data_at sources index))
 
   -- the sources after it
   abbrev pub sources_changed : Option (List Dataset)
@@ -68,7 +72,7 @@ module _ (next_id : ℕ) (signals : List (List ℕ × Cell)) (sources : List Dat
 
   -- how many rows would stay in all sources
   abbrev pub staying_in_all : ℕ
-  staying_in_all = (count_in sources - length (data_at sources index)) + count_staying (values_with signals []) change.remove
+  staying_in_all = (count_in sources - length (data_at sources index)) + count_staying (values_with (values_of_stores stores) signals []) change.remove
       (data_at sources index)
 
   -- whether it would leave too many rows, or a new one would have too great an id
@@ -76,15 +80,15 @@ module _ (next_id : ℕ) (signals : List (List ℕ × Cell)) (sources : List Dat
   is_past = nat_lt most_rows (staying_in_all + length change.insert) || nat_lt (greatest_id + 1) (next_id + length change.insert)
 
 -- what is replied where these sources are left
-abbrev pub reply_to_sources : VgSpec → List (List ℕ × Cell) → Option (List Dataset) → Reply
-reply_to_sources g params None = Refused cause.Overflow
-reply_to_sources g params (Some sources) = reply_to_chart (scene_over g sources params)
+abbrev pub reply_to_sources : VgSpec → List StoreOf → List (List ℕ × Cell) → Option (List Dataset) → Reply
+reply_to_sources g stores params None = Refused cause.Overflow
+reply_to_sources g stores params (Some sources) = reply_to_chart (picture_over g sources params stores)
 
 -- what is replied to a change of the source at an index that names what is there and whose rows can be read
-abbrev pub reply_at : VgSpec → ℕ → List (List ℕ × Cell) → List (List ℕ × Cell) → List Dataset → ℕ → ChangeOf → Reply
-reply_at g next_id params signals sources index change =
-    if is_past next_id signals sources index change then Refused cause.Limit
-    else reply_to_sources g params (sources_changed next_id signals sources index change)
+abbrev pub reply_at : VgSpec → List StoreOf → ℕ → List (List ℕ × Cell) → List (List ℕ × Cell) → List Dataset → ℕ → ChangeOf → Reply
+reply_at g stores next_id params signals sources index change =
+    if is_past stores next_id signals sources index change then Refused cause.Limit
+    else reply_to_sources g stores params (sources_changed stores next_id signals sources index change)
 
 -- the state after it
 abbrev pub state_at : List (List ℕ × Cell) → State → ℕ → ChangeOf → Option State
@@ -96,7 +100,7 @@ state_at signals st index change =
       stores =
           st.stores;
     })
-    (sources_changed st.next_id signals st.sources index change)
+    (sources_changed st.stores st.next_id signals st.sources index change)
 
 -- after Done sources are as they were changed, else as they were
 abbrev pub sources_if : Reply → List Named → List Named → List Named
@@ -108,7 +112,12 @@ abbrev pub IsLeft : Reply → Option (List Dataset) → List Named → List Name
 IsLeft Done changed old new = changed ≡ Some (map dataset_of new)
 IsLeft (Refused cause) changed old new = new ≡ old
 
--- after Done a scene is that of these sources, else it is as it was
-abbrev pub IsShown : Reply → VgSpec → List (List ℕ × Cell) → List Named → Scene → Scene → Type 0
-IsShown Done g params sources old new = scene_over g (map dataset_of sources) params ≡ Drawn new
-IsShown (Refused cause) g params sources old new = new ≡ old
+-- what is held is what is drawn over these sources, values and stores: its scene, and the scales of its plots
+pub record IsDrawingOf (g : VgSpec) (sources : List Dataset) (params : List (List ℕ × Cell)) (stores : List StoreOf) (held : Drawing) : Type 0 where
+  pub picture : picture_over g sources params stores ≡ Drawn (shown g held)
+  pub scales : HasScales (drawing_of g (values_of_stores stores) params sources) held
+
+-- after Done it is what is drawn over these sources, else it is as it was
+abbrev pub IsShown : Reply → VgSpec → List (List ℕ × Cell) → List StoreOf → List Named → Drawing → Drawing → Type 0
+IsShown Done g params stores sources old new = IsDrawingOf g (map dataset_of sources) params stores new
+IsShown (Refused cause) g params stores sources old new = new ≡ old

@@ -11,7 +11,7 @@ use Rattle.param_flow.specs.declared.command.Command.TheVariants.{Print}
 use Rattle.param_flow.specs.Commands.{IsCommand, command_of}
 use Rattle.param_flow.specs.Semantics.{Semantics}
 use Rattle.param_flow.specs.Machine.{reply_of, state_after}
-use Rattle.param_flow.specs.Playing.{IsReply, reply_text, refused, printed, told}
+use Rattle.param_flow.specs.Playing.{IsReply, reply_text, refused, printed, told, without_notes}
 use Rattle.vega_meaning.specs.Semantics.{vega_semantics}
 use Rattle.play_script.specs.Meaning.{Meaning, IsReplyIn}
 use Rattle.play_script.specs.inner.Reading.{script_expression}
@@ -44,22 +44,22 @@ one_command line c d p q =
 -- a line has one reply of the direct machine
 module _ (meaning : Semantics) where
   pub one_reply : (st now later : State) (n : ℕ) (line reply other note another : List ℕ)
-      → IsReply meaning st n line reply note now → IsReply meaning st n line other another later
+      → IsReply meaning without_notes st n line reply note now → IsReply meaning without_notes st n line other another later
       → (reply ≡ other) × (note ≡ another) × (now ≡ later)
   one_reply st now later n line reply other note another (refused s m l none) (refused s' m' l' none') = (refl, refl, refl)
   one_reply st now later n line reply other note another (refused s m l none) (printed s' m' l' t is drawn) = absurd (none Print is)
-  one_reply st now later n line reply other note another (refused s m l none) (told s' m' l' c is else) = absurd (none c is)
+  one_reply st now later n line reply other note another (refused s m l none) (told s' m' l' k c is else noted) = absurd (none c is)
   one_reply st now later n line reply other note another (printed s m l t is drawn) (refused s' m' l' none) = absurd (none Print is)
   one_reply st now later n line reply other note another (printed s m l t is drawn) (printed s' m' l' t' is' drawn') =
       let both : Drawn t ≡ Drawn t' = sym drawn ∙ drawn' in (cc, refl, refl)
-  one_reply st now later n line reply other note another (printed s m l t is drawn) (told s' m' l' c is' else) =
+  one_reply st now later n line reply other note another (printed s m l t is drawn) (told s' m' l' k c is' else noted) =
       absurd (else (one_command line c Print is' is))
-  one_reply st now later n line reply other note another (told s m l c is else) (refused s' m' l' none) = absurd (none c is)
-  one_reply st now later n line reply other note another (told s m l c is else) (printed s' m' l' t is' drawn) =
+  one_reply st now later n line reply other note another (told s m l k c is else noted) (refused s' m' l' none) = absurd (none c is)
+  one_reply st now later n line reply other note another (told s m l k c is else noted) (printed s' m' l' t is' drawn) =
       absurd (else (one_command line c Print is is'))
-  one_reply st now later n line reply other note another (told s m l c is else) (told s' m' l' d is' else') =
+  one_reply st now later n line reply other note another (told s m l k c is else noted) (told s' m' l' k' d is' else' noted') =
       let same : c ≡ d = one_command line c d is is' in
-      (ap (λ x. reply_text (reply_of meaning st x)) same, refl, ap (state_after meaning st) same)
+      (ap (λ x. reply_text (reply_of meaning st x)) same, noted ∙ sym noted', ap (state_after meaning st) same)
 
 -- a line has one reply of an engine
 pub one_reply_in : (st now later : Meaning) (n : ℕ) (line reply other note another : List ℕ)

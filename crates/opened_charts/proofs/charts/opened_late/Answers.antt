@@ -1,11 +1,12 @@
-use Rattle.std.proofs.Common.{sym, subst, ap, ◌∙◌}
-use Rattle.vega_copies.specs.Tested.{is_chart}
+use Rattle.std.proofs.Common.{sym, subst}
+use Rattle.vega_copies.specs.Tested.{KeepsRules}
+use Rattle.vega_selections.specs.Kept.{KeepsSelections}
 use Rattle.cell_value.specs.declared.state.ChartState.{ChartState}
 use Rattle.cell_value.specs.State.{state_of}
 use Rattle.vega_spec.specs.declared.spec.VgSpec.{VgSpec}
 use Rattle.vega_meaning.specs.States.{IsStateOf}
 use Rattle.first_form.specs.Opening.{bars_of, opening_of}
-use Rattle.first_form.proofs.BarCharts.{bars_are_charts}
+use Rattle.first_form.proofs.BarCharts.{bars_keep_rules}
 use Rattle.first_form.proofs.OpeningStates.{is_state_of}
 use Rattle.opened_charts.proofs.LateStates.{without_ids, stays_state}
 use Rattle.opened_charts.proofs.charts.opened_late.Goals as goal
@@ -18,5 +19,8 @@ open-requires-clause-state c =
     let is = stays_state (bars_of form) (state_of (opening_of form)) (is_state_of form c.requires) in
     subst of_state (sym c.in_ok-state.ensures) (subst of_spec (sym c.in_ok-spec.ensures) is)
 
-pub open-requires-clause-built : goal.open-requires-clause-built
-open-requires-clause-built c = ap is_chart c.in_ok-spec.ensures ∙ bars_are_charts c.args.form.now
+pub open-requires-clause-rules : goal.open-requires-clause-rules
+open-requires-clause-rules c = subst KeepsRules (sym c.in_ok-spec.ensures) (bars_keep_rules c.args.form.now).0
+
+pub open-requires-clause-selections : goal.open-requires-clause-selections
+open-requires-clause-selections c = subst KeepsSelections (sym c.in_ok-spec.ensures) (bars_keep_rules c.args.form.now).1

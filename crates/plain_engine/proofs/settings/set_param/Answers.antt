@@ -16,7 +16,7 @@ put_params-requires-clause-names c =
     let value = c.args.value.now in
     let e : params_set (parameters_of g) (record { params = st.params; stores = st.stores }) name value ≡ Ok c.in-Ok.next =
     (λ i. params_set (parameters_of g) (sym c.in_ok-now.ensures i) name (sym c.in_ok-given.ensures i)) ∙ c.in-Ok.ensures in
-    ap names_of (values_set g st name value c.in-Ok.next e) ∙ names_stay name value st.params ∙ c.requires.kept.of.params
+    ap names_of (values_set g st name value c.in-Ok.next e) ∙ names_stay name value st.params ∙ c.requires.kept.params
 
 pub returns-in-Ok-clause-reply : goal.returns-in-Ok-clause-reply
 returns-in-Ok-clause-reply c =
