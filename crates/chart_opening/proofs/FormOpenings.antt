@@ -17,13 +17,13 @@ use Rattle.first_form.specs.declared.form.FirstForm.{FirstForm}
 use Rattle.first_form.specs.declared.form.Value.{Value}
 use Rattle.first_form.specs.Bars.{with_ids}
 use Rattle.first_form.specs.Opening.{no_parts, mark_parts, bars_mark, bars_parts, bars_of, data_set_of, values_of, value_row, opening_of}
-use Rattle.first_form.proofs.BarCharts.{opened_group}
+use Rattle.first_form.proofs.BarCharts.{opened_group, no_selections}
 use Rattle.first_form.proofs.ValueRows.{values_are_rows}
 use Rattle.chart_opening.specs.declared.refusal.Refusal.{Refusal}
 use Rattle.chart_opening.specs.declared.refusal.Refusal.TheVariants as refusal
 use Rattle.chart_opening.specs.Laws.{FormsOpen}
 use Rattle.chart_opening.specs.Opening as opening
-use Rattle.chart_opening.specs.Opening.{keyed_rows, sources_from, count_rows, state_with, state_within, state_given}
+use Rattle.chart_opening.specs.Opening.{keyed_rows, sources_from, first_store, count_rows, state_with, state_within, state_given}
 use Rattle.chart_opening.specs.Sources.{Nothing, sets_here, mark_sets_here, mark_sets, source_sets, given_by, rows_by, all_of}
 
 -- the one source
@@ -80,7 +80,7 @@ module _ (form : FirstForm) where
     next_id = counted i + 1;
     sources = sources i;
     params = opening.values_of (signals_of (opened_group form i));
-    stores = [];
+    stores = map first_store (no_selections form i);
   }
 
 pub form_opens : FormsOpen

@@ -1,6 +1,6 @@
 -- Why an opening state is one of its specification.
 use Rattle.std.proofs.Common.{◌≡◌, ◌≢◌, ℕ, suc, ◌+◌, ◌<◌, ◌≤◌, List, [], ◌∷◌, ◌++◌, length, map, flat_map, zip, arith, refl, sym, ap}
-use Rattle.std.proofs.Common.{subst, ◌∙◌}
+use Rattle.std.proofs.Common.{subst, ◌∙◌, inl}
 use Rattle.std.proofs.Common.{length-append, Bool, true, false, Result, Ok, Err, nat_le, if◌then◌else◌}
 use Rattle.std.specs.Prelude.{unwrap_or}
 use Rattle.std.specs.List.{All, AllPairs, filter}
@@ -17,19 +17,31 @@ use Rattle.cell_value.specs.Datum.{Datum, datum_of}
 use Rattle.cell_value.specs.Row.{Cells}
 use Rattle.cell_value.specs.State.{Dataset, IsState, dataset_of, state_of, ids_of, all_rows, ReadsItsId, most_rows}
 use Rattle.vega_spec.specs.declared.data.DataSet.{DataSet}
-use Rattle.vega_spec.specs.declared.names.Parameter.{Parameter}
 use Rattle.vega_spec.specs.declared.signals.Signal.{Signal}
 use Rattle.vega_spec.specs.declared.spec.Group.{out-Group}
 use Rattle.vega_spec.specs.declared.spec.VgSpec.{VgSpec}
 use Rattle.vega_spec.specs.Names.{signals_of, kind_of, parameter_of}
 use Rattle.param_flow.specs.Settings.{is_settable}
-use Rattle.vega_meaning.specs.States.{IsStateOf, settable_names}
+use Rattle.param_flow.specs.Semantics.{ParamOf}
+use Rattle.param_flow.specs.Semantics as meaning
+use Rattle.param_flow.specs.States.{settable_names}
+use Rattle.selection_events.specs.Kept.{Temporal, AreStoresOf}
+use Rattle.selection_events.specs.declared.selection.PlotOf.{PlotOf}
+use Rattle.vega_spec.specs.declared.names.ParameterKind.{ParameterKind}
+use Rattle.vega_spec.specs.declared.names.ParameterKind.TheVariants as kind
+use Rattle.vega_selections.specs.declared.selections.VgSelection.{VgSelection}
+use Rattle.vega_selections.specs.Plots.{plots_of}
+use Rattle.vega_selections.specs.Selections.{selections_of}
+use Rattle.vega_events.specs.Laws.{plain_of}
+use Rattle.vega_meaning.specs.Semantics.{param_kind_of, param_of}
+use Rattle.vega_meaning.specs.States.{IsStateOf}
+use Rattle.vega_meaning.specs.Times.{temporal_of}
 use Rattle.chart_opening.specs.declared.refusal.Refusal.{Refusal}
 use Rattle.chart_opening.specs.declared.refusal.Refusal.TheVariants as refusal
 use Rattle.chart_opening.specs.Laws.{OpeningsAreStates}
 use Rattle.chart_opening.specs.inner.Rows.{state_read}
 use Rattle.chart_opening.specs.Sources.{source_sets, given_by, rows_by, all_of}
-use Rattle.chart_opening.specs.Opening.{keyed_rows, sources_from, values_of, count_rows, state_with, state_within, state_given}
+use Rattle.chart_opening.specs.Opening.{keyed_rows, sources_from, values_of, first_store, count_rows, state_with, state_within, state_given}
 use Rattle.chart_opening.proofs.NameLemmas.{source_names}
 
 -- rows as they are read, with ids that count on from this one
@@ -157,19 +169,31 @@ zipped (x ∷ xs) [] same = absurd (omega arith)
 zipped (x ∷ xs) (y ∷ ys) same = ap suc (zipped xs ys (omega arith))
 
 -- the parameters that can be set have values
-own_set_name : (s : Signal) (b : Bool) (values : List (List ℕ × Cell)) (others : List Parameter)
-    → map (λ (value : List ℕ × Cell). value.0) values ≡ map (λ (p : Parameter). p.name) others
+same_kind : (k : ParameterKind) → meaning.is_settable (param_kind_of k) ≡ is_settable k
+same_kind kind.Settable = refl
+same_kind kind.Computed = refl
+same_kind kind.Selection = refl
+
+own_set_name : (s : Signal) (b : Bool) (values : List (List ℕ × Cell)) (others : List ParamOf)
+    → map (λ (value : List ℕ × Cell). value.0) values ≡ map (λ (p : ParamOf). p.name) others
     → map (λ (value : List ℕ × Cell). value.0) ((if b then (s.name, unwrap_or s.value Null) ∷ [] else []) ++ values)
-    ≡ map (λ (p : Parameter). p.name) (if b then parameter_of s ∷ others else others)
+    ≡ map (λ (p : ParamOf). p.name) (if b then param_of (parameter_of s) ∷ others else others)
 own_set_name s true values others same = ap (λ (names : List (List ℕ)). s.name ∷ names) same
 own_set_name s false values others same = same
 
 values_named : (signals : List Signal)
-    → map (λ (value : List ℕ × Cell). value.0) (values_of signals) ≡ settable_names (map parameter_of signals)
+    → map (λ (value : List ℕ × Cell). value.0) (values_of signals) ≡ settable_names (map param_of (map parameter_of signals))
 values_named [] = refl
 values_named (s ∷ signals) =
-    own_set_name s (is_settable (kind_of s)) (values_of signals) (filter (λ (p : Parameter). is_settable p.kind) (map parameter_of signals))
-    (values_named signals)
+    let others : List ParamOf = filter (λ (p : ParamOf). meaning.is_settable p.kind) (map param_of (map parameter_of signals)) in
+    own_set_name s (is_settable (kind_of s)) (values_of signals) others (values_named signals)
+    ∙ ap (λ b. map (λ (p : ParamOf). p.name) (if b then param_of (parameter_of s) ∷ others else others)) (sym (same_kind (kind_of s)))
+
+-- each selection has a store, which is empty
+stores_are : (temporal : Temporal) (plots : List PlotOf) (selections : List VgSelection)
+    → AreStoresOf temporal plots (map plain_of selections) (map first_store selections)
+stores_are temporal plots [] = tt
+stores_are temporal plots (v ∷ vs) = (inl refl, stores_are temporal plots vs)
 
 few_enough : (g : VgSpec) (rows : List (List Cells)) (state : ChartState) → state_within g rows ≡ Ok state
     → (count_rows rows ≤ 200000) × (state_with g rows ≡ state)
@@ -192,7 +216,7 @@ read_is_state g read state many opens =
       is = is_state g second.0 same few.0;
       sources = named 1 sets second.0 same ∙ source_names g;
       params = values_named (signals_of (out-Group g.group));
-      stores = refl;
+      stores = stores_are (temporal_of g) (plots_of g) (selections_of g);
     })
 
 pub is_state_of : OpeningsAreStates

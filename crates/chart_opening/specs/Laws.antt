@@ -1,10 +1,11 @@
 -- What holds of readings and of opening states.
-use Rattle.std.specs.Prelude.{◌≡◌, ℕ, List, Ok, true}
+use Rattle.std.specs.Prelude.{◌≡◌, ℕ, List, Ok}
 use Rattle.chart_io.specs.Outside.{Files}
 use Rattle.cell_value.specs.State.{state_of}
 use Rattle.cell_value.specs.declared.state.ChartState.{ChartState}
 use Rattle.vega_spec.specs.declared.spec.VgSpec.{VgSpec}
-use Rattle.vega_copies.specs.Tested.{is_chart}
+use Rattle.vega_copies.specs.Tested.{KeepsRules}
+use Rattle.vega_selections.specs.Kept.{KeepsSelections}
 use Rattle.vega_meaning.specs.States.{IsStateOf}
 use Rattle.first_form.specs.declared.form.FirstForm.{FirstForm}
 use Rattle.first_form.specs.Drawable.{IsDrawable}
@@ -32,8 +33,8 @@ abbrev pub FormsOpen : Type 0
 FormsOpen =
     (reading : Reading) (files : Files) (form : FirstForm) → IsDrawable form → opening_by reading files (bars_of form) ≡ Ok (opening_of form)
 
--- what is opened of a file is drawn yet
-abbrev pub OpenedAreCharts : Type 0
-OpenedAreCharts =
-    (reading : Reading) (files : Files) (name : List ℕ) (opened : Opened) → opened_by reading files name ≡ Ok opened
-    → is_chart opened.spec ≡ true
+-- what is opened of a file by a right reading keeps the rules of charts and of selections
+abbrev pub OpenedKeepRules : Type 0
+OpenedKeepRules =
+    (reading : Reading) (files : Files) (name : List ℕ) (opened : Opened) → ReadsJson reading → opened_by reading files name ≡ Ok opened
+    → KeepsRules opened.spec × KeepsSelections opened.spec

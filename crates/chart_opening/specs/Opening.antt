@@ -9,14 +9,18 @@ use Rattle.cell_value.specs.declared.cell.Cell.TheVariants.{Null}
 use Rattle.cell_value.specs.declared.state.Keyed.{Keyed}
 use Rattle.cell_value.specs.declared.state.Named.{Named}
 use Rattle.cell_value.specs.declared.state.ChartState.{ChartState}
+use Rattle.cell_value.specs.declared.state.StoreOf.{StoreOf}
 use Rattle.cell_value.specs.Row.{Cells}
 use Rattle.cell_value.specs.State.{most_rows}
+use Rattle.selection_events.specs.Stores.{empty_store}
 use Rattle.vega_spec.specs.declared.data.DataSet.{DataSet}
 use Rattle.vega_spec.specs.declared.signals.Signal.{Signal}
 use Rattle.vega_spec.specs.declared.spec.Group.{out-Group}
 use Rattle.vega_spec.specs.declared.spec.VgSpec.{VgSpec}
 use Rattle.vega_spec.specs.Names.{signals_of, kind_of}
 use Rattle.param_flow.specs.Settings.{is_settable}
+use Rattle.vega_selections.specs.declared.selections.VgSelection.{VgSelection}
+use Rattle.vega_selections.specs.Selections.{selections_of}
 use Rattle.chart_opening.specs.declared.refusal.Refusal.{Refusal}
 use Rattle.chart_opening.specs.declared.refusal.Refusal.TheVariants as refusal
 use Rattle.chart_opening.specs.Texts.{Reading}
@@ -43,6 +47,13 @@ values_of signals = flat_map own_value signals
 abbrev pub first_values : VgSpec → List (List ℕ × Cell)
 first_values g = values_of (signals_of (out-Group g.group))
 
+-- the store with which a selection begins: it is empty
+abbrev pub first_store : VgSelection → StoreOf
+first_store v = empty_store v.selection.name
+
+abbrev pub first_stores : VgSpec → List StoreOf
+first_stores g = map first_store (selections_of g)
+
 -- how many rows there are
 abbrev pub count_rows : List (List Cells) → ℕ
 count_rows rows = sum_by length rows
@@ -53,7 +64,7 @@ state_with g rows = record {
   next_id = count_rows rows + 1;
   sources = sources_from 1 (zip (source_sets g) rows);
   params = first_values g;
-  stores = [];
+  stores = first_stores g;
 }
 
 -- the state, unless there are more rows than a chart may have

@@ -8,7 +8,6 @@ use Rattle.vega_spec.specs.declared.spec.VgSpec.{VgSpec}
 use Rattle.vega_model.specs.Reading.{Refused, read_of}
 use Rattle.vl_spec.specs.declared.spec.VlSpec.{VlSpec}
 use Rattle.vl_model.specs.Reading as vl
-use Rattle.vega_copies.specs.Tested.{is_chart}
 use Rattle.first_form.specs.declared.form.FirstForm.{FirstForm}
 use Rattle.first_form.specs.FirstForm.{form_of}
 use Rattle.first_form.specs.Opening.{bars_of}
@@ -20,17 +19,13 @@ use Rattle.chart_opening.specs.Schemas.{is_vega}
 use Rattle.chart_opening.specs.Files.{tree_of_file}
 use Rattle.chart_opening.specs.Opening.{opening_by}
 
--- what is no specification that is drawn yet is refused so
+-- a Vega-Lite specification whose chart isn't drawn yet is refused so
 abbrev pub not_drawn_yet : Refusal
 not_drawn_yet = refusal.Spec Unsupported []
 
--- a specification that breaks no rule, where it is one that is drawn yet
-abbrev pub if_drawn : VgSpec → Result VgSpec Refusal
-if_drawn g = if is_chart g then Ok g else Err not_drawn_yet
-
 -- the Vega specification that a tree says, or its first fault
 abbrev pub vega_read : Result VgSpec Refused → Result VgSpec Refusal
-vega_read (Ok g) = if_drawn g
+vega_read (Ok g) = Ok g
 vega_read (Err fault) = Err (refusal.Spec fault.1 fault.0)
 
 -- the Vega specification of a chart of the first form

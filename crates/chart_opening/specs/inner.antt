@@ -4,3 +4,4 @@ pub mod Stops
 pub mod Folders
 pub mod Files
 pub mod Rows
+pub mod Trees

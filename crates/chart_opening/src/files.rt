@@ -1,12 +1,14 @@
 //! Whole files, read through a folder, and what they say.
-ghost use Rattle.std.specs.Prelude.{◌≡◌, ◌≤◌, ◌<◌, length, IfSome, IsErrOf};
+ghost use Rattle.std.specs.Prelude.{◌≡◌, ◌≤◌, ◌<◌, length, IfOk, IfSome, IsErrOf};
 ghost use Rattle.chart_io.specs.Outside.{Rose, Kept, file_of};
 ghost use Rattle.chart_opening.specs.declared.files.FileStop.TheVariants as files;
-ghost use Rattle.chart_opening.specs.Files.{bytes_of, tree_in, tree_of_file};
+ghost use Rattle.json_exact.specs.Reading.{Reads};
+ghost use Rattle.chart_opening.specs.Files.{bytes_of, most_bytes, tree_in, tree_of_file};
 ghost use Rattle.chart_opening.specs.inner.Files.{IsReadOf, IsStopOf};
 ghost use Rattle.chart_opening.specs.inner.Folders.{IsRead};
 ghost use Rattle.chart_opening.specs.inner.Reading.{the_reading};
 ghost use Rattle.chart_opening.specs.inner.Stops.{Gives};
+ghost use Rattle.chart_opening.specs.inner.Trees.{IsFileTree};
 
 use crate::refusal::{OpenStop, Refusal, Stop};
 use chart_io::{Failed, Folder, Got, zeros};
@@ -52,6 +54,7 @@ fn read_pieces<F: Folder>(
     ensures counted { F.faults folder.old ≤ F.faults folder.new }
     ensures stays { Kept (F.files folder.old) (F.files folder.new) }
     ensures told { IfSome (F.files folder.old) (λ told. IsReadOf (file_of told name.now) result) }
+    ensures few { IfOk result (λ bytes. length bytes.items ≤ most_bytes) }
     ensures read { IsErrOf result FileStop.Read → Rose (F.faults folder.old) (F.faults folder.new) }
 {
     let mut bytes = Vec::new(alloc);
@@ -81,8 +84,9 @@ fn stop_of(alloc: Global, name: &str, why: FileStop) -> OpenStop
 /// The bytes of the file of this name, read in pieces of 65,536. It is refused as `Missing` where the folder has no such file, and as
 /// `Size` where the file has more than 16,777,216 bytes.
 pub fn read_file<F: Folder>(alloc: Global, folder: &mut F, name: &str) -> Result<Seq<u8>, OpenStop>
-    ensures { IsRead (F.faults folder.old) (F.faults folder.new) (F.files folder.old) (F.files folder.new) result
+    ensures read { IsRead (F.faults folder.old) (F.faults folder.new) (F.files folder.old) (F.files folder.new) result
         (λ files. bytes_of files name.now) }
+    ensures few { IfOk result (λ bytes. length bytes ≤ most_bytes) }
 {
     let mut buffer = zeros(alloc, PIECE_BYTES)?;
     match read_pieces(alloc, folder, name, &mut buffer) {
@@ -93,7 +97,8 @@ pub fn read_file<F: Folder>(alloc: Global, folder: &mut F, name: &str) -> Result
 
 // The tree of bytes that a file of this name has.
 fn tree_in(alloc: Global, name: &str, bytes: &[u8]) -> Result<Json, Stop>
-    ensures { Gives result (tree_in the_reading name.now bytes.now) }
+    ensures value { Gives result (tree_in the_reading name.now bytes.now) }
+    ensures reads { IfOk result (Reads bytes.now) }
 {
     match json_exact::read(alloc, bytes) {
         Ok(tree) => Ok(tree),
@@ -107,8 +112,9 @@ fn tree_in(alloc: Global, name: &str, bytes: &[u8]) -> Result<Json, Stop>
 
 /// The tree of the file of this name. It is refused as `Json` where its bytes are no JSON text.
 pub fn tree_of_file<F: Folder>(alloc: Global, folder: &mut F, name: &str) -> Result<Json, OpenStop>
-    ensures { IsRead (F.faults folder.old) (F.faults folder.new) (F.files folder.old) (F.files folder.new) result
+    ensures read { IsRead (F.faults folder.old) (F.faults folder.new) (F.files folder.old) (F.files folder.new) result
         (λ files. tree_of_file the_reading files name.now) }
+    ensures tree { IfOk result IsFileTree }
 {
     let bytes = match read_file(alloc, folder, name) {
         Ok(bytes) => bytes,

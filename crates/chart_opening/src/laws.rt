@@ -1,5 +1,5 @@
 //! What holds of readings and of opening states.
-ghost use Rattle.chart_opening.specs.Laws.{JsonIsRead, ReadingsAgree, OpeningsAreStates, FormsOpen, OpenedAreCharts};
+ghost use Rattle.chart_opening.specs.Laws.{JsonIsRead, ReadingsAgree, OpeningsAreStates, FormsOpen, OpenedKeepRules};
 
 /// There is a right reading of JSON.
 pub fn json_is_read()
@@ -21,7 +21,10 @@ pub fn forms_open()
     ensures { FormsOpen }
 {}
 
-/// What is opened of a file has a meaning so far and keeps the rules.
-pub fn opened_are_charts()
-    ensures { OpenedAreCharts }
-{}
+/// What is opened of a file keeps the rules of charts and of selections.
+pub fn opened_keep_rules()
+    ensures { OpenedKeepRules }
+{
+    vega_standing::accepted_keep_rules();
+    vega_standing::accepted_keep_selections();
+}

@@ -15,6 +15,6 @@ mod specs;
 mod states;
 
 pub use compiled::compiled_file;
-pub use laws::{forms_open, json_is_read, opened_are_charts, openings_are_states, readings_agree};
+pub use laws::{forms_open, json_is_read, opened_keep_rules, openings_are_states, readings_agree};
 pub use opened::{Opened, opened_file};
 pub use refusal::{OpenStop, Refusal};

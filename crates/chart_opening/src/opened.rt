@@ -9,6 +9,7 @@ ghost use Rattle.chart_opening.specs.Specs.{opened_with, opened_tree, opened_by}
 ghost use Rattle.chart_opening.specs.Texts.{Reading, ReadsJson};
 ghost use Rattle.chart_opening.specs.inner.Folders.{IsRead};
 ghost use Rattle.chart_opening.specs.inner.Reading.{the_reading};
+ghost use Rattle.chart_opening.specs.inner.Trees.{IsFileTree};
 
 use crate::files::tree_of_file;
 use crate::opening::opening;
@@ -48,10 +49,13 @@ pub fn opened_with<F: Folder>(
 
 // The specification that a tree says, with its opening state.
 fn opened_tree<F: Folder>(alloc: Global, folder: &mut F, tree: Json) -> Result<Opened, OpenStop>
+    requires { IsFileTree tree }
     ensures read { IsRead (F.faults folder.old) (F.faults folder.new) (F.files folder.old) (F.files folder.new) result
         (λ files. opened_tree the_reading files tree) }
     ensures ready { IfOk result IsReady }
 {
+    vega_standing::accepted_keep_rules();
+    vega_standing::accepted_keep_selections();
     let spec = spec_of(alloc, tree)?;
     opened_with(alloc, folder, spec)
 }
@@ -71,8 +75,8 @@ fn opened_in<F: Folder>(alloc: Global, name: &str, folder: &mut F) -> Result<Ope
 /// The Vega specification in the file of this name with the state in which it opens, or the first cause for which it is refused, in
 /// this order: the specification's file (`Missing`, `Size`), its JSON (`Json`), the specification (`Spec`), each file of data in the
 /// order of the sources (`Missing`, `Size`, and then `Json`), the rows of each source (`Row`), the count of all rows (`Rows`). Each
-/// comes exactly where it holds, unless a read failed (`Read`) or memory was refused (`Memory`). Its chart isn't drawn. What is opened is
-/// one that is drawn so far, and its state is one of it.
+/// comes exactly where it holds, unless a read failed (`Read`) or memory was refused (`Memory`). Its chart isn't drawn. What is opened
+/// breaks no rule, and its state is one of it.
 pub fn opened_file<F: Folder>(alloc: Global, name: &str, folder: &mut F) -> Result<Opened, OpenStop>
     ensures counted { F.faults folder.old ≤ F.faults folder.new }
     ensures stays { Kept (F.files folder.old) (F.files folder.new) }

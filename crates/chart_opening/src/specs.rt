@@ -4,7 +4,7 @@ ghost use Rattle.json_exact.specs.declared.spec_error.SpecKind.TheVariants.{Wron
 ghost use Rattle.vega_model.specs.Reading.{read_of};
 ghost use Rattle.first_form.specs.FirstForm.{form_of};
 ghost use Rattle.chart_opening.specs.Compiled.{compiled_of};
-ghost use Rattle.chart_opening.specs.Specs.{not_drawn_yet, if_drawn, vega_read, form_read, vl_spec_of, spec_of};
+ghost use Rattle.chart_opening.specs.Specs.{not_drawn_yet, vega_read, form_read, vl_spec_of, spec_of};
 ghost use Rattle.chart_opening.specs.declared.refusal.Refusal.TheVariants.{Spec};
 ghost use Rattle.chart_opening.specs.declared.refusal.Stop.TheVariants.{Refused};
 ghost use Rattle.chart_opening.specs.inner.Stops.{Gives};
@@ -15,25 +15,13 @@ use first_form::{bars_of, first_form};
 use json_exact::{Json, SpecError, SpecKind};
 use std::alloc::Global;
 use text_kit::Text;
-use vega_copies::is_chart;
 use vega_spec::VgSpec;
 
-// Why what is no specification that is drawn yet is refused.
+// Why a Vega-Lite specification is refused whose chart isn't drawn yet.
 fn not_drawn_yet(alloc: Global) -> Stop
     ensures { result ≡ Refused not_drawn_yet }
 {
     Stop::Refused(Refusal::Spec(SpecKind::Unsupported, Text::new(alloc)))
-}
-
-// A specification that breaks no rule, where it is one that is drawn yet.
-fn if_drawn(alloc: Global, g: VgSpec) -> Result<VgSpec, Stop>
-    ensures { Gives result (if_drawn g) }
-{
-    if is_chart(alloc, &g)? {
-        Ok(g)
-    } else {
-        Err(not_drawn_yet(alloc))
-    }
 }
 
 // The Vega specification that a tree says, or its first fault.
@@ -41,7 +29,7 @@ fn vega_read(alloc: Global, tree: &Json) -> Result<VgSpec, Stop>
     ensures { Gives result (vega_read (read_of tree.now)) }
 {
     match vega_model::read(alloc, tree) {
-        Ok(g) => if_drawn(alloc, g),
+        Ok(g) => Ok(g),
         Err(SpecError::Fault { path, kind }) => Err(Stop::Refused(Refusal::Spec(kind, path))),
         Err(SpecError::Memory) => Err(Stop::Memory),
     }

@@ -5,11 +5,13 @@ ghost use Rattle.cell_value.specs.State.{most_rows};
 ghost use Rattle.vega_spec.specs.Names.{kind_of};
 ghost use Rattle.param_flow.specs.Settings.{is_settable};
 ghost use Rattle.chart_opening.specs.Sources.{source_sets};
-ghost use Rattle.chart_opening.specs.Opening.{keyed_rows, sources_from, own_value, values_of, first_values, count_rows, state_with};
+ghost use Rattle.chart_opening.specs.Opening.{keyed_rows, sources_from, own_value, values_of, first_values, first_store, first_stores, count_rows, state_with};
 
-use cell_value::{Cell, ChartState, Key, Keyed, Named, Row, Rows};
+use cell_value::{Cell, ChartState, Key, Keyed, Named, Row, Rows, StoreOf};
+use selection_events::empty_store;
 use std::alloc::Global;
 use text_kit::{OutOfMemory, Seq, Text};
+use vega_selections::{VgSelection, selections_of};
 use vega_spec::{DataSet, Signal, VgSpec};
 
 // Rows with their keys, whose ids count on from this one.
@@ -102,6 +104,32 @@ fn first_values(alloc: Global, g: &VgSpec) -> Result<Seq<(Text, Cell)>, OutOfMem
     }
 }
 
+// The store with which a selection begins: it is empty.
+fn first_store(alloc: Global, v: &VgSelection) -> Result<StoreOf, OutOfMemory>
+    ensures { IfOk result (λ store. store ≡ first_store v.now) }
+{
+    empty_store(alloc, v.selection.name.as_str())
+}
+
+// The stores with which the selections begin.
+fn first_stores(alloc: Global, g: &VgSpec) -> Result<Seq<StoreOf>, OutOfMemory>
+    ensures { IfOk result (λ stores. stores ≡ first_stores g.now) }
+{
+    let selections = selections_of(alloc, g)?;
+    stores_of(alloc, selections.as_slice())
+}
+
+// The same of some selections.
+fn stores_of(alloc: Global, selections: &[VgSelection]) -> Result<Seq<StoreOf>, OutOfMemory>
+    ensures { IfOk result (λ stores. stores ≡ map first_store selections.now) }
+{
+    let mut stores = Seq::with_capacity(alloc, selections.len())?;
+    for v in selections {
+        stores.push(first_store(alloc, v)?)?;
+    }
+    Ok(stores)
+}
+
 /// The state of a specification whose sources have these rows, so many together.
 pub fn state_with(
     alloc: Global,
@@ -120,6 +148,6 @@ pub fn state_with(
         next_id: count + 1,
         sources: sources_with(alloc, sets, rows)?,
         params: first_values(alloc, g)?,
-        stores: Seq::new(alloc),
+        stores: first_stores(alloc, g)?,
     })
 }

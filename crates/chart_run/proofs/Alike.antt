@@ -21,7 +21,6 @@ use Rattle.expr_syntax.specs.Writing.{text_of}
 use Rattle.chart_io.specs.Outside.{Files, file_of}
 use Rattle.cell_value.specs.declared.state.ChartState.{ChartState}
 use Rattle.vega_spec.specs.declared.spec.VgSpec.{VgSpec}
-use Rattle.vega_copies.specs.Tested.{is_chart}
 use Rattle.vega_model.specs.Reading.{read_of}
 use Rattle.vl_model.specs.Reading as vl
 use Rattle.vega_writing.specs.Spec.{tree_of}
@@ -37,7 +36,6 @@ use Rattle.first_form.specs.declared.form.Value.{Value}
 use Rattle.first_form.specs.FirstForm.{form_of}
 use Rattle.first_form.specs.Drawable.{IsDrawable}
 use Rattle.first_form.specs.Opening.{bars_of, value_object}
-use Rattle.first_form.specs.Laws.{BarsAreCharts}
 use Rattle.first_form.proofs.FormLemmas.{forms_are_drawable}
 use Rattle.chart_opening.specs.declared.opened.Opened.{Opened}
 use Rattle.chart_opening.specs.declared.refusal.Refusal.{Refusal}
@@ -46,7 +44,7 @@ use Rattle.chart_opening.specs.Texts.{Reading, ReadsJson, IsRightFor}
 use Rattle.chart_opening.specs.Files.{most_bytes, bytes_in, bytes_of, tree_in, tree_of_file}
 use Rattle.chart_opening.specs.Schemas.{is_vega, contains_text}
 use Rattle.chart_opening.specs.Opening.{opening_by}
-use Rattle.chart_opening.specs.Specs.{not_drawn_yet, vega_read, vl_spec_of, spec_of, opened_with, opened_tree, opened_by}
+use Rattle.chart_opening.specs.Specs.{vega_read, vl_spec_of, spec_of, opened_with, opened_tree, opened_by}
 use Rattle.chart_opening.specs.Compiled.{compiled_of, compiled_tree, compiled_by}
 use Rattle.chart_opening.specs.Laws.{FormsOpen}
 use Rattle.chart_opening.specs.inner.Reading.{the_reading}
@@ -131,10 +129,8 @@ spec_is : (tree : Json) (g : VgSpec) → is_vega tree ≡ false → vl_spec_of t
 spec_is tree g other is = ap (λ (b : Bool). if b then vega_read (read_of tree) else vl_spec_of tree) other ∙ is
 
 -- that of a tree that says that it is one
-vega_is : (tree : Json) (g : VgSpec) → is_vega tree ≡ true → read_of tree ≡ Ok g → is_chart g ≡ true → spec_of tree ≡ Ok g
-vega_is tree g vega is chart =
-    ap (λ (b : Bool). if b then vega_read (read_of tree) else vl_spec_of tree) vega
-    ∙ ap vega_read is ∙ ap (λ (b : Bool). if b then Ok g else Err not_drawn_yet) chart
+vega_is : (tree : Json) (g : VgSpec) → is_vega tree ≡ true → read_of tree ≡ Ok g → spec_of tree ≡ Ok g
+vega_is tree g vega is = ap (λ (b : Bool). if b then vega_read (read_of tree) else vl_spec_of tree) vega ∙ ap vega_read is
 
 -- ---- a file of the text
 
@@ -154,7 +150,7 @@ tree_read : (name bytes : List ℕ) (r : Result Json ℕ) (tree : Json) → IsRi
 tree_read name bytes (Ok own) tree is e = let same : own ≡ tree = cc in subst (Reads bytes) same is
 tree_read name bytes (Err place) tree is e = absurd cc
 
-module _ (forms_open : FormsOpen) (charts : BarsAreCharts) (reading : Reading) (reads : ReadsJson reading) (files others : Files) where
+module _ (forms_open : FormsOpen) (reading : Reading) (reads : ReadsJson reading) (files others : Files) where
   -- what bytes spell is what such a reading reads
   tree_here : (name bytes : List ℕ) (tree : Json) → Reads bytes tree → tree_in reading name bytes ≡ Ok tree
   tree_here name bytes tree is =
@@ -188,7 +184,7 @@ module _ (forms_open : FormsOpen) (charts : BarsAreCharts) (reading : Reading) (
       let says : Says (line_of g) g = form_says form is sound in
       let tree : tree_of_file reading others emitted ≡ Ok (tree_of g) =
       told_tree reading others emitted (line_of g) told small ∙ tree_here emitted (line_of g) (tree_of g) says.0 in
-      let spec : spec_of (tree_of g) ≡ Ok g = vega_is (tree_of g) g (bars_are_vega form) (says.1 (tree_of g) says.0) (charts form) in
+      let spec : spec_of (tree_of g) ≡ Ok g = vega_is (tree_of g) g (bars_are_vega form) (says.1 (tree_of g) says.0) in
       ap (λ (r : Result Json Refusal). r >>= opened_tree reading others) tree
       ∙ ap (λ (r : Result VgSpec Refusal). r >>= opened_with reading others) spec
       ∙ opened_here form is
@@ -216,6 +212,6 @@ module _ (forms_open : FormsOpen) (charts : BarsAreCharts) (reading : Reading) (
       let opens = emitted_opens form emitted (forms_are_drawable tree form found) sound here fitting in
       (opens ∙ ap (opened_with reading files) bars ∙ rest, file_opens name tree g file (spec_is tree g other read) ∙ rest)
 
-pub compiled_opens_alike : FormsOpen → BarsAreCharts → CompiledOpensAlike
-compiled_opens_alike forms_open charts = λ reading files others name emitted opened reads is told small.
-    both_open forms_open charts reading reads files others name emitted opened is told small
+pub compiled_opens_alike : FormsOpen → CompiledOpensAlike
+compiled_opens_alike forms_open = λ reading files others name emitted opened reads is told small.
+    both_open forms_open reading reads files others name emitted opened is told small

@@ -1,8 +1,9 @@
 //! A file's chart, opened and drawn.
-ghost use Rattle.std.specs.Prelude.{◌≡◌, ◌≤◌, Bool, true, IfErr, IfSome, IsErrOf};
+ghost use Rattle.std.specs.Prelude.{◌≡◌, ◌≤◌, IfErr, IfSome, IsErrOf};
 ghost use Rattle.chart_io.specs.Outside.{Rose, Kept};
 ghost use Rattle.cell_value.specs.State.{state_of};
-ghost use Rattle.vega_copies.specs.Tested.{is_chart};
+ghost use Rattle.vega_copies.specs.Tested.{KeepsRules};
+ghost use Rattle.vega_selections.specs.Kept.{KeepsSelections};
 ghost use Rattle.vega_meaning.specs.States.{IsStateOf};
 ghost use Rattle.plain_engine.specs.Engine.{meaning_of};
 ghost use Rattle.chart_opening.specs.Charts.{drawn_of, drawn_by};
@@ -18,7 +19,8 @@ use vega_meaning::OpenError;
 
 // An engine of what is opened.
 fn engine_of(alloc: Global, opened: Opened) -> Result<PlainEngine, Stop>
-    requires chart { is_chart opened.spec ≡ true }
+    requires rules { KeepsRules opened.spec }
+    requires selections { KeepsSelections opened.spec }
     requires state { IsStateOf opened.spec (state_of opened.state) }
     ensures told { Meets meaning_of result (meant_of (drawn_of opened)) }
     ensures stop { IfErr result IsOpenStop }

@@ -33,6 +33,10 @@ pub mod Top
 pub mod FoldsKept
 pub mod Whole
 pub mod Among
+pub mod SelectedFields
+pub mod Entries
+pub mod SelectedSignals
+pub mod SelectionsKept
 pub mod Keys
 pub mod Seats
 pub mod Nodes

@@ -106,9 +106,13 @@ mark_times x ms marks =
 
 -- ---- data sets
 
+-- a name that is given in an object as of a kind counts
+abbrev pub one_given : Given → List ℕ → List ℕ → Part → ℕ
+one_given kind scope x p = option_map_or (λ (g : GivenName). one (is_given kind scope x g)) (given_by p) 0
+
 -- the name of a source counts
 abbrev pub one_source : List ℕ → Part → ℕ
-one_source x p = option_map_or (λ (g : GivenName). one (is_given given.Source [] x g)) (given_by p) 0
+one_source x p = one_given given.Source [] x p
 
 is_a_text : (o : Opened) → text_passes (λ t. true) o ≡ true → is_some (text_in o) ≡ true
 is_a_text level.Null e = absurd cc
@@ -324,16 +328,6 @@ both : (a b : Bool) → (a && b) ≡ true → (a ≡ true) × (b ≡ true)
 both true b e = (refl, e)
 both false b e = absurd cc
 
--- the names of a source are alike for each that is one
-alike : (x : List ℕ) (g h : GivenName) → is_given given.Source [] x g ≡ true → is_given g.kind g.scope g.name h ≡ is_given given.Source [] x h
-alike x g h e =
-    let one = both (number_of given.Source == number_of g.kind && same_place [] g.scope) (bytes_eq x g.name) e in
-    let two = both (number_of given.Source == number_of g.kind) (same_place [] g.scope) one.0 in
-    let kind : number_of g.kind ≡ 1 = sym (same_number 1 (number_of g.kind) two.0) in
-    let scope : g.scope ≡ [] = sym ((bytes_eq-Decides [] g.scope).0 two.1) in
-    let name : g.name ≡ x = sym ((bytes_eq-Decides x g.name).0 one.1) in
-    λ i. (kind i == number_of h.kind) && same_place (scope i) h.scope && bytes_eq (name i) h.name
-
 single_source : (k : Given) → number_of k ≡ 1 → is_single k ≡ true
 single_source given.Data e = refl
 single_source given.Source e = refl
@@ -345,87 +339,108 @@ single_source given.FacetName e = refl
 single_source given.Selector e = refl
 single_source given.Header e = refl
 
-not_found : (x : List ℕ) (g : GivenName) (names : List GivenName) → is_given given.Source [] x g ≡ true → is_some (find (is_given g.kind g.scope g.name) names) ≡ false →
-    total (λ h. one (is_given given.Source [] x h)) names ≡ 0
-not_found x g [] e none = refl
-not_found x g (h ∷ names) e none = by_test (is_given g.kind g.scope g.name h) (sym (alike x g h e)) none (not_found x g names e)
-  where
-    by_test : (b : Bool) → is_given given.Source [] x h ≡ b → is_some (if b then Some h else find (is_given g.kind g.scope g.name) names) ≡ false →
-        (is_some (find (is_given g.kind g.scope g.name) names) ≡ false → total (λ h. one (is_given given.Source [] x h)) names ≡ 0) →
-        one (is_given given.Source [] x h) + total (λ h. one (is_given given.Source [] x h)) names ≡ 0
-    by_test true same f rest = absurd cc
-    by_test false same f rest =
-        ap (λ b. one b + total (λ h. one (is_given given.Source [] x h)) names) same ∙ sym (zero_more (total (λ h. one (is_given given.Source [] x h)) names)) ∙ rest f
-
-weight_given : (x : List ℕ) (parts : List Part) → weight (one_source x) parts ≡ total (λ h. one (is_given given.Source [] x h)) (given_names parts)
-weight_given x [] = refl
-weight_given x (p ∷ ps) = by_given (given_by p) (weight_given x ps)
-  where
-    by_given : (o : Option GivenName) → weight (one_source x) ps ≡ total (λ h. one (is_given given.Source [] x h)) (given_names ps) →
-        option_map_or (λ (g : GivenName). one (is_given given.Source [] x g)) o 0 + weight (one_source x) ps
-        ≡ total (λ h. one (is_given given.Source [] x h)) (cons_option o (given_names ps))
-    by_given None e = sym (zero_more (weight (one_source x) ps)) ∙ e
-    by_given (Some g) e = ap (λ n. one (is_given given.Source [] x g) + n) e
-
-no_more : (n : ℕ) → n ≤ 1 → n + 0 ≤ 1
-no_more n e = omega arith
-
--- what is counted so far, with one part more
-not_repeated : (x : List ℕ) (earlier : List Part) (p : Part) → repeated earlier p ≡ [] → weight (one_source x) earlier ≤ 1 → weight (one_source x) earlier + one_source x p ≤ 1
-not_repeated x earlier (part.Given g) none few = by_test (is_given given.Source [] x g) refl
-  where
-    by_repeat : (b : Bool) → fault_if b Wrong g.at ≡ [] → b ≡ false
-    by_repeat false e = refl
-    by_repeat true e = absurd cc
-
-    not_had : (single had : Bool) → single ≡ true → (single && had) ≡ false → had ≡ false
-    not_had true had a b = b
-    not_had false had a b = absurd cc
-
-    first_one : (n : ℕ) → n ≡ 0 → n + 1 ≤ 1
-    first_one n e = omega arith
-
-    by_test : (b : Bool) → is_given given.Source [] x g ≡ b → weight (one_source x) earlier + one (is_given given.Source [] x g) ≤ 1
-    by_test false e = subst (λ b. weight (one_source x) earlier + one b ≤ 1) (sym e) (no_more (weight (one_source x) earlier) few)
-    by_test true e =
-        let kind : number_of g.kind ≡ 1 = sym (same_number 1 (number_of g.kind) (both (number_of given.Source == number_of g.kind) (same_place [] g.scope) (both (number_of given.Source == number_of g.kind && same_place [] g.scope) (bytes_eq x g.name) e).0).0) in
-        let had : has_given earlier g.kind g.scope g.name ≡ false = not_had (is_single g.kind) (has_given earlier g.kind g.scope g.name) (single_source g.kind kind) (by_repeat (is_repeated earlier g) none) in
-        subst (λ b. weight (one_source x) earlier + one b ≤ 1) (sym e) (first_one (weight (one_source x) earlier) (weight_given x earlier ∙ not_found x g (given_names earlier) e had))
-not_repeated x earlier (part.Fault at kind) none few = no_more (weight (one_source x) earlier) few
-not_repeated x earlier (part.Used u) none few = no_more (weight (one_source x) earlier) few
-not_repeated x earlier (part.Mark at scope name group) none few = no_more (weight (one_source x) earlier) few
-not_repeated x earlier (part.Plot at) none few = no_more (weight (one_source x) earlier) few
-not_repeated x earlier (part.Data at) none few = no_more (weight (one_source x) earlier) few
-not_repeated x earlier (part.Step at set) none few = no_more (weight (one_source x) earlier) few
-not_repeated x earlier (part.Fold at set fields) none few = no_more (weight (one_source x) earlier) few
-not_repeated x earlier (part.Interval at scope scale marks) none few = no_more (weight (one_source x) earlier) few
-
 none_of : {X : Type 0} (xs ys : List X) → xs ++ ys ≡ [] → (xs ≡ []) × (ys ≡ [])
 none_of [] ys e = (refl, e)
 none_of (x ∷ xs) ys e = absurd cc
 
--- each part after those before it
-from_here : (x : List ℕ) (all before rest : List Part) → all ≡ before ++ rest → weight (one_source x) before ≤ 1 →
-    flat_map (λ (row : ℕ × Part). repeated (take row.0 all) row.1) (enumerate_from (length before) rest) ≡ [] → weight (one_source x) all ≤ 1
-from_here x all before [] is few none = subst (λ ps. weight (one_source x) ps ≤ 1) (sym (is ∙ append-nil before)) few
-from_here x all before (p ∷ rest) is few none =
-    let parts = none_of (repeated (take (length before) all) p) (flat_map (λ (row : ℕ × Part). repeated (take row.0 all) row.1) (enumerate_from (length before + 1) rest)) none in
-    let front : take (length before) all ≡ before = ap (take (length before)) is ∙ take-append_seam before (p ∷ rest) in
-    let next : weight (one_source x) (before ++ p ∷ []) ≤ 1 =
-    subst (λ n. n ≤ 1) (sym (weight_append (one_source x) before (p ∷ []))) (ended (weight (one_source x) before) (one_source x p)
-    (not_repeated x before p (ap (λ ps. repeated ps p) (sym front) ∙ parts.0) few)) in
-    from_here x all (before ++ p ∷ []) rest (is ∙ sym (append_assoc before (p ∷ []) rest)) next
-    (ap (λ n. flat_map (λ (row : ℕ × Part). repeated (take row.0 all) row.1) (enumerate_from n rest)) (length-append before (p ∷ [])) ∙ parts.1)
-  where
-    ended : (a b : ℕ) → a + b ≤ 1 → a + (b + 0) ≤ 1
-    ended a b e = omega arith
+no_more : (n : ℕ) → n ≤ 1 → n + 0 ≤ 1
+no_more n e = omega arith
 
--- a source's name stands once at most among parts in which no name is given twice
+-- names of a kind that is given once at most
+module _ (of_kind : Given) (scope : List ℕ) (single : (k : Given) → number_of k ≡ number_of of_kind → is_single k ≡ true) where
+  -- the names are alike for each that is one
+  alike : (x : List ℕ) (g h : GivenName) → is_given of_kind scope x g ≡ true → is_given g.kind g.scope g.name h ≡ is_given of_kind scope x h
+  alike x g h e =
+      let first = both (number_of of_kind == number_of g.kind && same_place scope g.scope) (bytes_eq x g.name) e in
+      let two = both (number_of of_kind == number_of g.kind) (same_place scope g.scope) first.0 in
+      let kind : number_of g.kind ≡ number_of of_kind = sym (same_number (number_of of_kind) (number_of g.kind) two.0) in
+      let place : g.scope ≡ scope = sym ((bytes_eq-Decides scope g.scope).0 two.1) in
+      let name : g.name ≡ x = sym ((bytes_eq-Decides x g.name).0 first.1) in
+      λ i. (kind i == number_of h.kind) && same_place (place i) h.scope && bytes_eq (name i) h.name
+
+  not_found : (x : List ℕ) (g : GivenName) (names : List GivenName) → is_given of_kind scope x g ≡ true → is_some (find (is_given g.kind g.scope g.name) names) ≡ false →
+      total (λ h. one (is_given of_kind scope x h)) names ≡ 0
+  not_found x g [] e none = refl
+  not_found x g (h ∷ names) e none = by_test (is_given g.kind g.scope g.name h) (sym (alike x g h e)) none (not_found x g names e)
+    where
+      by_test : (b : Bool) → is_given of_kind scope x h ≡ b → is_some (if b then Some h else find (is_given g.kind g.scope g.name) names) ≡ false →
+          (is_some (find (is_given g.kind g.scope g.name) names) ≡ false → total (λ h. one (is_given of_kind scope x h)) names ≡ 0) →
+          one (is_given of_kind scope x h) + total (λ h. one (is_given of_kind scope x h)) names ≡ 0
+      by_test true same f rest = absurd cc
+      by_test false same f rest =
+          ap (λ b. one b + total (λ h. one (is_given of_kind scope x h)) names) same ∙ sym (zero_more (total (λ h. one (is_given of_kind scope x h)) names)) ∙ rest f
+
+  weight_given : (x : List ℕ) (parts : List Part) → weight (one_given of_kind scope x) parts ≡ total (λ h. one (is_given of_kind scope x h)) (given_names parts)
+  weight_given x [] = refl
+  weight_given x (p ∷ ps) = by_given (given_by p) (weight_given x ps)
+    where
+      by_given : (o : Option GivenName) → weight (one_given of_kind scope x) ps ≡ total (λ h. one (is_given of_kind scope x h)) (given_names ps) →
+          option_map_or (λ (g : GivenName). one (is_given of_kind scope x g)) o 0 + weight (one_given of_kind scope x) ps
+          ≡ total (λ h. one (is_given of_kind scope x h)) (cons_option o (given_names ps))
+      by_given None e = sym (zero_more (weight (one_given of_kind scope x) ps)) ∙ e
+      by_given (Some g) e = ap (λ n. one (is_given of_kind scope x g) + n) e
+
+  -- what is counted so far, with one part more
+  not_repeated : (x : List ℕ) (earlier : List Part) (p : Part) → repeated earlier p ≡ [] → weight (one_given of_kind scope x) earlier ≤ 1 →
+      weight (one_given of_kind scope x) earlier + one_given of_kind scope x p ≤ 1
+  not_repeated x earlier (part.Given g) none few = by_test (is_given of_kind scope x g) refl
+    where
+      by_repeat : (b : Bool) → fault_if b Wrong g.at ≡ [] → b ≡ false
+      by_repeat false e = refl
+      by_repeat true e = absurd cc
+
+      not_had : (single had : Bool) → single ≡ true → (single && had) ≡ false → had ≡ false
+      not_had true had a b = b
+      not_had false had a b = absurd cc
+
+      first_one : (n : ℕ) → n ≡ 0 → n + 1 ≤ 1
+      first_one n e = omega arith
+
+      by_test : (b : Bool) → is_given of_kind scope x g ≡ b → weight (one_given of_kind scope x) earlier + one (is_given of_kind scope x g) ≤ 1
+      by_test false e = subst (λ b. weight (one_given of_kind scope x) earlier + one b ≤ 1) (sym e) (no_more (weight (one_given of_kind scope x) earlier) few)
+      by_test true e =
+          let kind : number_of g.kind ≡ number_of of_kind =
+          sym (same_number (number_of of_kind) (number_of g.kind) (both (number_of of_kind == number_of g.kind) (same_place scope g.scope)
+          (both (number_of of_kind == number_of g.kind && same_place scope g.scope) (bytes_eq x g.name) e).0).0) in
+          let had : has_given earlier g.kind g.scope g.name ≡ false =
+          not_had (is_single g.kind) (has_given earlier g.kind g.scope g.name) (single g.kind kind) (by_repeat (is_repeated earlier g) none) in
+          subst (λ b. weight (one_given of_kind scope x) earlier + one b ≤ 1) (sym e)
+          (first_one (weight (one_given of_kind scope x) earlier) (weight_given x earlier ∙ not_found x g (given_names earlier) e had))
+  not_repeated x earlier (part.Fault at kind) none few = no_more (weight (one_given of_kind scope x) earlier) few
+  not_repeated x earlier (part.Used u) none few = no_more (weight (one_given of_kind scope x) earlier) few
+  not_repeated x earlier (part.Mark at object name group) none few = no_more (weight (one_given of_kind scope x) earlier) few
+  not_repeated x earlier (part.Plot at) none few = no_more (weight (one_given of_kind scope x) earlier) few
+  not_repeated x earlier (part.Data at) none few = no_more (weight (one_given of_kind scope x) earlier) few
+  not_repeated x earlier (part.Step at set) none few = no_more (weight (one_given of_kind scope x) earlier) few
+  not_repeated x earlier (part.Fold at set fields) none few = no_more (weight (one_given of_kind scope x) earlier) few
+  not_repeated x earlier (part.Interval at object scale marks) none few = no_more (weight (one_given of_kind scope x) earlier) few
+
+  -- each part after those before it
+  from_here : (x : List ℕ) (all before rest : List Part) → all ≡ before ++ rest → weight (one_given of_kind scope x) before ≤ 1 →
+      flat_map (λ (row : ℕ × Part). repeated (take row.0 all) row.1) (enumerate_from (length before) rest) ≡ [] → weight (one_given of_kind scope x) all ≤ 1
+  from_here x all before [] is few none = subst (λ ps. weight (one_given of_kind scope x) ps ≤ 1) (sym (is ∙ append-nil before)) few
+  from_here x all before (p ∷ rest) is few none =
+      let parts = none_of (repeated (take (length before) all) p) (flat_map (λ (row : ℕ × Part). repeated (take row.0 all) row.1) (enumerate_from (length before + 1) rest)) none in
+      let front : take (length before) all ≡ before = ap (take (length before)) is ∙ take-append_seam before (p ∷ rest) in
+      let next : weight (one_given of_kind scope x) (before ++ p ∷ []) ≤ 1 =
+      subst (λ n. n ≤ 1) (sym (weight_append (one_given of_kind scope x) before (p ∷ []))) (ended (weight (one_given of_kind scope x) before) (one_given of_kind scope x p)
+      (not_repeated x before p (ap (λ ps. repeated ps p) (sym front) ∙ parts.0) few)) in
+      from_here x all (before ++ p ∷ []) rest (is ∙ sym (append_assoc before (p ∷ []) rest)) next
+      (ap (λ n. flat_map (λ (row : ℕ × Part). repeated (take row.0 all) row.1) (enumerate_from n rest)) (length-append before (p ∷ [])) ∙ parts.1)
+    where
+      ended : (a b : ℕ) → a + b ≤ 1 → a + (b + 0) ≤ 1
+      ended a b e = omega arith
+
+  -- a name stands once at most among parts in which no name is given twice
+  pub given_once : (x : List ℕ) (parts : List Part) → twice parts ≡ [] → weight (one_given of_kind scope x) parts ≤ 1
+  given_once x parts none = from_here x parts [] parts refl zero_few none
+    where
+      zero_few : 0 ≤ 1
+      zero_few = omega arith
+
+-- so does a source's name
 pub at_most_once : (x : List ℕ) (parts : List Part) → twice parts ≡ [] → weight (one_source x) parts ≤ 1
-at_most_once x parts none = from_here x parts [] parts refl zero_few none
-  where
-    zero_few : 0 ≤ 1
-    zero_few = omega arith
+at_most_once x parts none = given_once given.Source [] single_source x parts none
 
 -- names of which each stands once at most are apart
 unlike_all : (x : List ℕ) (names : List (List ℕ)) → times x names ≤ 0 → All (λ name. x ≢ name) names

@@ -1,7 +1,6 @@
 -- What is read keeps all rules.
 use Rattle.std.proofs.Common.{◌≡◌, ℕ, ◌≤◌, ◌^◌, List, length, refl, subst}
-use Rattle.std.specs.Prelude.{Option, Some, None, true, Ok}
-use Rattle.std.proofs.lemmas.Bool.{and_from}
+use Rattle.std.specs.Prelude.{Option, Some, None, Ok}
 use Rattle.json_exact.specs.declared.json.Json.{Json}
 use Rattle.json_exact.specs.Reading.{Reads}
 use Rattle.spec_schema.specs.declared.fault.Fault.{Fault}
@@ -9,7 +8,7 @@ use Rattle.vega_model.specs.Faults.{first_fault_of}
 use Rattle.vega_model.specs.Reading.{read_of, unless_fault}
 use Rattle.vega_spec.specs.declared.spec.VgSpec.{VgSpec}
 use Rattle.vega_building.specs.Spec.{spec_of}
-use Rattle.vega_copies.specs.Tested.{is_built, keeps_rules, is_chart, KeepsRules, IsBuilt}
+use Rattle.vega_copies.specs.Tested.{KeepsRules}
 use Rattle.vega_copies.proofs.PassLaw.{rules_pass}
 use Rattle.vega_standing.specs.OwnNames.{HasOwnNames}
 use Rattle.vega_standing.specs.Laws.{HasFewGroups}
@@ -32,8 +31,7 @@ pub read_as : (o : Option Fault) (g h : VgSpec) → unless_fault o h ≡ Ok g �
 read_as None g h e = (refl, cc)
 read_as (Some f) g h e = absurd cc
 
-pub accepted : (bytes : List ℕ) (tree : Json) (g : VgSpec) → Reads bytes tree → length bytes ≤ 2 ^ 24 → read_of tree ≡ Ok g → IsBuilt g → is_chart g ≡ true
-accepted bytes tree g reads small e built =
+pub accepted : (bytes : List ℕ) (tree : Json) (g : VgSpec) → Reads bytes tree → length bytes ≤ 2 ^ 24 → read_of tree ≡ Ok g → KeepsRules g
+accepted bytes tree g reads small e =
     let read : (first_fault_of tree ≡ None) × (spec_of tree ≡ g) = read_as (first_fault_of tree) g (spec_of tree) e in
-    let kept : KeepsRules g = subst KeepsRules read.1 (files_kept bytes tree reads small read.0) in
-    and_from (is_built g) (keeps_rules g) built kept
+    subst KeepsRules read.1 (files_kept bytes tree reads small read.0)

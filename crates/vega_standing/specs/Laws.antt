@@ -8,7 +8,8 @@ use Rattle.vega_model.specs.Faults.{first_fault_of}
 use Rattle.vega_model.specs.Reading.{read_of}
 use Rattle.vega_copies.specs.Outlines.{outline_of, count_groups}
 use Rattle.vega_copies.specs.Fitting.{folds_fit}
-use Rattle.vega_copies.specs.Tested.{keeps_object, all_objects, has_sizes, is_chart, IsBuilt, KeepsRules}
+use Rattle.vega_copies.specs.Tested.{keeps_object, all_objects, has_sizes, KeepsRules}
+use Rattle.vega_selections.specs.Kept.{KeepsSelections}
 use Rattle.vega_standing.specs.OwnNames.{HasOwnNames}
 
 -- what a specification keeps that its objects keep each by itself
@@ -42,6 +43,11 @@ RulesAreKept = (tree : Json) → HasOwnNames tree → first_fault_of tree ≡ No
 abbrev pub FilesKeepRules : Type 0
 FilesKeepRules = (bytes : List ℕ) (tree : Json) → Reads bytes tree → length bytes ≤ 2 ^ 24 → first_fault_of tree ≡ None → KeepsRules (spec_of tree)
 
--- and where it has no selections besides, it is one that is drawn
-abbrev pub AcceptedAreCharts : Type 0
-AcceptedAreCharts = (bytes : List ℕ) (tree : Json) (g : VgSpec) → Reads bytes tree → length bytes ≤ 2 ^ 24 → read_of tree ≡ Ok g → IsBuilt g → is_chart g ≡ true
+-- what is read of such a tree is a specification that keeps all rules
+abbrev pub AcceptedKeepRules : Type 0
+AcceptedKeepRules = (bytes : List ℕ) (tree : Json) (g : VgSpec) → Reads bytes tree → length bytes ≤ 2 ^ 24 → read_of tree ≡ Ok g → KeepsRules g
+
+-- and whose selections have names of their own, and keep the same of each kind of click
+abbrev pub AcceptedKeepSelections : Type 0
+AcceptedKeepSelections =
+    (bytes : List ℕ) (tree : Json) (g : VgSpec) → Reads bytes tree → length bytes ≤ 2 ^ 24 → read_of tree ≡ Ok g → KeepsSelections g

@@ -1,5 +1,5 @@
 //! Laws of specifications that are read.
-ghost use Rattle.vega_standing.specs.Laws.{ObjectsAreKept, FoldsAreKept, RulesAreKept, FilesKeepRules, AcceptedAreCharts};
+ghost use Rattle.vega_standing.specs.Laws.{ObjectsAreKept, FoldsAreKept, RulesAreKept, FilesKeepRules, AcceptedKeepRules, AcceptedKeepSelections};
 ghost use Rattle.vega_standing.specs.Orders.{AcceptedAreInOrder, AcceptedSettle};
 
 /// Where a tree has no fault and no object in it has a name twice, the objects of the specification that it says keep what charts ask.
@@ -22,9 +22,14 @@ pub fn files_keep_rules()
     ensures { FilesKeepRules }
 {}
 
-/// What is read of a tree of at most 16 MiB is a specification that is drawn, where it has no selections.
-pub fn accepted_are_charts()
-    ensures { AcceptedAreCharts }
+/// What is read of a tree of at most 16 MiB is a specification that keeps all rules that charts ask.
+pub fn accepted_keep_rules()
+    ensures { AcceptedKeepRules }
+{}
+
+/// Its selections have names of their own, keep the same fields of both kinds of clicks, and none does something on clicks and on drags.
+pub fn accepted_keep_selections()
+    ensures { AcceptedKeepSelections }
 {}
 
 /// The signals of each object of what is read stand in an order, in which each needs only those before it.

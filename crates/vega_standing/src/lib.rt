@@ -4,6 +4,6 @@
 mod laws;
 
 pub use laws::{
-    accepted_are_charts, accepted_signals_are_in_order, accepted_signals_settle, files_keep_rules,
-    folds_are_kept, objects_are_kept, rules_are_kept,
+    accepted_keep_rules, accepted_keep_selections, accepted_signals_are_in_order,
+    accepted_signals_settle, files_keep_rules, folds_are_kept, objects_are_kept, rules_are_kept,
 };

@@ -7,8 +7,8 @@ use Rattle.chart_opening.proofs.compiled.compiled_in.Goals as goal
 pub returns-in-Ok : goal.returns-in-Ok
 returns-in-Ok g c =
     then_read _ _ _ _ _ _ c.in-Ok.tree c.compiled_tree.result (λ files. tree_of_file the_reading files c.args.name.now)
-    (λ files. compiled_tree the_reading files) c.in-Ok.ensures c.compiled_tree.ensures
+    (λ files. compiled_tree the_reading files) c.in-Ok.ensures.read c.compiled_tree.ensures
 
 pub returns-in-Err : goal.returns-in-Err
 returns-in-Err g c =
-    stopped _ _ _ _ c.in-Err.why (λ files. tree_of_file the_reading files c.args.name.now) (λ files. compiled_tree the_reading files) c.in-Err.ensures
+    stopped _ _ _ _ c.in-Err.why (λ files. tree_of_file the_reading files c.args.name.now) (λ files. compiled_tree the_reading files) c.in-Err.ensures.read

@@ -2,7 +2,7 @@ use Rattle.chart_opening.specs.Specs.{opened_with, spec_of}
 use Rattle.chart_opening.specs.inner.Reading.{the_reading}
 use Rattle.chart_opening.proofs.FolderLemmas.{then_read, stopped_from, quiet}
 use Rattle.chart_opening.proofs.ReadyLemmas.{ready_of}
-use Rattle.chart_opening.proofs.ChartOpenings.{said_chart}
+use Rattle.chart_opening.proofs.ChartOpenings.{said_rules}
 use Rattle.chart_opening.proofs.opened.opened_tree.Goals as goal
 
 pub returns-in_err-spec-clause-read : goal.returns-in_err-spec-clause-read
@@ -17,5 +17,5 @@ returns-clause-read g c =
 
 pub returns-clause-ready : goal.returns-clause-ready
 returns-clause-ready g c =
-    ready_of c.opened_with.result c.in_ok-spec.spec (said_chart c.args.tree c.in_ok-spec.spec c.in_ok-spec.ensures) c.opened_with.ensures.spec
-    c.opened_with.ensures.state
+    let kept = said_rules c.accepted_keep_rules.ensures c.accepted_keep_selections.ensures c.args.tree c.in_ok-spec.spec c.requires c.in_ok-spec.ensures in
+    ready_of c.opened_with.result c.in_ok-spec.spec kept.0 kept.1 c.opened_with.ensures.spec c.opened_with.ensures.state

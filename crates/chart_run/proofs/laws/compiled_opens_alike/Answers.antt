@@ -1,7 +1,6 @@
-use Rattle.first_form.proofs.BarCharts.{bars_are_charts}
 use Rattle.chart_opening.proofs.FormOpenings.{form_opens}
 use Rattle.chart_run.proofs.Alike.{compiled_opens_alike}
 use Rattle.chart_run.proofs.laws.compiled_opens_alike.Goals as goal
 
 pub returns : goal.returns
-returns c = compiled_opens_alike form_opens bars_are_charts
+returns c = compiled_opens_alike form_opens

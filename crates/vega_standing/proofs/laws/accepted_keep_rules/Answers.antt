@@ -1,5 +1,5 @@
 use Rattle.vega_standing.proofs.Whole.{accepted}
-use Rattle.vega_standing.proofs.laws.accepted_are_charts.Goals as goal
+use Rattle.vega_standing.proofs.laws.accepted_keep_rules.Goals as goal
 
 pub returns : goal.returns
 returns c = accepted
