@@ -3,9 +3,9 @@
     bench/vl_faults.py [PROGRAM [COUNT [SEED]]]
 Each is a tree of forms that knows how it can be spoiled: a value of another form, a member that isn't known, one that is missing, an
 expression without a reading, a name that isn't there or is there already, a number past its bounds. Every tenth one is tried as it is, and has
-to be accepted. Left out is what makes a second fault elsewhere: a parameter whose name is lost while it is used, a channel of no form on which
-a selection rests, a mark of no type beside a size. The program is run once for each, by as many threads as there are processors: COUNT is
-100,000. A line is written for each that is told otherwise, with the specification; the status is then 1.
+to be accepted. Left out is what makes a second fault elsewhere: a parameter whose name is lost while it is used, and the type of a mark
+that has a size. The program is run once for each, by as many threads as there are processors, or as VL_FAULTS_JOBS says: COUNT is 100,000. A line is
+written for each that is told otherwise, with the specification; the status is then 1.
 """
 import json, os, random, re, subprocess, sys, tempfile
 from concurrent.futures import ThreadPoolExecutor
@@ -123,14 +123,6 @@ class Maker:
             "color": ["quantitative", "nominal"], "opacity": ["quantitative", "nominal"],
             "size": ["quantitative", "nominal"], "shape": ["nominal"]}.items()}
         self.pending = self.params()
-        self.fragile = []    # what can't be ill-formed without another fault: a selection rests on it
-        self.along = []      # the definitions of x and y, which share scales
-
-    def rests_on(self, form):
-        self.fragile.append(form)
-        for name, inner in form.members if isinstance(form, Node) else []:
-            if name in ("field", "type", "bin", "scale"):
-                self.rests_on(inner)
 
     # ---- names
 
@@ -254,7 +246,8 @@ class Maker:
     # ---- channels
 
     def scale(self, channel, kind):
-        right = {"quantitative": "linear", "temporal": "time"}.get(kind) or {"x": "band", "y": "point", "color": "ordinal", "shape": "ordinal", "opacity": "point", "size": "point"}.get(channel, "band")
+        right = {"quantitative": "linear", "temporal": "time"}.get(kind) or {"x": "band", "y": "point", "color": "ordinal", "shape": "ordinal", "opacity": random.choice(["point", "ordinal"]), "size": "point"}.get(channel, "band")
+        listed = right == "ordinal" and channel == "opacity"  # its range is a list only beside its type
         other = {"linear": "time", "time": "band", "band": "linear", "point": "time", "ordinal": "band"}[right]
         has_scale = channel in ("x", "y", "color", "opacity", "size", "shape")
         def type_():
@@ -269,10 +262,12 @@ class Maker:
         def range_():
             if not has_scale:
                 return Items([Leaf("red", [[], {}]), Leaf(5, [-1, 1000001, {}])], bad=(7, [], "x"))
+            if listed:
+                return Items([Leaf(0, [[], {}]), Leaf(1, [-1, 1000001, {}]), Leaf(2, [{}])], bad=(7, [], "x"))
             if right == "ordinal":
                 return Items([Leaf("red", [[], {}]), Leaf(5, [-1, 1000001, {}])], bad=(7, [], "x"))
             return Items([Leaf(0, [-0.000001, 1000001, {}]), Leaf(100, [-1, 1000000.000001, {}])], bad=(7, [], [1], [1, 2, 3], ["a", "b"]))
-        return Node(some(("type", False, type_), ("domain", False, domain), ("range", False, (lambda: None) if channel == "color" and right != "ordinal" else range_),
+        return Node(some(("type", listed, type_), ("domain", False, domain), ("range", False, (lambda: None) if channel == "color" and right != "ordinal" else range_),
             ("scheme", False, lambda: name_of("blues")), ("zero", False, lambda: flag(True)), ("nice", False, lambda: flag(False)), ("padding", False, lambda: number(0, 1)),
             ("paddingInner", False, lambda: number(0, 1)), ("paddingOuter", False, lambda: number(0, 1)), ("reverse", False, lambda: flag(True))))
 
@@ -295,6 +290,8 @@ class Maker:
             if test[0][0] == "param" and random.random() < 0.5:
                 test.append(("empty", flag(False)))
             what = [("value", scalar("red"))] if random.random() < 0.6 else [("field", field()), ("type", name_of(self.kinds.get(channel, "nominal")))]
+            if len(what) == 2 and random.random() < 0.3:
+                what.append(("scale", self.scale(channel, self.kinds.get(channel, "nominal"))))
             members = test + what
             random.shuffle(members)
             return Node(members, bad=(7, "x", None))
@@ -302,7 +299,20 @@ class Maker:
             return Items([one() for _ in range(random.randint(0, 2))], bad=(7, "x", None))
         return one()
 
-    def definition(self, channel, facet=False):
+    def shown(self, kind, alone):
+        """Members by which a definition shows cells of this kind, and whether these alone say so."""
+        made = []
+        if kind == "quantitative" and random.random() < 0.4:
+            made.append(("bin", True, lambda: random.choice([lambda: Leaf(True, [None, 7, "binned"]), lambda: Node(some(("maxbins", False, lambda: number(1, 1000, whole=True))), bad=(None, 7))])()))
+        if kind == "quantitative" and not alone and random.random() < 0.3:
+            made.append(("aggregate", True, lambda: Leaf(random.choice(OPS), ["nosuch", "", 7, None])))
+        implied = bool(made)
+        if kind == "temporal" or (implied and random.random() < 0.3):
+            made.append(("timeUnit", random.random() < 0.5, lambda: name_of(random.choice(UNITS))))
+            implied = implied or (kind == "temporal" and made[-1][1])
+        return made, implied
+
+    def definition(self, channel, facet=False, alone=False):
         kind = self.kinds.get(channel, "nominal")
         maybe = lambda name, make: (name, False, make)
         if not facet and random.random() < 0.15:
@@ -313,30 +323,30 @@ class Maker:
                 maybe("axis", lambda: self.axis(channel))), bad=(7, "x", []))
         sort = lambda: random.choice([lambda: Leaf(None, [7, True]), lambda: Leaf("descending", ["nosuch", "", 7, True]), lambda: Items([scalar("a"), scalar(1)], bad=(7, True)),
             lambda: Node(some(("field", True, field), ("op", False, lambda: name_of("sum")), ("order", False, lambda: name_of("descending"))), ["field"], bad=(7, True))])()
-        members = [("field", True, field), ("type", True, lambda: name_of(kind)), maybe("title", title), maybe("sort", sort), maybe("scale", lambda: self.scale(channel, kind)),
+        showing, implied = self.shown(kind, alone) if not facet else ([], False)
+        members = [("field", True, field), *showing, ("type", not implied or random.random() < 0.5, lambda: name_of(kind)), maybe("title", title), maybe("sort", sort), maybe("scale", lambda: self.scale(channel, kind)),
             maybe("legend", legend), maybe("axis", lambda: self.axis(channel)), maybe("format", label_format),
             maybe("header", lambda: Node(some(("labels", False, lambda: flag(True)), ("title", False, lambda: Leaf({"any": 1}))))),
             maybe("columns", lambda: number(1, 1000, whole=True)), maybe("spacing", lambda: number(0, 1000)),
             maybe("stack", lambda: Leaf(random.choice([None, True, "zero", "normalize"]), [7, "nosuch", []]))]
-        if not facet and kind == "quantitative":
-            members.append(maybe("bin", lambda: random.choice([lambda: Leaf(random.choice([True, False]), [None, 7, "binned"]), lambda: Node(some(("maxbins", False, lambda: number(1, 1000, whole=True))), bad=(None, 7))])()))
+        if not facet and kind == "nominal" and random.random() < 0.1:
+            members.append(("bin", True, lambda: Leaf(False, [None, 7, "binned"])))
         return Node(some(*members), ["field"] if facet else [], bad=(7, "x", [], None))
 
-    def encoding(self, mark, layered):
+    def encoding(self, mark, layered, outer=(), alone=False):
         channels = []
         for channel in random.sample(["x", "y", "color", "opacity", "shape", "text", "detail"], random.randint(0, 5)):
-            form = self.definition(channel)
+            form = self.definition(channel, alone=alone)
             if channel == "detail":
                 form.bad = [7, "x"]  # a list of definitions may be empty
                 form = Items([form], bad=(7, "x", None)) if random.random() < 0.5 else form
             channels.append((channel, form))
         names = [it[0] for it in channels]
-        self.along += [form for name, form in channels if name in ("x", "y")]
         for channel in ("x", "y"):
-            if channel in names and random.random() < 0.2:
+            if (channel in names or channel in outer) and random.random() < 0.2:
                 channels.append((channel + "2", self.definition("x2")))
         if mark in SIZED and random.random() < 0.3:
-            channels.append(("size", self.definition("size")))
+            channels.append(("size", self.definition("size", alone=alone)))
         if not layered and random.random() < 0.2:
             for channel in random.choice([["row"], ["column"], ["row", "column"], ["facet"]]):
                 channels.append((channel, self.definition(channel, facet=True)))
@@ -359,11 +369,6 @@ class Maker:
                     if random.random() < 0.3:
                         return Leaf("point", ["nosuch", 7, None, []])
                     form = Node(some(("type", True, lambda: Leaf("point", ["nosuch", 7])), ("encodings", False, lambda: Items([Leaf(it, ["z", 7]) for it in keys])), ("on", False, lambda: name_of("click")), *common), ["type"], bad=(7, []))
-                    for name, inner in form.members:
-                        if name == "encodings":
-                            self.fragile += [inner, encoding] + inner.items
-                            for it in keys:
-                                self.rests_on(fields[it])
                     return form
                 out.append(Node(some(("name", True, lambda: self.param_name(name)), ("select", True, select)), ["name"]))
         if self.intervals and not getattr(self, "placed_intervals", False):
@@ -371,12 +376,8 @@ class Maker:
             if keys:
                 self.placed_intervals = True
                 for name in self.intervals:
-                    self.rests_on_all = True
-                    self.fragile.append(encoding)
                     select = Node(some(("type", True, lambda: Leaf("interval", ["nosuch", 7])), ("encodings", True, lambda: Items([Leaf(it, ["z", 7]) for it in keys])),
                         ("on", False, lambda: name_of("[mousedown, mouseup] > mousemove")), *common), ["type"], bad=(7, []))
-                    for inner in (it for n, it in select.members if n == "encodings"):
-                        self.fragile += [inner] + inner.items
                     out.append(Node([("name", self.param_name(name)), ("select", select)], ["name"]))
         return out
 
@@ -408,7 +409,7 @@ class Maker:
             return form
         return Node([("step", number(0.000001, 1000, random.choice([20, 1000])))], ["step"], bad=("x", None, []))
 
-    def view(self, top, layered, depth, has_data, folds):
+    def view(self, top, layered, depth, has_data, folds, outer=()):
         kinds = ["unit"] * 3
         if depth < 3 and self.left > 1:
             kinds += ["layer"] if layered else ["layer", "hconcat", "vconcat", "concat", "facet"]
@@ -434,10 +435,8 @@ class Maker:
             points = mark == "line" and self.left > 0 and random.random() < 0.3
             self.left -= points
             mine.append(("mark", self.mark(mark, points)))
-            encoding = self.encoding(mark, layered)
-            if any(name == "size" for name, _ in encoding.members):
-                # a mark of no type has no size
-                self.fragile += [mine[-1][1]] + [it for name, it in getattr(mine[-1][1], "members", []) if name == "type"]
+            # a line and its points would group rows by other channels
+            encoding = self.encoding(mark, layered, outer, alone=points)
             if encoding.members or random.random() < 0.5:
                 mine.append(("encoding", encoding))
             params += self.selections(encoding)
@@ -447,7 +446,11 @@ class Maker:
             mine.append(("spec", self.view(False, False, depth + 1, has_data, folds)))
         else:
             count = random.randint(1, min(3, max(1, self.left)))
-            mine.append((kind, Items([self.view(False, kind == "layer", depth + 1, has_data, folds) for _ in range(count)], bad=(7, "x", [], {}))))
+            if kind == "layer" and random.random() < 0.4:
+                shared = Node([(channel, self.definition(channel, alone=True)) for channel in random.sample(["x", "y", "color"], random.randint(0, 3))])
+                mine.append(("encoding", shared))
+                outer = set(outer) | {name for name, _ in shared.members}
+            mine.append((kind, Items([self.view(False, kind == "layer", depth + 1, has_data, folds, outer if kind == "layer" else ()) for _ in range(count)], bad=(7, "x", [], {}))))
         if kind in ("facet", "concat") and random.random() < 0.3:
             mine.append(("columns", number(1, 1000, whole=True)))
         if kind in ("facet", "concat", "hconcat", "vconcat") and random.random() < 0.3:
@@ -523,17 +526,11 @@ class Put:
 def spoiled(maker, top):
     """Spoils one place; gives what is to be said, and what was done."""
     all_places = list(places(top))
-    if getattr(maker, "rests_on_all", False):
-        for form in maker.along:
-            maker.rests_on(form)
-    fragile = {id(form) for form in maker.fragile}
     whole = written(top)
     for _ in range(100):
         form, path = random.choice(all_places)
         way = random.random()
         is_more = isinstance(form, Node) and form.closed and way < 0.35
-        if id(form) in fragile and not is_more:
-            continue
         lost = {leaf.value for space, leaf in maker.given if space == "params" and any(leaf is it for it, _ in places(form))}
         if isinstance(form, Node) and form.required:
             lost |= {leaf.value for space, leaf in maker.given if space == "params" and any(leaf is it for _, it in form.members)}
@@ -624,7 +621,7 @@ def main(words):
 
     failed = done = 0
     by = {}
-    with ThreadPoolExecutor(os.cpu_count() or 1) as pool:
+    with ThreadPoolExecutor(int(os.environ.get("VL_FAULTS_JOBS", os.cpu_count() or 1))) as pool:
         while done < count:
             jobs = []
             while len(jobs) < min(2000, count - done):

@@ -1,8 +1,8 @@
 #!/usr/bin/env python3
 """How long the built program takes to judge large Vega-Lite specifications, in seconds of processor time, and how much memory:
-    bench/vl_read.py [PROGRAM [BYTES]]
-Each is measured at a quarter, at half and at all of 16 MiB, good and with a fault at its end, with how many times as long it takes as the one
-of half its size: about 2, where time is linear. The status is 1 where something else is told than expected."""
+    bench/vl_read.py [PROGRAM [BYTES [CASE..]]]
+Each is measured at a quarter, at half and at all of 16 MiB, good, with a fault at its end, and with another behind that, with how many times as long it takes
+as the one of half its size: about 2, where time is linear. Further words name the cases that are measured. The status is 1 where something else is told than expected."""
 import os, resource, subprocess, sys, tempfile
 
 TOP = os.path.dirname(os.path.dirname(os.path.abspath(__file__)))
@@ -21,8 +21,8 @@ def filled(size, before, item, after):
 
 
 def data_sets(size):
-    before, parts, after = filled(size, '{"datasets":{', lambda i: f'"d{i}":[{{"a":{i}}}]', '},"data":{"name":"d0"},"mark":"point"}')
-    return before, parts, after, None
+    before, parts, after = filled(size, '{"data":{"name":"t","values":[]},"mark":"point","datasets":{', lambda i: f'"d{i}":[{{"a":{i}}}]', "}}")
+    return before, parts, after, lambda n: ('"t":[]', "wrong /datasets/t")
 
 
 def lookups(size):
@@ -60,8 +60,15 @@ def units(size):
     return before, parts, after, lambda n: ('{"mark":"arc"}', "wrong /hconcat/32")
 
 
+def kept(size):
+    """Two units that keep the same fields of a selection, in another order."""
+    before, parts, after = filled(size // 2, '{"mark":"point","encoding":{"detail":[', lambda i: f'{{"field":"a field of a long name, number {i}"}}', "]}}]}")
+    other = before + ",".join(reversed(parts)) + "]}}"
+    return "{" + DATA + ',"params":[{"name":"p","select":{"type":"point","encodings":["detail"]}}],"hconcat":[' + other + "," + before, parts, after, lambda n: ('{"field":"another"}', "wrong /params/0/select")
+
+
 CASES = [("data sets", data_sets), ("lookups over their data", lookups), ("parameters, each over the last", parameters), ("parameters, each over the next", circle), ("selections", selections),
-         ("conditions", conditions), ("filters", filters), ("units", units)]
+         ("conditions", conditions), ("filters", filters), ("units", units), ("fields that two units keep", kept)]
 
 
 def measured(program, room, text):
@@ -80,14 +87,17 @@ def measured(program, room, text):
 def main(words):
     program = os.path.abspath(words[0] if words else f"{TOP}/crates/chart_tool/out/chart_tool")
     whole = (int(words[1]) if len(words) > 1 else 2**24) - 4096
+    only = words[2:]
     right = True
     with tempfile.TemporaryDirectory(prefix="vl_read-") as room:
         for what, make in CASES:
+            if only and what not in only:
+                continue
             print(what, flush=True)
             last = None
             for part in (4, 2, 1):
                 before, parts, after, spoil = make(whole // part)
-                one, wanted = spoil(len(parts)) if spoil else (None, None)
+                one, wanted = spoil(len(parts))
                 if what == "parameters, each over the next":
                     good = ("wrong /params/%d/expr" % (len(parts) - 1), ",".join(parts))
                 elif what == "units":
@@ -96,11 +106,11 @@ def main(words):
                     good = ("unsupported ", ",".join(parts))
                 said, took, memory = measured(program, room, before + good[1] + after)
                 is_right = said == good[0]
-                more = ""
-                if wanted:
-                    told, spoiled, _ = measured(program, room, before + ",".join(parts + [one]) + after)
+                more = "; with a fault at its end"
+                for end in (after, after[:-1] + ',"typo":1}'):
+                    told, spoiled, most = measured(program, room, before + ",".join(parts + [one]) + end)
                     is_right = is_right and told == wanted
-                    more = f"; with a fault at its end {spoiled:.2f} s" + ("" if told == wanted else f" NOT AS EXPECTED: {told}")
+                    more += f" {spoiled:.2f} s, {most} MiB" + ("" if told == wanted else f" NOT AS EXPECTED: {told}") + ("; with another behind it" if end == after else "")
                 print(f"  {len(parts):,} in {whole / part / 2**20:.1f} MiB: {took:.2f} s" + (f" ({took / last:.1f} times)" if last else "") + f", {memory} MiB{more}"
                       + ("" if said == good[0] else f"; NOT AS EXPECTED: {said}"), flush=True)
                 last = took

@@ -33,14 +33,21 @@ first_placed (fault ∷ others) = Some fault
 abbrev pub fault_by_texts : Json → Option Fault
 fault_by_texts tree = with_path tree (first_placed (text_faults tree))
 
--- the first fault by the rules that look around, of a tree that says this specification
-unfoldable pub fault_by_rules : Json → VlSpec → Option Fault
-fault_by_rules tree spec = earliest_placed tree (rule_faults tree spec)
+-- the first fault of the form, by the table and of texts: at one place, that by the table before that of a text
+abbrev pub fault_by_form : Json → Option Fault
+fault_by_form tree = earlier (fault_by_members tree) (fault_by_texts tree)
 
--- the first fault in the order of the text of a tree that says this specification: at one place, that by the table of members
--- before that of a text, and that before the one by the rules
+-- the first fault by the rules that look around, of a tree that says this specification and has this first fault of the form
+unfoldable pub fault_by_rules : Json → Option Fault → VlSpec → Option Fault
+fault_by_rules tree first spec = earliest_placed tree (rule_faults tree first spec)
+
+-- the first of all: at one place that of the form before that by the rules
+abbrev pub or_by_rules : Json → Option Fault → VlSpec → Option Fault
+or_by_rules tree first spec = earlier first (fault_by_rules tree first spec)
+
+-- the first fault in the order of the text of a tree that says this specification
 abbrev pub fault_beside : Json → VlSpec → Option Fault
-fault_beside tree spec = earlier (earlier (fault_by_members tree) (fault_by_texts tree)) (fault_by_rules tree spec)
+fault_beside tree spec = or_by_rules tree (fault_by_form tree) spec
 
 -- the first fault in the order of the text
 unfoldable pub first_fault_of : Json → Option Fault

@@ -1,7 +1,7 @@
 //! The first fault of a specification.
 ghost use Rattle.std.specs.Prelude.{◌≡◌, IfOk};
 ghost use Rattle.vl_building.specs.Spec.{spec_of};
-ghost use Rattle.vl_model.specs.Faults.{fault_by_members, with_path, first_placed, fault_by_texts, fault_by_rules, fault_beside, first_fault_of};
+ghost use Rattle.vl_model.specs.Faults.{fault_by_members, with_path, first_placed, fault_by_texts, fault_by_form, fault_by_rules, fault_beside, first_fault_of};
 
 use crate::visits::{PlacedFault, text_faults};
 use json_exact::Json;
@@ -56,22 +56,35 @@ fn fault_by_texts(alloc: Global, tree: &Json) -> Result<Option<Fault>, OutOfMemo
     with_path(alloc, tree, first_placed(faults))
 }
 
-// The first fault by the rules that look around, of a tree that says this specification.
-#[tactic(auto, unfolding(crate::specs::Faults::fault_by_rules))]
-fn fault_by_rules(alloc: Global, tree: &Json, spec: &VlSpec) -> Result<Option<Fault>, OutOfMemory>
-    ensures { IfOk result (λ f. f ≡ fault_by_rules tree.now spec.now) }
+// The first fault of the form.
+fn fault_by_form(alloc: Global, tree: &Json) -> Result<Option<Fault>, OutOfMemory>
+    ensures { IfOk result (λ f. f ≡ fault_by_form tree.now) }
 {
-    first_by_rules(alloc, tree, spec)
+    let by_members = fault_by_members(alloc, tree)?;
+    let by_texts = fault_by_texts(alloc, tree)?;
+    Ok(earlier(by_members, by_texts))
+}
+
+// The first fault by the rules that look around, of a tree that says this specification and has this first fault of the form.
+#[tactic(auto, unfolding(crate::specs::Faults::fault_by_rules))]
+fn fault_by_rules(
+    alloc: Global,
+    tree: &Json,
+    first: &Option<Fault>,
+    spec: &VlSpec,
+) -> Result<Option<Fault>, OutOfMemory>
+    ensures { IfOk result (λ f. f ≡ fault_by_rules tree.now first.now spec.now) }
+{
+    first_by_rules(alloc, tree, first, spec)
 }
 
 /// The first fault of a tree that says this specification.
 pub fn fault_beside(alloc: Global, tree: &Json, spec: &VlSpec) -> Result<Option<Fault>, OutOfMemory>
     ensures { IfOk result (λ f. f ≡ fault_beside tree.now spec.now) }
 {
-    let by_members = fault_by_members(alloc, tree)?;
-    let by_texts = fault_by_texts(alloc, tree)?;
-    let by_rules = fault_by_rules(alloc, tree, spec)?;
-    Ok(earlier(earlier(by_members, by_texts), by_rules))
+    let first = fault_by_form(alloc, tree)?;
+    let by_rules = fault_by_rules(alloc, tree, &first, spec)?;
+    Ok(earlier(first, by_rules))
 }
 
 /// The first fault of a tree as a Vega-Lite specification, in the order of its text; None exactly where it has none.

@@ -30,13 +30,13 @@ both_empty xs ys a b = λ i. a i ++ b i
 
 kept_unit : (tree : Json) (u : MarkedAt) → faults_of_unit tree u ≡ [] → UnitIsKept tree u
 kept_unit tree u e =
-    let rest = second_empty (without_data tree u) (lone_ends tree u ++ (useless_size u ++ too_many_rows u)) e in
-    let last = second_empty (lone_ends tree u) (useless_size u ++ too_many_rows u) rest in
+    let rest = second_empty (without_data tree u) (lone_ends tree u ++ (useless_size tree u ++ too_many_rows u)) e in
+    let last = second_empty (lone_ends tree u) (useless_size tree u ++ too_many_rows u) rest in
     record {
-      rows = first_empty (without_data tree u) (lone_ends tree u ++ (useless_size u ++ too_many_rows u)) e;
-      ends = first_empty (lone_ends tree u) (useless_size u ++ too_many_rows u) rest;
-      size = first_empty (useless_size u) (too_many_rows u) last;
-      folds = second_empty (useless_size u) (too_many_rows u) last;
+      rows = first_empty (without_data tree u) (lone_ends tree u ++ (useless_size tree u ++ too_many_rows u)) e;
+      ends = first_empty (lone_ends tree u) (useless_size tree u ++ too_many_rows u) rest;
+      size = first_empty (useless_size tree u) (too_many_rows u) last;
+      folds = second_empty (useless_size tree u) (too_many_rows u) last;
     }
 
 kept_units : (tree : Json) (units : List MarkedAt) → flat_map (faults_of_unit tree) units ≡ [] → All (UnitIsKept tree) units
@@ -48,15 +48,15 @@ kept_units tree (u ∷ units) e =
 pub without_faults_kept : WithoutFaultsKept
 unfolding rule_faults
 without_faults_kept tree s none =
-    let all : name_faults tree s ++ unit_and_view_faults tree s ≡ [] = none_is_empty tree (rule_faults tree s) none in
+    let all : name_faults tree s ++ unit_and_view_faults tree None s ≡ [] = none_is_empty tree (rule_faults tree None s) none in
     let each : List RuleFault = flat_map (faults_of_unit tree) (judged s) in
-    let rest = second_empty (name_faults tree s) (unit_and_view_faults tree s) all in
-    let last = second_empty (one_too_many (marked s)) (each ++ view_faults s) rest in
+    let rest = second_empty (name_faults tree s) (unit_and_view_faults tree None s) all in
+    let last = second_empty (one_too_many (marked s)) (each ++ view_faults tree None s) rest in
     record {
-      names = first_empty (name_faults tree s) (unit_and_view_faults tree s) all;
-      few = first_empty (one_too_many (marked s)) (each ++ view_faults s) rest;
-      units = kept_units tree (judged s) (first_empty each (view_faults s) last);
-      views = second_empty each (view_faults s) last;
+      names = first_empty (name_faults tree s) (unit_and_view_faults tree None s) all;
+      few = first_empty (one_too_many (marked s)) (each ++ view_faults tree None s) rest;
+      units = kept_units tree (judged s) (first_empty each (view_faults tree None s) last);
+      views = second_empty each (view_faults tree None s) last;
     }
 
 -- ---- the other way round

@@ -8,6 +8,7 @@ mod KeptLemmas
 mod LeadLemmas
 mod LoopLemmas
 mod OpenedLemmas
+mod SameLemmas
 mod ShownLemmas
 mod WalkLemmas
 mod WalkedLemmas

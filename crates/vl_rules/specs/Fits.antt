@@ -1,9 +1,8 @@
 -- What a scale may say, by its own definition.
-use Rattle.std.specs.Prelude.{◌≡◌, refl, ℕ, ◌==◌, Bool, true, false, not, ◌||◌, ◌&&◌, Option, Some, None, List, [], ◌∷◌, ◌++◌, pos, codes, if◌then◌else◌}
+use Rattle.std.specs.Prelude.{◌≡◌, refl, ℕ, ◌==◌, Bool, true, false, not, ◌||◌, ◌&&◌, Option, Some, None, List, [], ◌∷◌, pos, if◌then◌else◌}
 use Rattle.std.specs.Option.{option_map_or}
 use Rattle.cell_value.specs.declared.cell.Cell.{Cell}
 use Rattle.cell_value.specs.declared.cell.Cell.TheVariants as cell
-use Rattle.vl_spec.specs.declared.definitions.Definition.{Definition}
 use Rattle.vl_spec.specs.declared.definitions.FieldType.{FieldType}
 use Rattle.vl_spec.specs.declared.definitions.FieldType.TheVariants.{Quantitative, Temporal, Ordinal, Nominal}
 use Rattle.vl_spec.specs.declared.scales.Scale.{Scale}
@@ -11,10 +10,7 @@ use Rattle.vl_spec.specs.declared.scales.Scheme.{Scheme}
 use Rattle.vl_spec.specs.declared.scales.Scheme.TheVariants as scheme
 use Rattle.vl_normalize.specs.declared.codes.TheConstants.{X, Y, COLOR, OPACITY, SIZE, SHAPE}
 use Rattle.scale_infer.specs.declared.codes.TheConstants.{LINEAR, TIME, BAND, POINT, ORDINAL}
-use Rattle.scale_infer.specs.Types.{is_continuous, scale_in, type_of}
-use Rattle.vl_trails.specs.declared.fault.RuleFault.{RuleFault}
-use Rattle.vl_trails.specs.Faults.{wrong_if}
-use Rattle.vl_trails.specs.Trails.{Trail, to_member}
+use Rattle.scale_infer.specs.Types.{is_continuous}
 
 -- whether cells that stand apart have a scale of this type: places a band or point scale, color and shape an ordinal one, opacity a point or an ordinal
 -- one, and size a point scale
@@ -32,12 +28,12 @@ kind_fits channel Temporal kind = kind == TIME
 kind_fits channel Ordinal kind = apart_fits channel kind
 kind_fits channel Nominal kind = apart_fits channel kind
 
+-- whether a scale says a type that fits the kind of its cells, and whether it says one that doesn't
+abbrev pub has_fit_type : ℕ → FieldType → Scale → Bool
+has_fit_type channel type_ s = option_map_or (kind_fits channel type_) s.type_ false
+
 abbrev pub has_unfit_type : ℕ → FieldType → Scale → Bool
 has_unfit_type channel type_ s = option_map_or (λ kind. not (kind_fits channel type_ kind)) s.type_ false
-
--- The type that a scale says fits the cells of its own definition. Else it is wrong.
-abbrev pub unfit_type : ℕ → FieldType → Trail → Scale → List RuleFault
-unfit_type channel type_ trail s = wrong_if (has_unfit_type channel type_ s) (to_member trail (codes "type"))
 
 -- whether the colours of a scale run from one to another
 abbrev pub is_ramp : ℕ → FieldType → Bool
@@ -64,29 +60,12 @@ range_fits channel type_ kind cells = not (is_ramp channel type_) && (is_ordinal
 abbrev pub has_unfit_range : ℕ → FieldType → Scale → Bool
 has_unfit_range channel type_ s = option_map_or (λ cells. not (range_fits channel type_ s.type_ cells)) s.range false
 
--- The range of an ordinal scale is any list, that of every other scale two numbers, but colours that run from one to another have none. Else it is
--- wrong.
-abbrev pub unfit_range : ℕ → FieldType → Trail → Scale → List RuleFault
-unfit_range channel type_ trail s = wrong_if (has_unfit_range channel type_ s) (to_member trail (codes "range"))
-
 abbrev pub is_tableau : Scheme → Bool
 is_tableau scheme.Tableau10 = true
 is_tableau scheme.Blues = false
 
 abbrev pub has_unfit_scheme : ℕ → FieldType → Scale → Bool
 has_unfit_scheme channel type_ s = is_ramp channel type_ && option_map_or is_tableau s.scheme false
-
--- Colours that run from one to another aren't those of the scheme `tableau10`. Else it is wrong.
-abbrev pub unfit_scheme : ℕ → FieldType → Trail → Scale → List RuleFault
-unfit_scheme channel type_ trail s = wrong_if (has_unfit_scheme channel type_ s) (to_member trail (codes "scheme"))
-
--- the faults of a scale at the end of a trail
-abbrev pub scale_faults : ℕ → FieldType → Trail → Scale → List RuleFault
-scale_faults channel type_ trail s = unfit_type channel type_ trail s ++ unfit_range channel type_ trail s ++ unfit_scheme channel type_ trail s
-
--- those of the scale of a definition, if it has one
-abbrev pub definition_faults : ℕ → Definition → Trail → List RuleFault
-definition_faults channel d trail = option_map_or (scale_faults channel (type_of d) (to_member trail (codes "scale"))) (scale_in d) []
 
 -- The rules at work.
 

@@ -18,7 +18,7 @@ pub record UnitIsKept (tree : Json) (u : MarkedAt) : Type 0 where
   -- it has a start beside each end
   pub ends : lone_ends tree u ≡ []
   -- it has a size only where its mark has a use for one
-  pub size : useless_size u ≡ []
+  pub size : useless_size tree u ≡ []
   -- its folds multiply to at most 8
   pub folds : too_many_rows u ≡ []
 
@@ -31,7 +31,7 @@ pub record IsKeptAs (tree : Json) (s : VlSpec) : Type 0 where
   -- each of them is right
   pub units : All (UnitIsKept tree) (judged s)
   -- scales say what fits them, and selections keep what there is
-  pub views : view_faults s ≡ []
+  pub views : view_faults tree None s ≡ []
 
 -- no rule is broken in a specification, as some tree says it
 abbrev pub IsKept : VlSpec → Type 0
@@ -39,8 +39,8 @@ IsKept s = (tree : Json) × IsKeptAs tree s
 
 -- Where there is no first fault, no rule is broken.
 abbrev pub WithoutFaultsKept : Type 0
-WithoutFaultsKept = (tree : Json) (s : VlSpec) → earliest_placed tree (rule_faults tree s) ≡ None → IsKeptAs tree s
+WithoutFaultsKept = (tree : Json) (s : VlSpec) → earliest_placed tree (rule_faults tree None s) ≡ None → IsKeptAs tree s
 
 -- Where no rule is broken, there is no fault.
 abbrev pub KeptWithoutFaults : Type 0
-KeptWithoutFaults = (tree : Json) (s : VlSpec) → IsKeptAs tree s → rule_faults tree s ≡ []
+KeptWithoutFaults = (tree : Json) (s : VlSpec) → IsKeptAs tree s → rule_faults tree None s ≡ []

@@ -2,7 +2,8 @@
 use Rattle.std.specs.Prelude.{ℕ, Bool, true, false, bytes_eq, List, [], ◌∷◌, ◌++◌, codes, filter}
 use Rattle.std.specs.Option.{option_map_or}
 use Rattle.std.specs.List.{fold, list_any}
-use Rattle.json_exact.specs.declared.json.Json.{Json}
+use Rattle.json_exact.specs.Inside.{members_in}
+use Rattle.json_exact.specs.declared.json.Json.{Json, out-Json}
 use Rattle.json_exact.specs.declared.json.Member.{Member}
 use Rattle.spec_walk.specs.declared.places.Step.TheVariants.{Name, Number}
 use Rattle.vl_normalize.specs.Channels.{has_channel}
@@ -10,7 +11,7 @@ use Rattle.vl_compose.specs.Rounds.{KindAt, AUnit, ALayer, AFacet, AJoined, View
 use Rattle.vl_compose.specs.Units.{own_channels}
 use Rattle.vl_names.specs.Channels.{channel_name}
 use Rattle.vl_names.specs.Views.{joined_word}
-use Rattle.vl_trails.specs.Trails.{Trail, members_at, to_member}
+use Rattle.vl_trails.specs.Trails.{Trail, members_at, to_member, value_at}
 
 -- to the item of this number in the member of this name
 abbrev pub item_steps : List ℕ → ℕ → Trail
@@ -72,3 +73,10 @@ has_name members name = list_any (λ (m : Member). bytes_eq m.name name) members
 
 abbrev pub holds : Json → Trail → List ℕ → Bool
 holds tree trail name = option_map_or (λ members. has_name members name) (members_at tree trail) false
+
+-- whether it has, or what stands there is no object and might have one
+abbrev pub may_have : Json → List ℕ → Bool
+may_have value name = option_map_or (λ members. has_name members name) (members_in (out-Json value)) true
+
+abbrev pub may_hold : Json → Trail → List ℕ → Bool
+may_hold tree trail name = option_map_or (λ (value : Json). may_have value name) (value_at tree trail) false

@@ -6,7 +6,9 @@ pub mod Marked
 pub mod Names
 pub mod Offers
 pub mod Parts
+pub mod Resting
 pub mod Rules
+pub mod Scales
 pub mod Selections
 pub mod Standings
 pub mod Units

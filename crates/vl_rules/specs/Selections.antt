@@ -1,5 +1,5 @@
 -- What is asked of selections.
-use Rattle.std.specs.Prelude.{ℕ, ◌==◌, Bool, true, false, not, ◌&&◌, ◌||◌, List, [], ◌∷◌, filter, slice_get, unwrap_or, bytes_eq, if◌then◌else◌}
+use Rattle.std.specs.Prelude.{ℕ, ◌==◌, Bool, true, false, not, ◌&&◌, ◌||◌, List, [], ◌∷◌, filter, flat_map, slice_get, unwrap_or, bytes_eq, if◌then◌else◌}
 use Rattle.std.specs.Option.{option_map_or}
 use Rattle.std.specs.List.{list_all, list_any}
 use Rattle.spec_walk.specs.declared.places.Step.{Step}
@@ -129,30 +129,26 @@ of_neighbours has (a ∷ b ∷ others) = has a b || of_neighbours has (b ∷ oth
 
 -- whether a name is among some
 abbrev pub is_among : List (List ℕ) → List ℕ → Bool
-is_among names name = list_any (λ n. bytes_eq n name) names
+is_among names name = list_any (bytes_eq name) names
 
 -- whether names are the same, whatever their order and however often each is there
 abbrev pub same_names : List (List ℕ) → List (List ℕ) → Bool
 same_names xs ys = list_all (is_among ys) xs && list_all (is_among xs) ys
 
--- whether a unit keeps a name for one of some channels
-abbrev pub keeps_name : List ℕ → Offer → List ℕ → Bool
-keeps_name codes o name = list_any (λ code. is_among (asked_for code o).names name) codes
-
--- whether all that a unit keeps for some channels another keeps for these
-abbrev pub keeps_all : List ℕ → List ℕ → Offer → Offer → Bool
-keeps_all these codes a b = list_all (λ code. list_all (keeps_name these b) (asked_for code a).names) codes
+-- all names that a unit keeps for some channels
+abbrev pub names_over : List ℕ → Offer → List (List ℕ)
+names_over codes o = flat_map (λ code. (asked_for code o).names) codes
 
 -- whether two units keep the same fields of points: those of the channels, or where none is said the default
 abbrev pub keep_same_points : Asking → Offer → Offer → Bool
 keep_same_points s a b =
-    if s.says_channels then keeps_all s.codes s.codes a b && keeps_all s.codes s.codes b a else same_names a.kept b.kept
+    if s.says_channels then same_names (names_over s.codes a) (names_over s.codes b) else same_names a.kept b.kept
 
 -- whether they keep the same extents: channel by channel the same fields
 abbrev pub keep_same_extents : List ℕ → Offer → Offer → Bool
 keep_same_extents codes a b = list_all (λ code. same_names (asked_for code a).extents (asked_for code b).extents) codes
 
-abbrev pub keep_same : Asking → Offer → Offer → Bool
+unfoldable pub keep_same : Asking → Offer → Offer → Bool
 keep_same s a b = if s.interval then keep_same_extents s.codes a b else (s.says_fields || keep_same_points s a b)
 
 -- The units that a selection concerns keep the same fields. Those that it says itself are the same in each.

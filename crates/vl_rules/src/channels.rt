@@ -7,7 +7,7 @@ ghost use Rattle.vl_trails.specs.Trails.{to_item, to_member};
 ghost use Rattle.vl_rules.specs.Views.{channel_faults, shown_faults, scale_faults_of, channels_faults, encoding_faults, item_faults};
 ghost use Rattle.vl_rules.specs.inner.Held.{conditions_faults, condition_faults, held_faults};
 
-use crate::fits::judge_definition;
+use crate::scales::judge_definition;
 use std::alloc::Global;
 use text_kit::OutOfMemory;
 use vl_names::channel_name;
@@ -23,7 +23,7 @@ fn judge_channel(
     code: u16,
     channel: &Channel,
 ) -> Result<(), OutOfMemory>
-    ensures { OnOk result (judging.new ≡ after judging.old (channel_faults code channel.now judging.old.trail)) }
+    ensures { OnOk result (judging.new ≡ after judging.old (channel_faults judging.old.tree.now code channel.now judging.old.trail)) }
 {
     judge_definition(alloc, judging, code, &channel.definition)?;
     judge_held(alloc, judging, code, &channel.condition)
@@ -37,7 +37,7 @@ fn judge_held(
     code: u16,
     conditions: &Option<Conditions>,
 ) -> Result<(), OutOfMemory>
-    ensures { OnOk result (judging.new ≡ after judging.old (held_faults code conditions.now judging.old.trail)) }
+    ensures { OnOk result (judging.new ≡ after judging.old (held_faults judging.old.tree.now code conditions.now judging.old.trail)) }
 {
     match conditions {
         Some(conditions) => judge_inside(alloc, judging, code, conditions),
@@ -54,7 +54,7 @@ fn judge_inside(
     conditions: &Conditions,
 ) -> Result<(), OutOfMemory>
     ensures { OnOk result (judging.new
-        ≡ after judging.old (conditions_faults code conditions.now (to_member judging.old.trail (codes "condition")))) }
+        ≡ after judging.old (conditions_faults judging.old.tree.now code conditions.now (to_member judging.old.trail (codes "condition")))) }
 {
     judging.enter(alloc, "condition")?;
     judge_conditions(alloc, judging, code, conditions)?;
@@ -70,7 +70,7 @@ fn judge_conditions(
     code: u16,
     conditions: &Conditions,
 ) -> Result<(), OutOfMemory>
-    ensures { OnOk result (judging.new ≡ after judging.old (conditions_faults code conditions.now judging.old.trail)) }
+    ensures { OnOk result (judging.new ≡ after judging.old (conditions_faults judging.old.tree.now code conditions.now judging.old.trail)) }
 {
     match conditions {
         Conditions::One(condition) => judge_channel(alloc, judging, code, &condition.get().shows),
@@ -87,7 +87,7 @@ fn judge_list(
     conditions: &[Condition],
 ) -> Result<(), OutOfMemory>
     ensures { OnOk result (judging.new
-        ≡ after judging.old (item_faults (map (condition_faults code) conditions.now) judging.old.trail)) }
+        ≡ after judging.old (item_faults (map (condition_faults judging.old.tree.now code) conditions.now) judging.old.trail)) }
 {
     for (number, condition) in conditions.iter().enumerate() {
         judge_item(alloc, judging, code, number, condition)?;
@@ -104,7 +104,7 @@ fn judge_item(
     number: usize,
     condition: &Condition,
 ) -> Result<(), OutOfMemory>
-    ensures { OnOk result (judging.new ≡ after judging.old (condition_faults code condition.now (to_item judging.old.trail number))) }
+    ensures { OnOk result (judging.new ≡ after judging.old (condition_faults judging.old.tree.now code condition.now (to_item judging.old.trail number))) }
 {
     judging.enter_item(number)?;
     judge_channel(alloc, judging, code, &condition.shows)?;
@@ -127,7 +127,7 @@ fn judge_shown(
     code: u16,
     shows: &ChannelKind,
 ) -> Result<(), OutOfMemory>
-    ensures { OnOk result (judging.new ≡ after judging.old (shown_faults code shows.now judging.old.trail)) }
+    ensures { OnOk result (judging.new ≡ after judging.old (shown_faults judging.old.tree.now code shows.now judging.old.trail)) }
 {
     match shows {
         ChannelKind::One(channel) => judge_channel(alloc, judging, code, channel),
@@ -144,7 +144,7 @@ fn judge_named(
     shows: &ChannelKind,
 ) -> Result<(), OutOfMemory>
     ensures { OnOk result (judging.new
-        ≡ after judging.old (shown_faults code shows.now (to_member judging.old.trail (name_of_channel code)))) }
+        ≡ after judging.old (shown_faults judging.old.tree.now code shows.now (to_member judging.old.trail (name_of_channel code)))) }
 {
     judging.enter(alloc, channel_name(code))?;
     judge_shown(alloc, judging, code, shows)?;
@@ -159,7 +159,7 @@ fn judge_scales_of(
     judging: &mut Judging,
     channel: &ChannelOf,
 ) -> Result<(), OutOfMemory>
-    ensures { OnOk result (judging.new ≡ after judging.old (scale_faults_of channel.now judging.old.trail)) }
+    ensures { OnOk result (judging.new ≡ after judging.old (scale_faults_of judging.old.tree.now channel.now judging.old.trail)) }
 {
     if has_own_scale(channel.channel) {
         judge_named(alloc, judging, channel.channel, &channel.shows)
@@ -174,7 +174,7 @@ fn judge_channels(
     judging: &mut Judging,
     channels: &[ChannelOf],
 ) -> Result<(), OutOfMemory>
-    ensures { OnOk result (judging.new ≡ after judging.old (channels_faults channels.now judging.old.trail)) }
+    ensures { OnOk result (judging.new ≡ after judging.old (channels_faults judging.old.tree.now channels.now judging.old.trail)) }
 {
     for channel in channels {
         judge_scales_of(alloc, judging, channel)?;
@@ -189,7 +189,7 @@ pub fn judge_encoding(
     judging: &mut Judging,
     channels: &[ChannelOf],
 ) -> Result<(), OutOfMemory>
-    ensures { OnOk result (judging.new ≡ after judging.old (encoding_faults channels.now judging.old.trail)) }
+    ensures { OnOk result (judging.new ≡ after judging.old (encoding_faults judging.old.tree.now channels.now judging.old.trail)) }
 {
     judging.enter(alloc, "encoding")?;
     judge_channels(alloc, judging, channels)?;

@@ -6,7 +6,7 @@ ghost use Rattle.vl_normalize.specs.Channels.{has_channel};
 ghost use Rattle.vl_compose.specs.Shown.{kind_of, round_shown, view_shown};
 ghost use Rattle.vl_compose.specs.Units.{own_channels};
 ghost use Rattle.vl_names.specs.Views.{joined_word};
-ghost use Rattle.vl_rules.specs.Leads.{item_steps, view_steps, led_from, led, last_trail, channel_in, gives_channel, has_encoding, has_name, holds};
+ghost use Rattle.vl_rules.specs.Leads.{item_steps, view_steps, led_from, led, last_trail, channel_in, gives_channel, has_encoding, has_name, holds, may_have, may_hold};
 ghost use Rattle.vl_rules.specs.inner.Shown.{led_at, led_shown};
 
 use json_exact::{Json, Member};
@@ -17,7 +17,7 @@ use vl_compose::ViewHere;
 use vl_names::{channel_name, copied_trail, to_member};
 use vl_normalize::channels_in;
 use vl_spec::{ChannelOf, Joining, ViewKind};
-use vl_trails::members_at;
+use vl_trails::{members_at, value_at};
 
 /// A view, and the steps that lead to it from the top.
 #[derive(Drop)]
@@ -228,6 +228,27 @@ fn has_name_in(members: Option<&[Member]>, name: &str) -> bool
     match members {
         Some(members) => has_name(members, name),
         None => false,
+    }
+}
+
+// Whether a value is an object with a member of a name, or no object.
+fn may_have(value: &Json, name: &str) -> bool
+    ensures { result ≡ may_have value.now name.now }
+{
+    match value {
+        Json::Object(members) => has_name(members.as_slice(), name),
+        Json::Null | Json::Flag(_) | Json::Number(_) | Json::Huge | Json::Text(_) | Json::List(_) =>
+            true,
+    }
+}
+
+/// Whether an object with a member of a name stands at the end of a trail, or what is no object.
+pub fn may_hold(alloc: Global, tree: &Json, trail: &[Step], name: &str) -> Result<bool, OutOfMemory>
+    ensures { IfOk result (λ may. may ≡ may_hold tree.now trail.now name.now) }
+{
+    match value_at(alloc, tree, trail)? {
+        Some(value) => Ok(may_have(value, name)),
+        None => Ok(false),
     }
 }
 

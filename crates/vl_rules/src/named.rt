@@ -22,8 +22,8 @@ fn cells_name(
     }
 }
 
-// Whether there are bins.
-fn has_bins(bin: &Option<Bin>) -> bool
+/// Whether there are bins.
+pub fn has_bins(bin: &Option<Bin>) -> bool
     ensures { result ≡ has_bins bin.now }
 {
     match bin {

@@ -24,11 +24,12 @@ fn sooner_by_views(
     alloc: Global,
     tree: &Json,
     so_far: Option<Fault>,
+    first: &Option<Fault>,
     s: &VlSpec,
     units: &[Marked],
 ) -> Result<Option<Fault>, OutOfMemory>
-    ensures { IfOk result (λ f. f ≡ earlier_fault so_far
-        (earliest_placed tree.now (faults_of_views (offers_among (flat_map parts_of (map marked_shown units.now))) s.now))) }
+    ensures { IfOk result (λ f. f ≡ earlier_fault so_far (earliest_placed tree.now
+        (faults_of_views tree.now first.now (offers_among (flat_map parts_of (map marked_shown units.now))) s.now))) }
 {
     let offers = offers_of(alloc, units)?;
     let views = views_of(alloc, s)?;
@@ -36,6 +37,7 @@ fn sooner_by_views(
         alloc,
         tree,
         so_far,
+        first,
         s.params.as_slice(),
         offers.as_slice(),
         views.as_slice(),
@@ -48,15 +50,16 @@ fn sooner_judged(
     alloc: Global,
     tree: &Json,
     so_far: Option<Fault>,
+    first: &Option<Fault>,
     s: &VlSpec,
     units: &[Marked],
 ) -> Result<Option<Fault>, OutOfMemory>
     ensures { IfOk result (λ f. f ≡ earlier_fault so_far (earliest_placed tree.now
         (flat_map (faults_of_unit tree.now) (map marked_shown units.now)
-        ++ faults_of_views (offers_among (flat_map parts_of (map marked_shown units.now))) s.now))) }
+        ++ faults_of_views tree.now first.now (offers_among (flat_map parts_of (map marked_shown units.now))) s.now))) }
 {
     let so_far = sooner_units(alloc, tree, so_far, units)?;
-    let so_far = sooner_by_views(alloc, tree, so_far, s, units)?;
+    let so_far = sooner_by_views(alloc, tree, so_far, first, s, units)?;
     Ok(so_far)
 }
 
@@ -73,23 +76,30 @@ fn sooner_by_units(
     alloc: Global,
     tree: &Json,
     so_far: Option<Fault>,
+    first: &Option<Fault>,
     s: &VlSpec,
 ) -> Result<Option<Fault>, OutOfMemory>
-    ensures { IfOk result (λ f. f ≡ earlier_fault so_far (earliest_placed tree.now (unit_and_view_faults tree.now s.now))) }
+    ensures { IfOk result (λ f. f ≡ earlier_fault so_far (earliest_placed tree.now (unit_and_view_faults tree.now first.now s.now))) }
 {
     let mut units = first_marked(alloc, s)?;
     let so_far = sooner_too_many(alloc, tree, so_far, units.as_slice())?;
     keep_judged(&mut units);
-    let so_far = sooner_judged(alloc, tree, so_far, s, units.as_slice())?;
+    let so_far = sooner_judged(alloc, tree, so_far, first, s, units.as_slice())?;
     Ok(so_far)
 }
 
-/// The earliest fault that the rules find, and of several at one place the one of the first rule; None exactly where they find none.
+/// The earliest fault that the rules find, and of several at one place the one of the first rule; None exactly where they find none. Where
+/// selections are at fault hangs on the first fault of the form.
 #[tactic(auto, using(vl_trails::proofs::OrderLemmas::then_faults), unfolding(crate::specs::Rules::rule_faults))]
-pub fn first_by_rules(alloc: Global, tree: &Json, s: &VlSpec) -> Result<Option<Fault>, OutOfMemory>
-    ensures { IfOk result (λ f. f ≡ earliest_placed tree.now (rule_faults tree.now s.now)) }
+pub fn first_by_rules(
+    alloc: Global,
+    tree: &Json,
+    first: &Option<Fault>,
+    s: &VlSpec,
+) -> Result<Option<Fault>, OutOfMemory>
+    ensures { IfOk result (λ f. f ≡ earliest_placed tree.now (rule_faults tree.now first.now s.now)) }
 {
     let so_far = first_name_fault(alloc, tree, s)?;
-    let so_far = sooner_by_units(alloc, tree, so_far, s)?;
+    let so_far = sooner_by_units(alloc, tree, so_far, first, s)?;
     Ok(so_far)
 }

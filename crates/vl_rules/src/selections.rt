@@ -1,12 +1,13 @@
 //! What is asked of selections.
-ghost use Rattle.std.specs.Prelude.{◌≡◌, ◌==◌, ◌++◌, ◌∷◌, [], true, not, filter, map, if◌then◌else◌, IfOk, OnOk};
-ghost use Rattle.std.specs.List.{list_all, list_any};
+ghost use Rattle.std.specs.Prelude.{◌≡◌, ◌==◌, ◌||◌, ◌++◌, ◌∷◌, [], true, not, bytes_eq, filter, map, if◌then◌else◌, IfOk, OnOk};
+ghost use Rattle.std.specs.List.{list_any};
 ghost use Rattle.spec_walk.specs.declared.places.Step.TheVariants as step;
 ghost use Rattle.vl_compose.specs.Sharing.{is_filled};
-ghost use Rattle.vl_rules.specs.Selections.{is_interval_type, is_interval, fields_of, encodings_of, unnamed, codes_over, asking_of, same_step, begins, below, is_under, concerned, asked_for, lacks_source, is_place, spot_for, cant_span, is_no_span, of_neighbours, is_among, same_names, keeps_name, keeps_all, keep_same_points, keep_same_extents, keep_same, is_unlike, part_scales, is_parted, is_wrong_for};
+ghost use Rattle.vl_rules.specs.Selections.{is_interval_type, is_interval, fields_of, encodings_of, unnamed, codes_over, asking_of, same_step, begins, below, is_under, concerned, asked_for, lacks_source, is_place, spot_for, cant_span, is_no_span, of_neighbours, same_names, names_over, keep_same_points, keep_same_extents, keep_same, is_unlike, part_scales, is_parted, is_wrong_for};
 ghost use Rattle.vl_rules.specs.Standings.{same_home as same_up_to};
 
 use crate::offers::{CHANNEL_CODES, Offer, Spot};
+use crate::same::same_names;
 use crate::standings::same_home;
 use spec_walk::Step;
 use std::alloc::Global;
@@ -243,9 +244,9 @@ pub fn below<'a>(
     Ok(inside)
 }
 
-// Whether a name is among some.
-fn is_among(names: &[Text], name: &str) -> bool
-    ensures { result ≡ is_among names.now name.now }
+// Whether a view has one of some names.
+fn has_name(names: &[Text], name: &str) -> bool
+    ensures { result ≡ list_any (λ n. bytes_eq n name.now) names.now }
 {
     for n in names {
         if n.as_str() == name {
@@ -260,7 +261,7 @@ fn is_under(names: &[Text], offer: &Offer) -> bool
     ensures { result ≡ is_under names.now offer.now }
 {
     for name in names {
-        if is_among(offer.names.as_slice(), name.as_str()) {
+        if has_name(offer.names.as_slice(), name.as_str()) {
             return true;
         }
     }
@@ -401,83 +402,67 @@ fn any_cant_span(codes: &[u16], units: &[&Offer]) -> bool
     false
 }
 
-// Whether each of some names is among others.
-fn all_are_among(names: &[Text], others: &[Text]) -> bool
-    ensures { result ≡ list_all (is_among others.now) names.now }
+// Adds copies of names.
+fn push_copies(names: &[Text], out: &mut Seq<Text>) -> Result<(), OutOfMemory>
+    ensures { OnOk result (out.new ≡ out.old ++ names.now) }
 {
     for name in names {
-        if !is_among(others, name.as_str()) {
-            return false;
-        }
+        out.push(name.copy()?)?;
     }
-    true
+    Ok(())
 }
 
-// Whether names are the same.
-fn same_names(xs: &[Text], ys: &[Text]) -> bool
-    ensures { result ≡ same_names xs.now ys.now }
+// All names that a unit keeps for some channels.
+fn names_over(alloc: Global, codes: &[u16], offer: &Offer) -> Result<Seq<Text>, OutOfMemory>
+    ensures { IfOk result (λ names. names ≡ names_over codes.now offer.now) }
 {
-    all_are_among(xs, ys) && all_are_among(ys, xs)
-}
-
-// Whether a unit keeps a name for one of some channels.
-fn keeps_name(codes: &[u16], offer: &Offer, name: &str) -> bool
-    ensures { result ≡ keeps_name codes.now offer.now name.now }
-{
+    let mut names = Seq::new(alloc);
     for code in codes {
-        if is_among(names_for(offer, *code), name) {
-            return true;
-        }
+        push_copies(names_for(offer, *code), &mut names)?;
     }
-    false
+    Ok(names)
 }
 
-// Whether a unit keeps each of some names for one of some channels.
-fn keeps_names(codes: &[u16], offer: &Offer, names: &[Text]) -> bool
-    ensures { result ≡ list_all (keeps_name codes.now offer.now) names.now }
+// Whether two units keep the same names for some channels.
+fn same_over(alloc: Global, codes: &[u16], a: &Offer, b: &Offer) -> Result<bool, OutOfMemory>
+    ensures { IfOk result (λ same. same ≡ same_names (names_over codes.now a.now) (names_over codes.now b.now)) }
 {
-    for name in names {
-        if !keeps_name(codes, offer, name.as_str()) {
-            return false;
-        }
-    }
-    true
-}
-
-// Whether all that a unit keeps for some channels another keeps for these.
-fn keeps_all(these: &[u16], codes: &[u16], a: &Offer, b: &Offer) -> bool
-    ensures { result ≡ keeps_all these.now codes.now a.now b.now }
-{
-    for code in codes {
-        if !keeps_names(these, b, names_for(a, *code)) {
-            return false;
-        }
-    }
-    true
+    let xs = names_over(alloc, codes, a)?;
+    let ys = names_over(alloc, codes, b)?;
+    same_names(alloc, xs.as_slice(), ys.as_slice())
 }
 
 // Whether two units keep the same fields of points.
-fn keep_same_points(asking: &Asking, a: &Offer, b: &Offer) -> bool
-    ensures { result ≡ keep_same_points asking.now a.now b.now }
+fn keep_same_points(
+    alloc: Global,
+    asking: &Asking,
+    a: &Offer,
+    b: &Offer,
+) -> Result<bool, OutOfMemory>
+    ensures { IfOk result (λ same. same ≡ keep_same_points asking.now a.now b.now) }
 {
-    let codes = asking.codes.as_slice();
     if asking.says_channels {
-        keeps_all(codes, codes, a, b) && keeps_all(codes, codes, b, a)
+        same_over(alloc, asking.codes.as_slice(), a, b)
     } else {
-        same_names(a.kept.as_slice(), b.kept.as_slice())
+        same_names(alloc, a.kept.as_slice(), b.kept.as_slice())
     }
 }
 
 // Whether two units keep the same extents for some channels.
-fn keep_same_extents(codes: &[u16], a: &Offer, b: &Offer) -> bool
-    ensures { result ≡ keep_same_extents codes.now a.now b.now }
+fn keep_same_extents(
+    alloc: Global,
+    codes: &[u16],
+    a: &Offer,
+    b: &Offer,
+) -> Result<bool, OutOfMemory>
+    ensures { IfOk result (λ same. same ≡ keep_same_extents codes.now a.now b.now) }
 {
     for code in codes {
-        if !same_names(extents_for(a, *code), extents_for(b, *code)) {
-            return false;
+        if !same_names(alloc, extents_for(a, *code), extents_for(b, *code))? {
+            return Ok(false);
         }
     }
-    true
+    Ok(true)
 }
 
 // Whether two units have different scales for one of some channels.
@@ -493,27 +478,34 @@ fn differ_in_scale(codes: &[u16], a: &Offer, b: &Offer) -> bool
 }
 
 // Whether two units keep the same.
-fn keep_same(asking: &Asking, a: &Offer, b: &Offer) -> bool
-    ensures { result ≡ keep_same asking.now a.now b.now }
+#[tactic(auto, unfolding(crate::specs::Selections::keep_same))]
+fn keep_same(alloc: Global, asking: &Asking, a: &Offer, b: &Offer) -> Result<bool, OutOfMemory>
+    ensures { IfOk result (λ same. same ≡ keep_same asking.now a.now b.now) }
 {
     if asking.interval {
-        keep_same_extents(asking.codes.as_slice(), a, b)
+        keep_same_extents(alloc, asking.codes.as_slice(), a, b)
+    } else if asking.says_fields {
+        Ok(true)
     } else {
-        asking.says_fields || keep_same_points(asking, a, b)
+        keep_same_points(alloc, asking, a, b)
     }
 }
 
 // Whether one of some units and the next keep something different.
-fn is_unlike(asking: &Asking, units: &[&Offer]) -> bool
-    ensures { result ≡ is_unlike asking.now (map (λ o. o.now) units.now) }
+fn is_unlike(alloc: Global, asking: &Asking, units: &[&Offer]) -> Result<bool, OutOfMemory>
+    ensures { IfOk result (λ unlike. unlike ≡ is_unlike asking.now (map (λ o. o.now) units.now)) }
 {
     let [a, others @ ..] = units else {
-        return false;
+        return Ok(false);
     };
     let [b, ..] = others else {
-        return false;
+        return Ok(false);
     };
-    !keep_same(asking, a, b) || is_unlike(asking, others)
+    if keep_same(alloc, asking, a, b)? {
+        is_unlike(alloc, asking, others)
+    } else {
+        Ok(true)
+    }
 }
 
 // Whether two units in one plot have different scales for one of some channels.
@@ -551,12 +543,25 @@ fn is_parted(asking: &Asking, units: &[&Offer]) -> bool
     asking.interval && any_part_scales(asking.codes.as_slice(), units)
 }
 
-/// Whether a selection is wrong for the units that it concerns.
-pub fn is_wrong_for(asking: &Asking, units: &[&Offer]) -> bool
-    ensures { result ≡ is_wrong_for asking.now (map (λ o. o.now) units.now) }
+// Whether a selection keeps different fields, or is parted, in the units that it concerns.
+fn is_uneven(alloc: Global, asking: &Asking, units: &[&Offer]) -> Result<bool, OutOfMemory>
+    ensures { IfOk result (λ uneven. uneven
+        ≡ (is_unlike asking.now (map (λ o. o.now) units.now) || is_parted asking.now (map (λ o. o.now) units.now))) }
 {
-    any_lacks_source(asking.codes.as_slice(), units)
-        || is_no_span(asking, units)
-        || is_unlike(asking, units)
-        || is_parted(asking, units)
+    if is_unlike(alloc, asking, units)? {
+        Ok(true)
+    } else {
+        Ok(is_parted(asking, units))
+    }
+}
+
+/// Whether a selection is wrong for the units that it concerns.
+pub fn is_wrong_for(alloc: Global, asking: &Asking, units: &[&Offer]) -> Result<bool, OutOfMemory>
+    ensures { IfOk result (λ wrong. wrong ≡ is_wrong_for asking.now (map (λ o. o.now) units.now)) }
+{
+    if any_lacks_source(asking.codes.as_slice(), units) || is_no_span(asking, units) {
+        Ok(true)
+    } else {
+        is_uneven(alloc, asking, units)
+    }
 }

@@ -1,6 +1,7 @@
 //! What is asked of each unit, with all that stands round it.
-ghost use Rattle.std.specs.Prelude.{◌≡◌, ◌∷◌, [], true, codes, map, flat_map, is_some, IfOk};
+ghost use Rattle.std.specs.Prelude.{◌≡◌, ◌∷◌, ◌&&◌, [], true, not, codes, map, flat_map, is_some, IfOk};
 ghost use Rattle.std.specs.Option.{option_map};
+ghost use Rattle.json_exact.specs.declared.spec_error.SpecKind.TheVariants.{Unsupported};
 ghost use Rattle.spec_schema.specs.Order.{earlier as earlier_fault};
 ghost use Rattle.vl_normalize.specs.Channels.{has_channel};
 ghost use Rattle.vl_normalize.specs.Marks.{pointed};
@@ -8,12 +9,12 @@ ghost use Rattle.vl_trails.specs.declared.fault.Broken.TheVariants as broken;
 ghost use Rattle.vl_trails.specs.Faults.{earliest_placed, fault_if, missing_at, wrong_if};
 ghost use Rattle.vl_rules.specs.Leads.{channel_trail, led};
 ghost use Rattle.vl_rules.specs.Rules.{faults_of_unit};
-ghost use Rattle.vl_rules.specs.Units.{data_among, without_data, encodes, start_among, lone_end, lone_ends, is_sign, is_plain, useless_size, one_too_many};
+ghost use Rattle.vl_rules.specs.Units.{data_among, without_data, encodes, start_among, lone_end, lone_ends, is_sign, is_plain, may_lack_type, is_text, type_trail, says_bar, size_trail, useless_size, one_too_many};
 ghost use Rattle.vl_rules.specs.inner.Shown.{led_shown, marked_shown};
 ghost use Rattle.vl_rules.specs.inner.Counted.{times_counted, trail_behind, wrong_there};
 
 use crate::folds::sooner_folds;
-use crate::leads::{LedView, channel_in, channel_trail, has_encoding, holds, led};
+use crate::leads::{LedView, channel_in, channel_trail, has_encoding, holds, led, may_hold};
 use crate::marked::{MOST_UNITS, Marked};
 use json_exact::{Json, SpecKind};
 use spec_schema::Fault;
@@ -24,7 +25,7 @@ use vl_compose::source_of;
 use vl_names::{channel_name, to_member};
 use vl_normalize::{SIZE, X, X2, Y, Y2};
 use vl_spec::{ChannelOf, Mark, MarkType};
-use vl_trails::{Broken, sooner_placed};
+use vl_trails::{Broken, sooner_placed, value_at};
 
 /// The number of `data` among the rules of a unit.
 pub const DATA_RULE: usize = 4;
@@ -109,30 +110,13 @@ pub fn has_channel(channels: &[&ChannelOf], code: u16) -> bool
     false
 }
 
-// The fault so far, or one of the channel of a code that a unit has.
-fn sooner_at_channel(
-    alloc: Global,
-    tree: &Json,
-    so_far: Option<Fault>,
-    kind: SpecKind,
-    unit: &Marked,
-    code: u16,
-) -> Result<Option<Fault>, OutOfMemory>
-    ensures { IfOk result (λ f. f ≡ earlier_fault so_far
-        (earliest_placed tree.now (fault_if true kind (channel_trail (marked_shown unit.now).round code)))) }
-{
-    let views = led(alloc, unit.round.as_slice())?;
-    let trail = channel_trail(alloc, views.as_slice(), code)?;
-    sooner_placed(alloc, tree, so_far, trail.as_slice(), &Broken::Value(kind))
-}
-
-// Whether the encoding of a view has a member for the channel of a code.
+// Whether the encoding of a view has a member for the channel of a code, or might have one.
 fn encodes(alloc: Global, tree: &Json, code: u16, led: &LedView) -> Result<bool, OutOfMemory>
     ensures { IfOk result (λ is. is ≡ encodes tree.now code (led_shown led.now)) }
 {
     if has_encoding(&led.here.view.kind) {
         let encoding = to_member(alloc, led.trail.as_slice(), "encoding")?;
-        holds(alloc, tree, encoding.as_slice(), channel_name(code))
+        may_hold(alloc, tree, encoding.as_slice(), channel_name(code))
     } else {
         Ok(false)
     }
@@ -241,6 +225,101 @@ fn is_plain(mark: &Option<Mark>) -> bool
     }
 }
 
+// Whether a mark is an object of bars.
+fn may_lack_type(mark: &Option<Mark>) -> bool
+    ensures { result ≡ may_lack_type mark.now }
+{
+    match mark {
+        Some(Mark::Definition(of)) => matches!(of.type_, MarkType::Bar),
+        Some(Mark::Type(_)) | None => false,
+    }
+}
+
+// Whether a value is this text.
+fn is_text(text: &str, value: &Json) -> bool
+    ensures { result ≡ is_text text.now value.now }
+{
+    match value {
+        Json::Text(other) => other.as_str() == text,
+        Json::Null
+        | Json::Flag(_)
+        | Json::Number(_)
+        | Json::Huge
+        | Json::List(_)
+        | Json::Object(_) => false,
+    }
+}
+
+// The steps from a unit to the type of its mark.
+fn type_trail(alloc: Global, trail: &[Step]) -> Result<Seq<Step>, OutOfMemory>
+    ensures { IfOk result (λ at. at ≡ type_trail trail.now) }
+{
+    let mark = to_member(alloc, trail, "mark")?;
+    to_member(alloc, mark.as_slice(), "type")
+}
+
+// Whether the text `bar` stands there.
+fn says_bar(alloc: Global, tree: &Json, trail: &[Step]) -> Result<bool, OutOfMemory>
+    ensures { IfOk result (λ says. says ≡ says_bar tree.now trail.now) }
+{
+    let at = type_trail(alloc, trail)?;
+    match value_at(alloc, tree, at.as_slice())? {
+        Some(value) => Ok(is_text("bar", value)),
+        None => Ok(false),
+    }
+}
+
+// Whether the mark of a unit has a type that is ill-formed.
+fn lacks_type(alloc: Global, tree: &Json, unit: &Marked) -> Result<bool, OutOfMemory>
+    ensures { IfOk result (λ lacks. lacks
+        ≡ (may_lack_type (marked_shown unit.now).mark && not (says_bar tree.now (marked_shown unit.now).trail))) }
+{
+    if may_lack_type(unit.mark) {
+        Ok(!says_bar(alloc, tree, unit.trail.as_slice())?)
+    } else {
+        Ok(false)
+    }
+}
+
+// The steps to the channel `size` of a unit.
+fn channel_size_trail(alloc: Global, unit: &Marked) -> Result<Seq<Step>, OutOfMemory>
+    ensures { IfOk result (λ trail. trail ≡ channel_trail (marked_shown unit.now).round SIZE) }
+{
+    let views = led(alloc, unit.round.as_slice())?;
+    channel_trail(alloc, views.as_slice(), SIZE)
+}
+
+// Where the size of a unit is at fault.
+fn size_trail(alloc: Global, tree: &Json, unit: &Marked) -> Result<Seq<Step>, OutOfMemory>
+    ensures { IfOk result (λ trail. trail ≡ size_trail tree.now (marked_shown unit.now)) }
+{
+    if lacks_type(alloc, tree, unit)? {
+        type_trail(alloc, unit.trail.as_slice())
+    } else {
+        channel_size_trail(alloc, unit)
+    }
+}
+
+// The fault so far, or that of the size of a unit.
+fn sooner_size(
+    alloc: Global,
+    tree: &Json,
+    so_far: Option<Fault>,
+    unit: &Marked,
+) -> Result<Option<Fault>, OutOfMemory>
+    ensures { IfOk result (λ f. f ≡ earlier_fault so_far
+        (earliest_placed tree.now (fault_if true Unsupported (size_trail tree.now (marked_shown unit.now))))) }
+{
+    let trail = size_trail(alloc, tree, unit)?;
+    sooner_placed(
+        alloc,
+        tree,
+        so_far,
+        trail.as_slice(),
+        &Broken::Value(SpecKind::Unsupported),
+    )
+}
+
 // The fault so far, or that of a size for which a mark has no use.
 fn sooner_useless_size(
     alloc: Global,
@@ -248,10 +327,10 @@ fn sooner_useless_size(
     so_far: Option<Fault>,
     unit: &Marked,
 ) -> Result<Option<Fault>, OutOfMemory>
-    ensures { IfOk result (λ f. f ≡ earlier_fault so_far (earliest_placed tree.now (useless_size (marked_shown unit.now)))) }
+    ensures { IfOk result (λ f. f ≡ earlier_fault so_far (earliest_placed tree.now (useless_size tree.now (marked_shown unit.now)))) }
 {
     if has_channel(unit.channels.as_slice(), SIZE) && is_plain(unit.mark) {
-        sooner_at_channel(alloc, tree, so_far, SpecKind::Unsupported, unit, SIZE)
+        sooner_size(alloc, tree, so_far, unit)
     } else {
         Ok(so_far)
     }

@@ -1,6 +1,7 @@
 -- What conditions hold.
 use Rattle.std.specs.Prelude.{ℕ, Option, List, [], codes}
 use Rattle.std.specs.Option.{option_map_or}
+use Rattle.json_exact.specs.declared.json.Json.{Json}
 use Rattle.vl_spec.specs.declared.channels.Condition.{Condition, out-Condition}
 use Rattle.vl_spec.specs.declared.channels.Conditions.{Conditions, fold-Conditions}
 use Rattle.vl_spec.specs.declared.definitions.Definition.{Definition}
@@ -16,12 +17,12 @@ abbrev pub all_of_condition : Condition → List Definition
 all_of_condition c = part.all_of (out-Condition c).shows
 
 -- the faults of the scales of conditions
-abbrev pub conditions_faults : ℕ → Conditions → view.Faulty
-conditions_faults code = fold-Conditions view.Faulty view.Faulty view.Faulty view.conditions_here (view.channel_here code) view.condition_here
+abbrev pub conditions_faults : Json → ℕ → Conditions → view.Faulty
+conditions_faults tree code = fold-Conditions view.Faulty view.Faulty view.Faulty view.conditions_here (view.channel_here tree code) view.condition_here
 
-abbrev pub condition_faults : ℕ → Condition → view.Faulty
-condition_faults code c = view.channel_faults code (out-Condition c).shows
+abbrev pub condition_faults : Json → ℕ → Condition → view.Faulty
+condition_faults tree code c = view.channel_faults tree code (out-Condition c).shows
 
 -- those of the conditions of a channel, which may be absent
-abbrev pub held_faults : ℕ → Option Conditions → view.Faulty
-held_faults code held trail = option_map_or (λ (c : Conditions). conditions_faults code c (to_member trail (codes "condition"))) held []
+abbrev pub held_faults : Json → ℕ → Option Conditions → view.Faulty
+held_faults tree code held trail = option_map_or (λ (c : Conditions). conditions_faults tree code c (to_member trail (codes "condition"))) held []

@@ -9,8 +9,8 @@ use Rattle.vl_rules.proofs.channels.+channels.Given as goal
 
 abbrev pub invariant-judge_list-loop-number : goal.invariant-judge_list-loop-number
 invariant-judge_list-loop-number l =
-    after l.judging (items_from l.number (map (condition_faults l.code) (drop l.number l.conditions)) l.judging.trail)
-    ≡ after l.fn.judging (item_faults (map (condition_faults l.code) l.conditions) l.fn.judging.trail)
+    after l.judging (items_from l.number (map (condition_faults l.judging.tree.now l.code) (drop l.number l.conditions)) l.judging.trail)
+    ≡ after l.fn.judging (item_faults (map (condition_faults l.fn.judging.tree.now l.code) l.conditions) l.fn.judging.trail)
 
 abbrev pub decreases-judge_channel : goal.decreases-judge_channel
 decreases-judge_channel l = 8 * size-Channel l.channel.now

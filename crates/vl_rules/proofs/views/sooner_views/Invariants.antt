@@ -7,5 +7,5 @@ use Rattle.vl_rules.proofs.views.sooner_views.Given as goal
 
 abbrev pub invariant-loop-here : goal.invariant-loop-here
 invariant-loop-here l =
-    earlier l.so_far (earliest_placed l.tree (flat_map (faults_of_view l.params l.offers) (map view_shown (drop l.here-index l.views))))
-    ≡ earlier l.fn.so_far (earliest_placed l.tree (flat_map (faults_of_view l.params l.offers) (map view_shown l.views)))
+    earlier l.so_far (earliest_placed l.tree (flat_map (faults_of_view l.tree l.first l.params l.offers) (map view_shown (drop l.here-index l.views))))
+    ≡ earlier l.fn.so_far (earliest_placed l.tree (flat_map (faults_of_view l.tree l.first l.params l.offers) (map view_shown l.views)))

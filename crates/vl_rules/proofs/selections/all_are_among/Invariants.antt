@@ -1,8 +1,0 @@
-use Rattle.std.proofs.Common.{◌≡◌, drop}
-use Rattle.std.specs.List.{list_all}
-use Rattle.vl_rules.specs.Selections.{is_among}
-use Rattle.vl_rules.proofs.selections.all_are_among.Given as goal
-
-abbrev pub invariant-loop-name : goal.invariant-loop-name
-invariant-loop-name l =
-    list_all (is_among l.others) (drop l.name-index l.names) ≡ list_all (is_among l.others) l.names
