@@ -300,7 +300,8 @@ class Reader:
             constant = {"true": True, "false": False, "null": None}[text]
             return lambda row, values: constant
         if text == "datum":
-            return self.field()
+            # the row itself, for the test of a selection
+            return (lambda row, values: row) if self.tokens[self.at] == ("mark", ")") else self.field()
         if text == "domain" and self.take("("):
             name = unquoted(self.next()[1])
             self.want(")")
@@ -378,6 +379,8 @@ CALLS = {
     "length": lambda c: F(len(c.encode("utf-16-le")) // 2) if isinstance(c, str) else None,
     "bandspace": numbers(lambda n, i, o: F(0) if n == 0 else n - i + 2 * o if n - i + 2 * o > 0 else F(1)),
     "utc": lambda *parts: made_of(parts), "datetime": lambda *parts: made_of(parts),
+    # selections as they are at first: nothing is kept
+    "data": lambda store: "", "vlSelectionTest": lambda store, row: False,
 }
 for named in PARTS:
     CALLS[named] = CALLS["utc" + named] = numbers(lambda at, named=named: part(at, named))
@@ -781,12 +784,18 @@ def replies_of(spec, script):
     return "".join(live.reply(line) for line in script.splitlines() if line and not line.startswith("#"))
 
 
+def has_mouse(name):
+    """Whether a script has a line of the mouse."""
+    with open(f"examples/{name}.script", encoding="utf-8") as file:
+        return any(line.startswith(('["click"', '["shift"', '["double"', '["drag"')) for line in file)
+
+
 def shown():
-    """The names that GALLERY.md shows, and those with a script."""
+    """The names that GALLERY.md shows, and those with a script without a line of the mouse."""
     with open("docs/GALLERY.md", encoding="utf-8") as file:
         text = file.read()
     pictures = list(dict.fromkeys(re.findall(r"\.\./examples/([\w-]+)\.svg", text)))
-    scripts = list(dict.fromkeys(re.findall(r"\.\./examples/([\w-]+)\.script", text)))
+    scripts = [name for name in dict.fromkeys(re.findall(r"\.\./examples/([\w-]+)\.script", text)) if not has_mouse(name)]
     return [f"examples/{name}.json" for name in pictures] + [f"examples/{name}" for name in scripts]
 
 
