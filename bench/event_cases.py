@@ -2,9 +2,15 @@
 """Writes cases/vega/events.cases: scripts of clicks and drags over Vega specifications, with the pictures after them. What an event does is written
 here from the rules in words (docs/FORMATS.md, "Events of the mouse"), over plots whose places are given; nothing is asked of the program.
 
-Usage: bench/event_cases.py, at the top of the repository.
+Usage: bench/event_cases.py, at the top of the repository. With words it plays random scripts over the same charts on a program, each of its own
+seed, and compares what comes: bench/event_cases.py PROGRAM [COUNT [SEED]].
 """
 import json
+import os
+import random
+import subprocess
+import sys
+import tempfile
 from fractions import Fraction
 
 MILLION = 1_000_000
@@ -61,8 +67,10 @@ class Item:
 
 
 class Panel:
-    def __init__(self, x, y, width, height, plot, facet, items):
-        self.x, self.y, self.width, self.height, self.plot, self.facet, self.items = x, y, width, height, plot, facet, items
+    """A plot with its items; one without marks, or a title, is no plot for events."""
+
+    def __init__(self, x, y, width, height, plot, facet, items, title=None):
+        self.x, self.y, self.width, self.height, self.plot, self.facet, self.items, self.title = x, y, width, height, plot, facet, items, title
 
     def holds(self, x, y):
         return self.x <= x <= self.x + self.width and self.y <= y <= self.y + self.height
@@ -90,7 +98,8 @@ class Chart:
     """A specification, with what is drawn of it: `draw` gives the size of the picture and its panels from the rows and the stores, `fill` the fill of an
     item, `scales` the scale of a selection's channel in a panel."""
 
-    def __init__(self, spec, rows, selections, units_of_plots, draw, fill, scales):
+    def __init__(self, spec, rows, selections, units_of_plots, draw, fill, scales, values=()):
+        self.values = dict(values)
         self.spec, self.rows, self.selections, self.plots = spec, [dict(r, _vgsid_=i + 1) for i, r in enumerate(rows)], selections, units_of_plots
         self.draw, self.fill, self.scales = draw, fill, scales
         self.stores = {s.name: Store() for s in selections}
@@ -156,6 +165,9 @@ class Chart:
     def picture(self):
         (width, height), panels = self.draw(self)
         lines = {id(p): [i.line(self.fill(self, i)) for i in p.items] for p in panels}
+        for p in panels:
+            if p.title is not None:
+                lines[id(p)] = [f'<text x="{decimal(Fraction(p.width, 2))}" y="13" text-anchor="middle" font-size="13" font-weight="bold" fill="#000">{p.title}</text>']
         for s in self.selections:
             store = self.stores[s.name]
             if not store.extents:
@@ -364,7 +376,7 @@ def facets():
             items = [Item(0, r["_vgsid_"], r, "circle", (xs.place(r["p"]), Fraction(10))) for r in chart.rows if r["c"] == cell]
             panels.append(Panel(5 + 110 * (at % 2), 5 + 30 * (at // 2), 100, 20, 0, {"c": cell}, items))
         across, down = min(len(cells), 2), (len(cells) + 1) // 2
-        return (10 + 110 * across - 10, 10 + 30 * down - 10), panels
+        return (max(10, 110 * across), max(10, 30 * down)), panels
     return Chart(spec, POINTS, [pick, brush], [[0]], draw, lambda c, i: "red" if any(c.stores[n].holds(i.row) for n in ("pick", "brush")) else "gray",
                  lambda c, s, channel, panel: xs)
 
@@ -435,7 +447,183 @@ def at_one_domain():
     return one_plot(rows, s, held("brush"), by_store("brush"), x=(5, 5, 0, 100))
 
 
-# ---- scripts: kinds with numbers are events, "remove" takes rows of a cell away
+# ---- plots over each other: they share edges and corners, and a plot of no width lies on an edge, or on others of none
+
+def plot_of(name, y, x={"value": 0}, width=100, height=20, tests="false", **members):
+    """A plot of symbols over the rows."""
+    sized = {"width": width if isinstance(width, dict) else {"value": width}, "height": {"value": height}}
+    return {"type": "group", "encode": {"update": sized}, **members,
+            "marks": [{"type": "symbol", "name": name, "from": {"data": "t"}, "encode": {"update": {"x": x, "y": y, "fill": fills(tests)}}}]}
+
+
+def any_held(*names):
+    """Red where one of these selections holds the row."""
+    return " || ".join(held(n, False) for n in names), lambda chart, item: "red" if any(chart.stores[n].holds(item.row) for n in names) else "gray"
+
+
+def circles(unit, chart, x, y):
+    return [Item(unit, r["_vgsid_"], r, "circle", (Fraction(x(r)), Fraction(y(r)))) for r in chart.rows]
+
+
+ON_X, ON_Y = {"scale": "x", "field": "p"}, {"scale": "y", "field": "q"}
+
+
+def crossing():
+    """Four plots that meet in a corner, each with an x of its own."""
+    pick, brush = Selection("pick", [0, 1, 2, 3], ["_vgsid_"], ["_vgsid_"], True), Selection("brush", [0, 1, 2, 3], drag=(("x", "p"), ("y", "q")), clears=True)
+    rows = [{"p": 0, "q": 0}, {"p": 0, "q": 10}, {"p": 10, "q": 0}, {"p": 10, "q": 10}]
+    ends, ys = (10, 10, 20, 20), Scale(0, 10, 0, 20)
+    tests, fill = any_held("pick", "brush")
+    spec = top(rows, [signal(pick), signal(brush, ("x", "y"))], layout={"padding": 0, "columns": 2}, scales=[linear("y", [0, 10], [0, 20])],
+               marks=[plot_of(name, ON_Y, ON_X, tests=tests, scales=[linear("x", [0, end], [0, 100])]) for name, end in zip("abcd", ends)])
+
+    def draw(chart):
+        return (210, 50), [Panel(5 + 100 * (at % 2), 5 + 20 * (at // 2), 100, 20, at, None, circles(at, chart, lambda r: Scale(0, end, 0, 100).place(r["p"]), lambda r: ys.place(r["q"])))
+                           for at, end in enumerate(ends)]
+    return Chart(spec, rows, [pick, brush], [[0], [1], [2], [3]], draw, fill, lambda c, s, channel, panel: Scale(0, ends[panel.plot], 0, 100) if channel == "x" else ys)
+
+
+def folded():
+    """Three plots as wide as a signal says: with 0 they lie over each other whole."""
+    pick, first = Selection("pick", [0, 1, 2], ["_vgsid_"], ["_vgsid_"], True), Selection("first", [0], ["_vgsid_"], ["_vgsid_"], True)
+    tall, wide = Selection("tall", [0, 1, 2], drag=(("y", "p"),), clears=True), Selection("wide", [0, 1, 2], drag=(("x", "p"),), clears=True)
+    rows = [{"p": 0, "q": 10}, {"p": 5, "q": 5}, {"p": 10, "q": 0}]
+    xs, ys, width = Scale(0, 10, 0, 100), Scale(0, 10, 0, 50), {"signal": "w"}
+    tests, fill = any_held("pick", "first", "tall", "wide")
+    spec = top(rows, [{"name": "w", "value": 0}, signal(pick), signal(first, marks=["a"]), signal(tall, ("y",)), signal(wide, ("x",))], layout={"padding": 0},
+               scales=[linear("x", [0, 10], [0, 100]), linear("y", [0, 10], [0, 50])],
+               marks=[plot_of("a", {"scale": "y", "field": "p"}, width=width, height=50, tests=tests), plot_of("b", ON_Y, width=width, height=50, tests=tests),
+                      plot_of("c", {"value": 10}, ON_X, width, 50, tests)])
+
+    def draw(chart):
+        w = chart.values["w"]
+        items = [circles(0, chart, lambda r: 0, lambda r: ys.place(r["p"])), circles(1, chart, lambda r: 0, lambda r: ys.place(r["q"])), circles(2, chart, lambda r: xs.place(r["p"]), lambda r: 10)]
+        return (10 + 3 * w, 60), [Panel(5 + at * w, 5, w, 50, at, None, items[at]) for at in range(3)]
+    return Chart(spec, rows, [pick, first, tall, wide], [[0], [1], [2]], draw, fill, lambda c, s, channel, panel: xs if channel == "x" else ys, {"w": 0})
+
+
+def between():
+    """A plot of no width on the edge between two others, the last of which is less high."""
+    pick, edge, tall = Selection("pick", [0, 1, 2], ["_vgsid_"], ["_vgsid_"], True), Selection("edge", [1], None, ["_vgsid_"]), Selection("tall", [1], drag=(("y", "p"),), clears=True)
+    rows = [{"p": 0}, {"p": 10}]
+    xs, ys = Scale(0, 10, 0, 100), Scale(0, 10, 0, 20)
+    tests, fill = any_held("pick", "edge", "tall")
+    spec = top(rows, [signal(pick), signal(edge, marks=["z"]), signal(tall, ("y",), ["z"])], layout={"padding": 0}, scales=[linear("x", [0, 10], [0, 100]), linear("y", [0, 10], [0, 20])],
+               marks=[plot_of("a", {"value": 10}, ON_X, tests=tests), plot_of("z", {"scale": "y", "field": "p"}, width=0, tests=tests),
+                      plot_of("c", {"value": 5}, ON_X, height=10, tests=tests)])
+
+    def draw(chart):
+        return (210, 30), [Panel(5, 5, 100, 20, 0, None, circles(0, chart, lambda r: xs.place(r["p"]), lambda r: 10)),
+                           Panel(105, 5, 0, 20, 1, None, circles(1, chart, lambda r: 0, lambda r: ys.place(r["p"]))),
+                           Panel(105, 5, 100, 10, 2, None, circles(2, chart, lambda r: xs.place(r["p"]), lambda r: 5))]
+    return Chart(spec, rows, [pick, edge, tall], [[0], [1], [2]], draw, fill, lambda c, s, channel, panel: xs if channel == "x" else ys)
+
+
+def copies_over():
+    """The copies of a facet, of which all but the first have no width: they lie on its edge."""
+    pick, tall = Selection("pick", [0], ["_vgsid_"], ["_vgsid_"], True), Selection("tall", [0], drag=(("y", "p"),), clears=True)
+    rows = [{"p": 0, "c": "u"}, {"p": 10, "c": "u"}, {"p": 0, "c": "v"}, {"p": 10, "c": "v"}, {"p": 0, "c": "w"}]
+    ys = Scale(0, 10, 0, 20)
+    tests, fill = any_held("pick", "tall")
+    is_u = {"test": "datum.c == 'u'", "value": 100}
+    group = {"type": "group", "from": {"facet": {"name": "f", "data": "t", "groupby": ["c"]}},
+             "encode": {"update": {"width": [is_u, {"value": 0}], "height": {"value": 20}}}, "marks": [symbol("a", "f", {"scale": "y", "field": "p"}, fills(tests))]}
+    group["marks"][0]["encode"]["update"]["x"] = [is_u, {"value": 0}]
+    spec = top(rows, [signal(pick), signal(tall, ("y",))], layout={"padding": 0}, scales=[linear("y", [0, 10], [0, 20])], marks=[group])
+
+    def draw(chart):
+        panels, left = [], 5
+        for cell in dict.fromkeys(r["c"] for r in chart.rows):
+            width = 100 if cell == "u" else 0
+            items = [Item(0, r["_vgsid_"], r, "circle", (Fraction(width), ys.place(r["p"]))) for r in chart.rows if r["c"] == cell]
+            panels.append(Panel(left, 5, width, 20, 0, {"c": cell}, items))
+            left += width
+        return (left + 5, 30 if panels else 10), panels
+    return Chart(spec, rows, [pick, tall], [[0]], draw, fill, lambda c, s, channel, panel: ys)
+
+
+def bare_beside():
+    """A plot of marks, one without marks, one whose mark has no rows, and one whose mark stands in a group without copies."""
+    pick, first = Selection("pick", [0, 1, 2], ["_vgsid_"], ["_vgsid_"], True), Selection("first", [0], ["_vgsid_"], ["_vgsid_"], True)
+    rows = [{"p": 0}, {"p": 10}]
+    xs = Scale(0, 10, 0, 100)
+    tests, fill = any_held("pick", "first")
+    empty, inner = plot_of("e", {"value": 10}, ON_X, tests=tests), plot_of("i", {"value": 10}, ON_X, tests=tests)
+    empty["marks"][0]["from"]["data"] = "none"
+    inner["marks"] = [{"type": "group", "from": {"facet": {"name": "f", "data": "none", "groupby": ["p"]}}, "marks": [{**inner["marks"][0], "from": {"data": "f"}}]}]
+    bare = {**plot_of("", {}), "marks": []}
+    spec = top(rows, [signal(pick), signal(first, marks=["a"])], layout={"padding": 0}, scales=[linear("x", [0, 10], [0, 100])],
+               marks=[plot_of("a", {"value": 10}, ON_X, tests=tests), bare, empty, inner, bare])
+    spec["data"].append({"name": "none", "source": "t", "transform": [{"type": "filter", "expr": "false"}]})
+
+    def draw(chart):
+        panels = [Panel(5 + 100 * at, 5, 100, 20, plot, None, []) for at, plot in enumerate((0, None, 1, 2, None))]
+        panels[0].items = circles(0, chart, lambda r: xs.place(r["p"]), lambda r: 10)
+        return (510, 30), panels
+    return Chart(spec, rows, [pick, first], [[0], [1], [2]], draw, fill, None)
+
+
+def nested():
+    """Two plots one below the other in a grid with a title, and beside that grid a plot."""
+    pick, brush = Selection("pick", [0, 1, 2], ["_vgsid_"], ["_vgsid_"], True), Selection("brush", [0, 1, 2], drag=(("x", "p"),), clears=True)
+    rows = [{"p": 0}, {"p": 5}, {"p": 10}]
+    xs = Scale(0, 10, 0, 100)
+    tests, fill = any_held("pick", "brush")
+    a, b, c = (plot_of(name, {"value": y}, ON_X, height=height, tests=tests) for name, y, height in (("a", 20, 20), ("b", 0, 20), ("c", 43, 63)))
+    spec = top(rows, [signal(pick), signal(brush, ("x",))], layout={"padding": 0}, scales=[linear("x", [0, 10], [0, 100])],
+               marks=[{"type": "group", "title": "two", "layout": {"padding": 0, "columns": 1}, "marks": [a, b]}, c])
+
+    def draw(chart):
+        items = [circles(at, chart, lambda r: xs.place(r["p"]), lambda r: y) for at, y in enumerate((20, 0, 43))]
+        return (210, 73), [Panel(5, 5, 100, 23, None, None, [], "two"), Panel(5, 28, 100, 20, 0, None, items[0]), Panel(5, 48, 100, 20, 1, None, items[1]),
+                           Panel(105, 5, 100, 63, 2, None, items[2])]
+    return Chart(spec, rows, [pick, brush], [[0], [1], [2]], draw, fill, lambda c, s, channel, panel: xs)
+
+
+def over_others():
+    """Rects of two plots that reach over the plot between them; the last of these encodes an x and a y, which move no plot."""
+    pick, brush = Selection("pick", [0, 1, 2], ["_vgsid_"], ["_vgsid_"], True), Selection("brush", [0, 1, 2], drag=(("x", "p"),), clears=True)
+    rows = [{"p": 0}, {"p": 10}]
+    xs = Scale(0, 10, 0, 100)
+    tests, fill = any_held("pick", "brush")
+    a, b, c = plot_of("a", {"value": 2}, tests=tests), plot_of("b", {"value": 10}, ON_X, tests=tests), plot_of("c", {"value": 2}, tests=tests)
+    for plot, left in ((a, 40), (c, -90)):
+        plot["marks"][0]["type"] = "rect"
+        plot["marks"][0]["encode"]["update"].update({"x": {"scale": "x", "field": "p", "offset": left}, "width": {"value": 50}, "height": {"value": 16}})
+    c["encode"]["update"].update({"x": {"value": -150}, "y": {"value": 7}})
+    spec = top(rows, [signal(pick), signal(brush, ("x",))], layout={"padding": 0}, scales=[linear("x", [0, 10], [0, 100])], marks=[a, b, c])
+
+    def draw(chart):
+        def rects(unit, left):
+            return [Item(unit, r["_vgsid_"], r, "rect", (xs.place(r["p"]) + left, 2, 50, 16)) for r in chart.rows]
+        items = [rects(0, 40), circles(1, chart, lambda r: xs.place(r["p"]), lambda r: 10), rects(2, -90)]
+        return (310, 30), [Panel(5 + 100 * at, 5, 100, 20, at, None, items[at]) for at in range(3)]
+    return Chart(spec, rows, [pick, brush], [[0], [1], [2]], draw, fill, lambda c, s, channel, panel: xs)
+
+
+def groups_in_a_plot():
+    """Copies of a group in one plot, moved over each other and out of it: they are no plots of their own, whatever size they encode."""
+    pick, bars, brush = Selection("pick", [0, 1], ["_vgsid_"], ["_vgsid_"], True), Selection("bars", [0], ["_vgsid_"], None, True), Selection("brush", [0, 1], drag=(("x", "p"),), clears=True)
+    rows = [{"p": 0, "c": "u"}, {"p": 2, "c": "v"}, {"p": 4, "c": "u"}]
+    xs, moved = Scale(0, 10, 0, 100), {"u": 0, "v": 30}
+    tests, fill = any_held("pick", "bars", "brush")
+    group = {"type": "group", "from": {"facet": {"name": "f", "data": "t", "groupby": ["c"]}},
+             "encode": {"update": {"x": [{"test": "datum.c == 'u'", "value": 0}, {"value": 30}], "y": {"value": 2}, "width": {"value": 10}, "height": {"value": 500}}},
+             "marks": [{"type": "rect", "name": "bars", "from": {"data": "f"},
+                        "encode": {"update": {"x": ON_X, "width": {"value": 50}, "y": {"value": 0}, "height": {"value": 10}, "fill": fills(tests)}}},
+                       symbol("dots", "f", {"value": 5}, fills(tests))]}
+    spec = top(rows, [signal(pick), signal(bars, marks=["bars"]), signal(brush, ("x",))], width=100, height=20, scales=[linear("x", [0, 10], [0, 100])], marks=[group])
+
+    def draw(chart):
+        cells = dict.fromkeys(r["c"] for r in chart.rows)
+        in_copies = [r for cell in cells for r in chart.rows if r["c"] == cell]
+        items = [Item(0, r["_vgsid_"], r, "rect", (xs.place(r["p"]) + moved[r["c"]], 2, 50, 10)) for r in in_copies]
+        items += [Item(1, r["_vgsid_"], r, "circle", (xs.place(r["p"]) + moved[r["c"]], Fraction(7))) for r in in_copies]
+        return (110, 30), [Panel(5, 5, 100, 20, 0, None, items)]
+    return Chart(spec, rows, [pick, bars, brush], [[0, 1]], draw, fill, lambda c, s, channel, panel: xs)
+
+
+# ---- scripts: kinds with numbers are events, "remove" takes rows of a cell away, "set" gives a signal a value
 
 SCRIPTS = [
     ("clicks on circles, beside them, and outside the plot", clicks_by_id, [
@@ -470,6 +658,30 @@ SCRIPTS = [
     ("two plots that touch: of a point on both edges the second counts", grid, [
         ("click", 5, 15), ("click", 105, 15), ("click", 104.999999, 15), ("shift", 55, 15), ("click", 130, 15), ("shift", 55, 15), ("double", 80, 15), ("click", 155, 15), ("double", 106, 15)]),
     ("drags in two plots with scales of their own", grid, [("drag", 10, 10, 60, 10), ("drag", 110, 10, 132, 10), ("drag", 60, 10, 180, 10), ("drag", 180, 10, 60, 10), ("drag", 105, 10, 205, 10), ("double", 10, 10)]),
+    ("four plots that meet in a corner: of those that hold a point the last counts", crossing, [
+        ("click", 105, 25), ("shift", 105, 5), ("shift", 55, 25), ("shift", 155, 25), ("click", 105, 24.999999), ("click", 104.999999, 25), ("click", 104.999999, 24.999999), ("double", 105, 25)]),
+    ("drags from edges and corners of four plots: each is cut to the plot in which it begins", crossing, [
+        ("drag", 105, 25, 155, 35), ("drag", 105, 25, 55, 5), ("drag", 55, 15, 300, 300), ("drag", 55, 25, 205, 45), ("drag", 105, 5, 55, 45), ("drag", 155, 25, 115, -300), ("drag", 155, 25, 115, 300),
+        ("double", 106, 15)]),
+    ("plots that lie over each other whole, and apart", folded, [
+        ("click", 5, 15), ("shift", 5, 30), ("click", 5, 5), ("drag", 5, 10, 5, 40), ("set", "w", 100), ("click", 5, 5), ("click", 105, 5), ("shift", 104.999999, 5), ("drag", 155, 10, 130, 30),
+        ("set", "w", 0), ("drag", 5, 10, 90, 30), ("click", 5.000001, 15), ("double", 5, 55), ("set", "w", 100), ("double", 5, 5)]),
+    ("a plot of no width on the edge between two others", between, [
+        ("click", 105, 10), ("click", 105, 15), ("click", 105, 25), ("shift", 105, 24), ("click", 104.999999, 15), ("click", 105.000001, 20), ("shift", 105, 24), ("drag", 105, 20, 205, 24),
+        ("drag", 105, 12, 150, 25), ("double", 105, 15), ("drag", 105, 25, 0, 15), ("double", 105, 16)]),
+    ("copies of a facet over each other, and copies that go", copies_over, [
+        ("click", 105, 5), ("click", 105, 25), ("shift", 105, 6), ("drag", 105, 5, 105, 15), ("remove", "w"), ("click", 105, 25), ("drag", 105, 20, 5, 300), ("shift", 105, 5), ("remove", "v"), ("shift", 105, 25),
+        ("double", 105, 15)]),
+    ("plots without marks hold nothing, and those of marks that aren't drawn do", bare_beside, [
+        ("click", 105, 15), ("click", 150, 15), ("double", 205, 15), ("click", 105, 15), ("click", 305, 15), ("shift", 5, 15), ("double", 350, 15), ("shift", 105, 15), ("click", 405, 15), ("click", 405.000001, 15)]),
+    ("grids that touch, and a title above one", nested, [
+        ("click", 5, 48), ("click", 105, 48), ("click", 104.999999, 48), ("double", 50, 28), ("click", 5, 48), ("double", 50, 27.999999), ("drag", 50, 10, 90, 60), ("drag", 55, 48, 300, 5), ("drag", 105, 28, 130, 10),
+        ("drag", 105, 5, 5, 60), ("drag", 30, 28, 80, 90)]),
+    ("items that reach over another plot aren't picked there, and x and y of a plot move nothing", over_others, [
+        ("click", 60, 15), ("click", 130, 15), ("click", 104, 15), ("click", 105, 15), ("click", 170, 15), ("click", 205, 15), ("click", 204.9, 15), ("click", 225, 15), ("shift", 300, 15), ("drag", 195, 10, 300, 15),
+        ("drag", 205, 25, 100, 5), ("drag", 205, 25, 215, 5)]),
+    ("groups in a plot that lie over each other", groups_in_a_plot, [
+        ("click", 50, 12), ("click", 70, 12), ("click", 45, 12), ("shift", 60, 16), ("click", 12, 20), ("click", 12, 12), ("drag", 45, 12, 65, 300), ("click", 100, 24), ("drag", 100, 24, 10, 5), ("double", 0, 10)]),
     ("clicks in the copies of a facet", facets, [("click", 5, 15), ("shift", 215, 15), ("click", 220, 15), ("click", 105, 45), ("shift", 45, 15), ("click", 110, 15), ("double", 120, 15)]),
     ("drags in the copies of a facet, and a copy that goes", facets, [("drag", 5, 10, 45, 10), ("drag", 215, 10, 300, 10), ("drag", 60, 40, 300, 300), ("drag", 120, 10, 216, 10), ("remove", "v"), ("drag", 10, 10, 60, 10), ("remove", "u"), ("drag", 60, 10, 90, 10)]),
     ("marks that a drag hides", hidden, [("drag", 5, 10, 45, 10), ("drag", 20, 10, 30, 10), ("drag", 50, 10, 105, 10), ("double", 5, 10)]),
@@ -478,27 +690,78 @@ SCRIPTS = [
 ]
 
 
+def line_of(chart, kind, numbers):
+    """The line of a script for an event or a change, which the chart takes."""
+    if kind == "set":
+        chart.values[numbers[0]] = numbers[1]
+        return json.dumps(["set", *numbers])
+    if kind == "remove":
+        chart.rows = [r for r in chart.rows if r["c"] != numbers[0]]
+        return json.dumps(["change", "t", {"remove": f"datum.c == '{numbers[0]}'"}])
+    chart.event(kind, *numbers)
+    return json.dumps([kind, *numbers])
+
+
 def case_of(name, make, events):
     chart = make()
     out = [f"=== {name}", "--- s.json", json.dumps(chart.spec), "--- $ chart play s.json"]
     for kind, *numbers in events:
-        if kind == "remove":
-            line = json.dumps(["change", "t", {"remove": f"datum.c == '{numbers[0]}'"}])
-            chart.rows = [r for r in chart.rows if r["c"] != numbers[0]]
-        else:
-            line = json.dumps([kind, *numbers])
-            chart.event(kind, *numbers)
-        out += ["> " + line, "ok", '> ["print"]', *chart.picture()]
+        out += ["> " + line_of(chart, kind, numbers), "ok", '> ["print"]', *chart.picture()]
     return out + [""]
 
 
-def main():
+def random_events(chart, seed):
+    """Events at places where something begins or ends, just beside these, and anywhere."""
+    chosen = random.Random(seed)
+    panels = chart.draw(chart)[1]
+    xs = [x for p in panels for x in (p.x, p.x + p.width, *(p.x + i.at[0] for i in p.items))]
+    ys = [y for p in panels for y in (p.y, p.y + p.height, *(p.y + i.at[1] for i in p.items))]
+
+    def place(edges):
+        near = chosen.choice(edges) + Fraction(chosen.choice([0, 0, 0, -1, 1, 1000000, -1500000, 2738613, 2738614]), MILLION)
+        return float(near if chosen.random() < 0.8 else Fraction(chosen.randint(-20, 2 * int(max(edges))), chosen.choice([1, 2, 8])))
+
+    for _ in range(chosen.randint(1, 12)):
+        kind, at = chosen.choice(["click", "click", "shift", "shift", "double", "drag", "drag", "drag"]), (place(xs), place(ys))
+        yield (kind, *at, place(xs), place(ys)) if kind == "drag" else (kind, *at)
+        if "w" in chart.values and chosen.random() < 0.2:
+            yield "set", "w", chosen.choice([0, 30, 100])
+        cells = sorted({r["c"] for r in chart.rows if "c" in r})
+        if cells and chosen.random() < 0.1:
+            yield "remove", chosen.choice(cells)
+
+
+def played(program, count, first):
+    """Plays random scripts over the charts, each of its own seed, and compares what comes."""
+    makers, failed = [make for _, make, _ in SCRIPTS], 0
+    with tempfile.TemporaryDirectory(prefix="event_cases-") as room:
+        for seed in range(first, first + count):
+            chart = makers[seed % len(makers)]()
+            lines, wanted = [], []
+            for kind, *numbers in random_events(chart, seed):
+                lines += [line_of(chart, kind, numbers), '["print"]']
+                wanted += ["ok", *chart.picture()]
+            with open(f"{room}/s.json", "w") as out:
+                json.dump(chart.spec, out)
+            ran = subprocess.run([program, "play", "s.json"], cwd=room, input="\n".join(lines) + "\n", capture_output=True, text=True)
+            if ran.stdout.splitlines() != wanted:
+                failed += 1
+                print(f"event_cases: seed {seed}: {json.dumps(chart.spec)}\n" + "\n".join(lines))
+    print(f"event_cases: {count - failed} passed, {failed} failed")
+    return 1 if failed else 0
+
+
+def main(words):
+    if words:
+        return played(os.path.abspath(words[0]), int(words[1]) if len(words) > 1 else 1000, int(words[2]) if len(words) > 2 else 1)
     lines = ["Clicks, shift clicks, double clicks and drags over Vega specifications, each with the picture after it. bench/event_cases.py writes them, by the", "rules alone.", ""]
     for name, make, events in SCRIPTS:
         lines += case_of(name, make, events)
     with open("cases/vega/events.cases", "w") as out:
         out.write("\n".join(lines))
     print(sum(len(events) for _, _, events in SCRIPTS), "events")
+    return 0
 
 
-main()
+if __name__ == "__main__":
+    sys.exit(main(sys.argv[1:]))
