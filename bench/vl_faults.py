@@ -2,13 +2,14 @@
 """Random right specifications of Vega-Lite, each spoiled at one place, which the built program has to refuse at that place:
     bench/vl_faults.py [PROGRAM [COUNT [SEED]]]
 Each is a tree of forms that knows how it can be spoiled: a value of another form, a member that isn't known, one that is missing, an
-expression without a reading, a name that isn't there or is there already, a number past its bounds. Every tenth one is tried as it is, and has
-to be accepted. Left out is what makes a second fault elsewhere: a parameter whose name is lost while it is used, and the type of a mark
-that has a size. The program is run once for each, by as many threads as there are processors, or as VL_FAULTS_JOBS says: COUNT is 100,000. A line is
-written for each that is told otherwise, with the specification; the status is then 1.
+expression without a reading, a name that isn't there or is there already, a number past its bounds, and what breaks a rule that looks around: an end
+without its begin, a size off points, channels and views that layers don't take, a unit too many, a fold too long, a selection over what has no cells,
+a circle of parameters, no data. Every tenth one is tried as it is, and has to be accepted. Left out is what makes a second fault elsewhere: a parameter whose name is lost while it is used, and the type of a mark
+that has a size. The program is run once for each, by as many processes as there are processors, or as VL_FAULTS_JOBS says: COUNT is 100,000. Each
+tree is made of its own seed, those from SEED + 1 on: with COUNT 1 one of them is made again. A line is written for each that is told otherwise, with the
+specification; the status is then 1.
 """
-import json, os, random, re, subprocess, sys, tempfile
-from concurrent.futures import ThreadPoolExecutor
+import json, multiprocessing, os, random, re, shutil, sys, tempfile
 
 TOP = os.path.dirname(os.path.dirname(os.path.abspath(__file__)))
 HUGE = "1e99"  # written bare
@@ -115,8 +116,8 @@ class Maker:
         self.points = [f"s{i}" for i in range(random.randint(0, 2))]
         self.intervals = [f"i{i}" for i in range(random.randint(0, 1))]
         self.names = 0
-        self.views = []
         self.data = []
+        self.named = []      # views that selections name
         self.given = []      # leaves that give a name, by their space
         self.kinds = {ch: random.choice(kinds) for ch, kinds in {
             "x": ["quantitative", "temporal", "nominal"], "y": ["quantitative", "nominal"],
@@ -162,7 +163,11 @@ class Maker:
             out.append(Node(some(("name", True, lambda: self.param_name(name)), ("value", False, lambda: Leaf(random.choice([1, "a", None, True, [1, 2]]),
                 [{}, [1], [1, 2, 3], Bare(HUGE), ["a", "b"]])), ("bind", False, lambda: Leaf({"input": "range"}, ["scales", "legend"]))), ["name"]))
         for at, name in enumerate(self.computed):
-            out.append(Node(some(("name", True, lambda: self.param_name(name)), ("expr", True, lambda: self.expression(self.values + self.computed[:at]))), ["name"]))
+            def computed():
+                form = self.expression(self.values + self.computed[:at])
+                form.bad.append(f"{name} + 1")
+                return form
+            out.append(Node(some(("name", True, lambda: self.param_name(name)), ("expr", True, computed)), ["name"]))
         return out
 
     def param_name(self, name):
@@ -267,8 +272,13 @@ class Maker:
             if right == "ordinal":
                 return Items([Leaf("red", [[], {}]), Leaf(5, [-1, 1000001, {}])], bad=(7, [], "x"))
             return Items([Leaf(0, [-0.000001, 1000001, {}]), Leaf(100, [-1, 1000000.000001, {}])], bad=(7, [], [1], [1, 2, 3], ["a", "b"]))
+        def scheme():
+            leaf = name_of("blues")
+            if channel == "color" and right != "ordinal":
+                leaf.bad.append("tableau10")
+            return leaf
         return Node(some(("type", listed, type_), ("domain", False, domain), ("range", False, (lambda: None) if channel == "color" and right != "ordinal" else range_),
-            ("scheme", False, lambda: name_of("blues")), ("zero", False, lambda: flag(True)), ("nice", False, lambda: flag(False)), ("padding", False, lambda: number(0, 1)),
+            ("scheme", False, scheme), ("zero", False, lambda: flag(True)), ("nice", False, lambda: flag(False)), ("padding", False, lambda: number(0, 1)),
             ("paddingInner", False, lambda: number(0, 1)), ("paddingOuter", False, lambda: number(0, 1)), ("reverse", False, lambda: flag(True))))
 
     def axis(self, channel):
@@ -355,10 +365,11 @@ class Maker:
         random.shuffle(channels)
         return Node(channels)
 
-    def selections(self, encoding):
-        """The selections that a unit with this encoding can have."""
+    def selections(self, encoding, outer):
+        """The selections that a unit with this encoding can have, in layers that have these channels."""
         # `shape` and `text` are dropped where a mark has no use for them
         fields = {name: form for name, form in encoding.members if name not in ("shape", "text") and isinstance(form, Node) and any(it[0] == "field" for it in form.members)}
+        empty = [it for it in ("x", "y", "color", "detail") if it not in outer and it not in [name for name, _ in encoding.members]]
         out = []
         common = [("clear", False, lambda: Leaf(random.choice([True, "dblclick"]), [False, "click", 7])), ("toggle", False, lambda: Leaf(random.choice([True, "event.shiftKey"]), [False, "x"])), ("mark", False, lambda: Leaf({"any": 1}))]
         if self.points and not getattr(self, "placed_points", False):
@@ -368,7 +379,7 @@ class Maker:
                 def select():
                     if random.random() < 0.3:
                         return Leaf("point", ["nosuch", 7, None, []])
-                    form = Node(some(("type", True, lambda: Leaf("point", ["nosuch", 7])), ("encodings", False, lambda: Items([Leaf(it, ["z", 7]) for it in keys])), ("on", False, lambda: name_of("click")), *common), ["type"], bad=(7, []))
+                    form = Node(some(("type", True, lambda: Leaf("point", ["nosuch", 7])), ("encodings", False, lambda: over(keys, empty)), ("on", False, lambda: name_of("click")), *common), ["type"], bad=(7, []))
                     return form
                 out.append(Node(some(("name", True, lambda: self.param_name(name)), ("select", True, select)), ["name"]))
         if self.intervals and not getattr(self, "placed_intervals", False):
@@ -376,7 +387,7 @@ class Maker:
             if keys:
                 self.placed_intervals = True
                 for name in self.intervals:
-                    select = Node(some(("type", True, lambda: Leaf("interval", ["nosuch", 7])), ("encodings", True, lambda: Items([Leaf(it, ["z", 7]) for it in keys])),
+                    select = Node(some(("type", True, lambda: Leaf("interval", ["nosuch", 7])), ("encodings", True, lambda: over(keys, [*empty, "color"])),
                         ("on", False, lambda: name_of("[mousedown, mouseup] > mousemove")), *common), ["type"], bad=(7, []))
                     out.append(Node([("name", self.param_name(name)), ("select", select)], ["name"]))
         return out
@@ -439,7 +450,15 @@ class Maker:
             encoding = self.encoding(mark, layered, outer, alone=points)
             if encoding.members or random.random() < 0.5:
                 mine.append(("encoding", encoding))
-            params += self.selections(encoding)
+            name = self.fresh("v") if random.random() < 0.3 else None
+            for it in self.selections(encoding, outer):
+                if name and random.random() < 0.5:
+                    # it stands at the top, and names its unit
+                    it.members.insert(random.randint(0, 2), ("views", Items([Leaf(name, ["nosuch", "", 7, None])], bad=(7, "x", {}, None))))
+                    self.pending.append(it)
+                    self.named.append(name)
+                else:
+                    params.append(it)
         elif kind == "facet":
             definitions = lambda: Node([(name, self.definition(name, facet=True)) for name in random.choice([["row"], ["column"], ["row", "column"]])])
             mine.append(("facet", random.choice([lambda: self.definition("facet", facet=True), definitions])()))
@@ -461,8 +480,9 @@ class Maker:
             random.shuffle(params)
             mine.append(("params", Items(params)))
         mine += some(("title", False, lambda: text("a title")), ("description", False, lambda: Leaf([1])))
-        if random.random() < 0.3:
-            name = self.fresh("v")
+        if kind != "unit":
+            name = self.fresh("v") if random.random() < 0.3 else None
+        if name:
             mine.append(("name", self.given_name("views", name)))
         if kind in ("unit", "layer"):
             mine += some(("width", False, self.size), ("height", False, self.size))
@@ -475,29 +495,72 @@ class Maker:
         random.shuffle(mine)
         deciding = {"unit": "mark", "facet": "facet"}.get(kind, kind)
         required = [deciding] if kind == "unit" else (["spec"] if kind == "facet" else [])
-        return Node(mine, required, bad=(7, "x", [], None))
+        made = Node(mine, required, bad=(7, "x", [], None))
+        made.view, made.layered, made.outer = kind, layered, outer
+        made.mark, made.counts = (mark, 1 + points) if kind == "unit" else (None, 0)
+        return made
 
     def datasets(self):
         names = [self.fresh("e") for _ in range(random.randint(0, 2))]
         return Node([(name, Leaf([{"a": 1}])) for name in names], closed=False)
 
 
+def over(channels, others):
+    """A list of channels of a selection; one of the others in it is a fault of the selection."""
+    items = Items([Leaf(it, ["z", 7]) for it in channels])
+    items.others = others
+    return items
+
+
+def plain_unit():
+    form = Node([("mark", Leaf("bar"))])
+    form.view, form.counts = "unit", 1
+    return form
+
+
+def plain_channel():
+    return Node([("field", Leaf("a"))])
+
+
 def written(form):
-    if isinstance(form, Bare):
-        return str(form)
+    parts = []
+    write(form, parts.append)
+    return "".join(parts)
+
+
+def write(form, put):
     if isinstance(form, Leaf):
-        return written_value(form.value)
-    if isinstance(form, Items):
-        return "[" + ",".join(written(it) for it in form.items) + "]"
-    return "{" + ",".join(written_value(name) + ":" + written(it) for name, it in form.members) + "}"
+        put(written_value(form.value))
+    elif isinstance(form, Node):
+        put("{")
+        for at, (name, it) in enumerate(form.members):
+            put("," if at else "")
+            put(QUOTED(name))
+            put(":")
+            write(it, put)
+        put("}")
+    elif isinstance(form, Items):
+        put("[")
+        for at, it in enumerate(form.items):
+            put("," if at else "")
+            write(it, put)
+        put("]")
+    else:
+        put(str(form))
+
+
+QUOTED = json.encoder.encode_basestring
 
 
 def written_value(value):
-    if isinstance(value, Bare):
+    kind = type(value)
+    if kind is str:
+        return QUOTED(value)
+    if kind is Bare:
         return str(value)
-    if isinstance(value, float):
+    if kind is float:
         return f"{value:.6f}".rstrip("0").rstrip(".")
-    if isinstance(value, list):
+    if kind is list:
         return "[" + ",".join(written_value(it) for it in value) + "]"
     return json.dumps(value, ensure_ascii=False)
 
@@ -506,32 +569,114 @@ def step_of(name):
     return "/" + name.replace("~", "~0").replace("/", "~1")
 
 
-def places(form, path=""):
-    """Each form with its path."""
-    yield form, path
+def places(form, path="", into=None):
+    """Each form with its path, the outer before the inner."""
+    into = [] if into is None else into
+    into.append((form, path))
     if isinstance(form, Node):
         for name, it in form.members:
-            yield from places(it, path + step_of(name))
+            places(it, path + step_of(name), into)
     elif isinstance(form, Items):
         for at, it in enumerate(form.items):
-            yield from places(it, f"{path}/{at}")
+            places(it, f"{path}/{at}", into)
+    return into
 
 
-class Put:
-    """A value in place of a form."""
-    def __init__(self, value):
-        self.value = value
+def put_in(form, name, it):
+    """A member more, somewhere; gives its step."""
+    form.members.insert(random.randint(0, len(form.members)), (name, it))
+    return step_of(name)
+
+
+def first_unit(form, path, is_it):
+    """The path of the first unit in the order of the text for which this holds."""
+    return next((p for it, p in places(form, path) if getattr(it, "view", None) == "unit" and is_it(it)), None)
+
+
+def ways_round(top, all_places):
+    """How rules that look around can be broken: by what is done the ways to do it, each of which gives what is to be said."""
+    ways = {}
+
+    def way(what):
+        return ways.setdefault(what, []).append
+
+    for form, path in all_places:
+        view = getattr(form, "view", None)
+        inside = dict(form.members) if view else {}
+        if view == "unit" and "encoding" in inside:
+            encoding, at = inside["encoding"], path + "/encoding"
+            for channel in ("x", "y"):
+                if channel not in form.outer and not any(name in (channel, channel + "2") for name, _ in encoding.members):
+                    way("an end without its begin")(lambda e=encoding, a=at, c=channel: ("wrong", a + put_in(e, c + "2", plain_channel())))
+            if form.mark not in SIZED:
+                way("a size off points")(lambda e=encoding, a=at: ("unsupported", a + put_in(e, "size", Node([("value", Leaf(5))]))))
+            if form.layered:
+                way("a facet in a layer")(lambda e=encoding, a=at: ("unsupported", a + put_in(e, random.choice(["row", "column", "facet"]), plain_channel())))
+        if view == "unit" and "transform" in inside:
+            def fold(steps=inside["transform"], a=path):
+                steps.items.append(Node([("fold", Items([Leaf("a") for _ in range(9)]))]))
+                return "wrong", f"{a}/transform/{len(steps.items) - 1}/fold"
+            way("a fold too long")(fold)
+        if view == "layer":
+            def other(views=inside["layer"], a=path):
+                kind = random.choice(["hconcat", "vconcat", "concat", "facet"])
+                members = [("facet", plain_channel()), ("spec", plain_unit())] if kind == "facet" else [(kind, Items([plain_unit()]))]
+                views.items.append(Node(members))
+                return "unsupported", f"{a}/layer/{len(views.items) - 1}/{kind}"
+            way("a view that no layer takes")(other)
+        if view in ("layer", "hconcat", "vconcat", "concat"):
+            def more(views=inside[view]):
+                views.items.extend(plain_unit() for _ in range(33))
+                left = [32]
+                def is_over(unit):
+                    left[0] -= unit.counts
+                    return left[0] < 0
+                return "wrong", first_unit(top, "", is_over)
+            way("a unit too many")(more)
+        if isinstance(form, Items) and getattr(form, "others", None):
+            def unfit(channels=form, a=path):
+                channels.items.insert(random.randint(0, len(channels.items)), Leaf(random.choice(channels.others)))
+                return "wrong", a.rsplit("/", 1)[0]
+            way("a selection over what has no cells")(unfit)
+    data = dict(top.members)["data"]
+    if not any(name == "name" for name, _ in data.members):
+        has_data = set()
+        for form, _ in all_places[1:]:
+            if getattr(form, "view", None) and any(name == "data" for name, _ in form.members):
+                has_data |= {id(it) for it, _ in places(form)}
+        lacks = first_unit(top, "", lambda unit: id(unit) not in has_data)
+        if lacks is not None:
+            def none():
+                top.members = [it for it in top.members if it[0] != "data"]
+                return "missing", lacks + "/data"
+            way("no data")(none)
+    return ways
+
+
+LOST_VIEW = "a view is lost that a selection names before it"
+
+
+def lost_view(maker, before, inside):
+    """Where the first selection of these places names a view that is among these forms, and so is lost with them."""
+    names = {leaf.value for space, leaf in maker.given if space == "views" and id(leaf) in inside}
+    return next((path for it, path in before if names and re.search(r"/params/[0-9]+/views/[0-9]+$", path) and id(it) not in inside and it.value in names), None)
 
 
 def spoiled(maker, top):
     """Spoils one place; gives what is to be said, and what was done."""
-    all_places = list(places(top))
+    all_places = places(top)
     whole = written(top)
+    ways = ways_round(top, all_places) if random.random() < 0.25 else {}
+    if ways:
+        what = random.choice(sorted(ways))
+        return *random.choice(ways[what])(), what
     for _ in range(100):
-        form, path = random.choice(all_places)
+        at = random.randrange(len(all_places))
+        form, path = all_places[at]
         way = random.random()
         is_more = isinstance(form, Node) and form.closed and way < 0.35
-        lost = {leaf.value for space, leaf in maker.given if space == "params" and any(leaf is it for it, _ in places(form))}
+        inside = {id(it) for it, _ in places(form)}
+        lost = {leaf.value for space, leaf in maker.given if space == "params" and id(leaf) in inside}
         if isinstance(form, Node) and form.required:
             lost |= {leaf.value for space, leaf in maker.given if space == "params" and any(leaf is it for _, it in form.members)}
         if not is_more and any(len(re.findall(rf"\b{name}(_store)?\b", whole)) > 1 for name in lost):
@@ -542,8 +687,12 @@ def spoiled(maker, top):
             return "unsupported", path + step_of(name), "an unknown member"
         if isinstance(form, Node) and form.required and way < 0.55:
             name = random.choice(sorted(form.required))
-            if any(n == name for n, _ in form.members):
+            absent = next((it for n, it in form.members if n == name), None)
+            if absent:
+                entry = lost_view(maker, all_places[:at + len(inside)], {id(it) for it, _ in places(absent)})
                 form.members = [it for it in form.members if it[0] != name]
+                if entry:
+                    return "wrong", entry, LOST_VIEW
                 return "missing", path + step_of(name), "a missing member"
         if isinstance(form, Leaf) and getattr(form, "far", False) and way < 0.5:
             form.value = "https://example.org/a.csv"
@@ -553,15 +702,19 @@ def spoiled(maker, top):
             others = [(p, leaf) for leaf, p in all_places for s, l in maker.given if l is leaf and s == twice[0][0] and leaf is not form]
             order = {id(leaf): at for at, (leaf, p) in enumerate(all_places)}
             before = [leaf for p, leaf in others if order[id(leaf)] < order[id(form)]]
-            if before and twice[0][0] != "params":
+            # a name in `views` that is given twice means both views, one that is no longer given none
+            if before and twice[0][0] != "params" and not {form.value, before[0].value} & set(maker.named):
                 form.value = before[0].value
                 return "wrong", path, "a name given twice"
         if form.bad:
             value = random.choice(form.bad)
+            entry = lost_view(maker, all_places[:at], inside)
             if isinstance(form, Leaf):
                 form.value = value
             else:
                 form.__class__, form.value = Leaf, value
+            if entry:
+                return "wrong", entry, LOST_VIEW
             return "wrong", path, "another form"
     return None
 
@@ -597,6 +750,36 @@ def one(seed, keep_right):
     return told and (written(top), f"{told[0]} {told[1]}", told[2])
 
 
+def told(program, text):
+    """What the program says of a text, in the folder where this runs."""
+    with open("s.json", "w") as file:
+        file.write(text)
+    ran = os.posix_spawn(program, [program, "render", "s.json"], os.environ, file_actions=[
+        (os.POSIX_SPAWN_OPEN, 0, os.devnull, os.O_RDONLY, 0), (os.POSIX_SPAWN_OPEN, 1, os.devnull, os.O_WRONLY, 0),
+        (os.POSIX_SPAWN_OPEN, 2, "notes", os.O_WRONLY | os.O_CREAT | os.O_TRUNC, 0o600)])
+    status = os.waitstatus_to_exitcode(os.waitpid(ran, 0)[1])
+    with open("notes", errors="replace") as file:
+        note = file.read().rstrip("\n")
+    return note.removeprefix("chart: spec ") if status == 4 else ("unsupported " if status == 0 else f"{status} {note}")
+
+
+def begin(room):
+    """A process works in a folder of its own."""
+    os.chdir(tempfile.mkdtemp(dir=room))
+
+
+def some_seeds(program, seeds):
+    """Of each seed that gives a tree what was done to it, and where the program says something else, that with the tree."""
+    out = []
+    for seed in seeds:
+        it = one(seed, seed % 10 == 0)
+        if it:
+            text, wanted, what = it
+            said = told(program, text)
+            out.append((seed, what, None if said == wanted else (said, wanted, text)))
+    return out
+
+
 def main(words):
     program = os.path.abspath(words[0] if words else f"{TOP}/crates/chart_tool/out/chart_tool")
     count = int(words[1]) if len(words) > 1 else 100_000
@@ -604,43 +787,26 @@ def main(words):
     if not os.access(program, os.X_OK):
         sys.exit(f"vl_faults: there is no program {program}: ./chart --prove builds it")
     room = tempfile.mkdtemp(prefix="vl_faults-", dir="/dev/shm" if os.path.isdir("/dev/shm") else None)
-
-    def told(number, text):
-        name = f"{number}.json"
-        with open(f"{room}/{name}", "w") as file:
-            file.write(text)
-        ran = subprocess.run([program, "render", name], cwd=room, stdin=subprocess.DEVNULL, capture_output=True)
-        os.unlink(f"{room}/{name}")
-        note = ran.stderr.decode(errors="replace").rstrip("\n")
-        return note.removeprefix("chart: spec ") if ran.returncode == 4 else ("unsupported " if ran.returncode == 0 else f"{ran.returncode} {note}")
-
-    def compared(job):
-        number, (text, wanted, what) = job
-        said = told(number, text)
-        return None if said == wanted else (what, wanted, said, text)
-
     failed = done = 0
     by = {}
-    with ThreadPoolExecutor(int(os.environ.get("VL_FAULTS_JOBS", os.cpu_count() or 1))) as pool:
-        while done < count:
-            jobs = []
-            while len(jobs) < min(2000, count - done):
-                seed += 1
-                it = one(seed, seed % 10 == 0)
-                if it:
-                    jobs.append((seed, it))
-            for job, bad in zip(jobs, pool.map(compared, jobs)):
-                by.setdefault(job[1][2], [0, 0])[0] += 1
-                if bad:
-                    failed += 1
-                    by[job[1][2]][1] += 1
-                    if failed <= 50:
-                        print(f"seed {job[0]}, {bad[0]}: {bad[2]!r}, wanted is {bad[1]!r}: {bad[3]}")
-            done += len(jobs)
-            print(f"vl_faults: {done} tried, {failed} failed", file=sys.stderr)
-    os.rmdir(room)
-    for what, (all_, bad) in sorted(by.items()):
-        print(f"vl_faults: {what}: {all_ - bad} passed, {bad} failed")
+    try:
+        with multiprocessing.Pool(int(os.environ.get("VL_FAULTS_JOBS", os.cpu_count() or 1)), begin, [room]) as pool:
+            while done < count:
+                many = min(3000, 2 * (count - done))
+                parts = [range(at, min(at + 50, seed + 1 + many)) for at in range(seed + 1, seed + 1 + many, 50)]
+                for tried in pool.starmap(some_seeds, [(program, part) for part in parts], 1):
+                    for seed_of, what, bad in tried[:count - done]:
+                        done += 1
+                        by.setdefault(what, [0, 0])[bad is not None] += 1
+                        if bad:
+                            failed += 1
+                            print(f"seed {seed_of}, {what}: {bad[0]!r}, wanted is {bad[1]!r}: {bad[2]}", flush=True)
+                seed += many
+                print(f"vl_faults: {done} tried, of seeds to {seed}, {failed} failed", file=sys.stderr, flush=True)
+    finally:
+        shutil.rmtree(room)
+    for what, (right, bad) in sorted(by.items()):
+        print(f"vl_faults: {what}: {right} passed, {bad} failed")
     return 1 if failed else 0
 
 

@@ -55,6 +55,18 @@ def filters(size):
     return before, parts, after, lambda n: ('{"filter":"datum.a >"}', f"wrong /transform/{n}/filter")
 
 
+def nested(size):
+    """One filter: a list of chains of 40 filters in each other, near as deep as JSON nests, each of which negates a list of a filter and the next."""
+    def chain(i):
+        inner = f'{{"field":"a","equal":{i}}}'
+        for _ in range(20):
+            inner = f'{{"not":{{"and":["datum.a > {i}",{inner}]}}}}'
+            inner = f'{{"not":{{"or":[{{"param":"k"}},{inner}]}}}}'
+        return inner
+    before, parts, after = filled(size, "{" + DATA + ',"params":[{"name":"k","select":"point"}],"mark":"point","transform":[{"filter":{"or":[', chain, "]}}]}")
+    return before, parts, after, lambda n: ('{"not":{"and":["datum.a >"]}}', f"wrong /transform/0/filter/or/{n}/not/and/0")
+
+
 def units(size):
     before, parts, after = filled(size, "{" + DATA + ',"hconcat":[', lambda i: f'{{"name":"v{i}","mark":"point"}}', "]}")
     return before, parts, after, lambda n: ('{"mark":"arc"}', "wrong /hconcat/32")
@@ -68,7 +80,7 @@ def kept(size):
 
 
 CASES = [("data sets", data_sets), ("lookups over their data", lookups), ("parameters, each over the last", parameters), ("parameters, each over the next", circle), ("selections", selections),
-         ("conditions", conditions), ("filters", filters), ("units", units), ("fields that two units keep", kept)]
+         ("conditions", conditions), ("filters", filters), ("filters in each other", nested), ("units", units), ("fields that two units keep", kept)]
 
 
 def measured(program, room, text):
