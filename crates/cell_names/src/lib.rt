@@ -4,5 +4,6 @@
 mod names;
 
 pub use names::{
-    COUNT, bin_settings, bins_in, end_name, end_of_field, has_end, most_bins, name_of, stack_start,
+    COUNT, bin_name, bin_settings, bins_in, end_name, end_of_field, has_end, most_bins, name_of,
+    stack_start, unit_name,
 };

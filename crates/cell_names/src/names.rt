@@ -137,12 +137,19 @@ fn bin_words(alloc: Global, channel: u16, settings: &BinSettings) -> Result<Text
     }
 }
 
-// The name of a bin's start.
-fn bin_name(alloc: Global, channel: u16, bin: &Bin, field: &str) -> Result<Text, OutOfMemory>
+/// The name of a bin's start.
+pub fn bin_name(alloc: Global, channel: u16, bin: &Bin, field: &str) -> Result<Text, OutOfMemory>
     ensures { IfOk result (λ name. name ≡ bin_name channel bin.now field.now) }
 {
     let words = bin_words(alloc, channel, &bin_settings(bin))?;
     joined_name(alloc, words.as_str(), field)
+}
+
+/// The name of the start of a unit of time.
+pub fn unit_name(alloc: Global, unit: u16, field: &str) -> Result<Text, OutOfMemory>
+    ensures { IfOk result (λ name. name ≡ unit_name unit field.now) }
+{
+    joined_name(alloc, time_unit_name(unit), field)
 }
 
 // The name of an aggregate.
@@ -192,7 +199,7 @@ fn plain_name(
     match bins_in(of) {
         Some(bin) => bin_name(alloc, channel, bin, field.as_str()),
         None => match of.time_unit {
-            Some(unit) => joined_name(alloc, time_unit_name(unit), field.as_str()),
+            Some(unit) => unit_name(alloc, unit, field.as_str()),
             None => field.copy(),
         },
     }

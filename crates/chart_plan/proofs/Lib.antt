@@ -1,0 +1,4 @@
+mod DefinitionLemmas
+mod LoopLemmas
+mod MarkedLemmas
+mod ViewLemmas

@@ -1,0 +1,9 @@
+use Rattle.std.proofs.Common.{◌≡◌, drop, map}
+use Rattle.vl_compose.specs.Shown.{unit_shown}
+use Rattle.guide_infer.specs.First.{first_given}
+use Rattle.chart_plan.specs.Plots.{shown_in_plot}
+use Rattle.chart_plan.proofs.plots.first_shown.Given as goal
+
+abbrev pub invariant-loop-unit : goal.invariant-loop-unit
+invariant-loop-unit l =
+    first_given (shown_in_plot l.channel l.plot l.scales) (map unit_shown (drop l.unit-index l.units)) ≡ first_given (shown_in_plot l.channel l.plot l.scales) (map unit_shown l.units)

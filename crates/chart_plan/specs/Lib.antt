@@ -1,0 +1,13 @@
+pub mod Shown
+pub mod Ranges
+pub mod Columns
+pub mod Orders
+pub mod Domains
+pub mod Scales
+pub mod Sizes
+pub mod Plots
+pub mod Grids
+pub mod Views
+pub mod Selections
+pub mod inner
+pub mod Plan

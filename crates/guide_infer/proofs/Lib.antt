@@ -1,0 +1,2 @@
+mod OnceLemmas
+mod TableNames

@@ -1,0 +1,7 @@
+use Rattle.std.proofs.Common.{◌≡◌, ◌++◌, drop, map}
+use Rattle.guide_infer.specs.Said.{axes_said}
+use Rattle.guide_infer.proofs.said.axes_said.Given as goal
+
+abbrev pub invariant-loop-definition : goal.invariant-loop-definition
+invariant-loop-definition l =
+    map (λ d. d.now) l.out ++ axes_said (map (λ d. d.now) (drop l.definition-index l.definitions)) ≡ axes_said (map (λ d. d.now) l.definitions)

@@ -1,0 +1,2 @@
+mod NoneLemmas
+mod StartLemmas

@@ -1,0 +1,4 @@
+mod BranchLemmas
+mod FilterLemmas
+mod JoinLemmas
+mod KindLemmas

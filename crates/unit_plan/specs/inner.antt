@@ -1,0 +1,4 @@
+pub mod Kinds
+pub mod Lent
+pub mod LentShows
+pub mod LentLanes

@@ -1,0 +1,45 @@
+//! The plan of a unit of a Vega-Lite specification: what is done to its rows, step by step, and its mark, as data. The plan mentions no row.
+#![tactic(auto)]
+
+mod bins;
+mod branches;
+mod cells;
+mod codes;
+mod comparisons;
+mod ends;
+mod exprs;
+mod filters;
+mod groups;
+mod joins;
+mod lanes;
+mod looks;
+mod marks;
+mod measures;
+mod numbers;
+mod plans;
+mod reads;
+mod rows;
+mod seen;
+mod selections;
+mod shapes;
+mod shows;
+mod stacks;
+mod starts;
+mod steps;
+mod texts;
+mod transforms;
+
+pub use cells::{CellOf, cell_of, end_of};
+pub use ends::{End, shows_stack};
+pub use exprs::{binary, call_one, choose, literal, pair, whole};
+pub use filters::{all_hold, filter_expr, test_expr};
+pub use groups::group_names;
+pub use joins::joined;
+pub use marks::{
+    Along, Look, LookWay, MarkPlan, MarkShape, Spot, SpotWay, TextLook, Words, WordsWay,
+};
+pub use plans::{UnitPlan, unit_plan_of};
+pub use seen::{ScaleSeen, seen_at};
+pub use selections::{SelectionNames, selection_names};
+pub use stacks::{Stacked, stack_of};
+pub use steps::Step;
