@@ -1,9 +1,10 @@
 #!/usr/bin/env python3
-"""Looks up that crates.txt and docs/MAP.md are true.
+"""Looks up that crates.txt and docs/MAP.md are true, and that the definitions of Vega-Lite stand on nothing of Vega.
 
 - A crate's line in crates.txt names the crates that its files name, and no others. `rt` sums up the files of a crate once for each way that leads to it,
   so a name too many costs minutes in each crate above.
 - Each crate has one row in the tables of docs/MAP.md, and no crate of the first table uses one of a row above it.
+- The definitions of Vega-Lite name no crate of Vega: no file of `specs/` of those crates imports one whose name begins with `vega_`.
 """
 import os
 import re
@@ -18,10 +19,10 @@ def listed():
         return {line.split(":")[0].split()[0]: line.split(":")[1].split() for line in file if ":" in line}
 
 
-def named(crate, names):
-    """The crates that the files of a crate name."""
+def named(crate, names, parts=("src", "specs", "proofs")):
+    """The crates that the files of a crate name, in these of its folders."""
     found = set()
-    for part in ("src", "specs", "proofs"):
+    for part in parts:
         for at, _, files in os.walk(f"{TOP}/crates/{crate}/{part}"):
             for file in files:
                 with open(f"{at}/{file}", encoding="utf-8") as it:
@@ -78,10 +79,24 @@ def map_told(lines, uses):
     return told
 
 
+def definitions_of_vega_lite(crate):
+    """Whether a crate holds definitions of Vega-Lite."""
+    return crate.startswith("vl_") or crate in ("scale_infer", "unit_plan", "guide_infer", "chart_plan", "chart_meaning")
+
+
+def vega_told(lines):
+    """Where definitions of Vega-Lite name a crate of Vega."""
+    told = []
+    for crate in filter(definitions_of_vega_lite, lines):
+        names = named(crate, set(lines), ("specs",))
+        told += [f"crates/{crate}/specs name {it}, a crate of Vega" for it in sorted(names) if it.startswith("vega_")]
+    return told
+
+
 def main():
     lines = listed()
     uses = {crate: named(crate, set(lines)) for crate in lines}
-    told = lines_told(lines, uses) + map_told(lines, uses)
+    told = lines_told(lines, uses) + map_told(lines, uses) + vega_told(lines)
     for line in told:
         print(f"crates: {line}", file=sys.stderr)
     print(f"crates: {len(lines)} looked up, {len(told)} mistakes")

@@ -135,7 +135,7 @@ def transformed(t, rows):
 
 
 def rank(cell):
-    return (0, 0) if cell is None else (2, cell) if is_number(cell) else (3, cell.encode())
+    return (0, 0) if cell is None else (1, cell) if isinstance(cell, bool) else (2, cell) if is_number(cell) else (3, cell.encode())
 
 
 def listed(x):

@@ -1,0 +1,12 @@
+pub mod Parameters
+pub mod Rows
+pub mod Parts
+pub mod Domains
+pub mod Scales
+pub mod Items
+pub mod Plots
+pub mod Views
+pub mod Charts
+pub mod Semantics
+pub mod FirstForms
+pub mod Laws
