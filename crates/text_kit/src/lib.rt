@@ -7,10 +7,15 @@ mod boxed;
 mod copies;
 mod memory;
 mod seq;
+mod several;
 mod text;
 
 pub use boxed::Boxed;
 pub use copies::{Copies, copy_list};
 pub use memory::OutOfMemory;
 pub use seq::Seq;
+pub use several::{
+    beside, beside_three, copied_five, copied_four, copied_seven, copied_six, copied_three,
+    copied_two,
+};
 pub use text::Text;

@@ -1,10 +1,10 @@
-// Copies of parts that may be absent, and of several parts at once.
+// Copies of parts that may be absent.
 ghost use Rattle.std.specs.Prelude.{◌≡◌, IfOk};
 
 use expr_syntax::Expr;
 use json_exact::Json;
 use std::alloc::Global;
-use text_kit::{Copies, OutOfMemory, Seq};
+use text_kit::{OutOfMemory, Seq};
 
 /// A copy of an expression.
 pub fn copied_expr(alloc: Global, e: &Option<Expr>) -> Result<Option<Expr>, OutOfMemory>
@@ -37,68 +37,4 @@ pub fn copied_values<T: Copy>(
         Some(values) => Ok(Some(Seq::from_slice(alloc, values.as_slice())?)),
         None => Ok(None),
     }
-}
-
-/// Copies of two values.
-pub fn copied_two<A: Copies + Drop, B: Copies>(
-    alloc: Global,
-    a: &A,
-    b: &B,
-) -> Result<(A, B), OutOfMemory>
-    ensures { IfOk result (λ copies. copies ≡ (a.now, b.now)) }
-{
-    let a = a.copied(alloc)?;
-    Ok((a, b.copied(alloc)?))
-}
-
-/// Copies of three values.
-pub fn copied_three<A: Copies + Drop, B: Copies + Drop, C: Copies>(
-    alloc: Global,
-    a: &A,
-    b: &B,
-    c: &C,
-) -> Result<(A, B, C), OutOfMemory>
-    ensures { IfOk result (λ copies. copies ≡ (a.now, b.now, c.now)) }
-{
-    let (a, b) = copied_two(alloc, a, b)?;
-    Ok((a, b, c.copied(alloc)?))
-}
-
-/// Copies of four values.
-pub fn copied_four<A: Copies + Drop, B: Copies + Drop, C: Copies + Drop, D: Copies>(
-    alloc: Global,
-    a: &A,
-    b: &B,
-    c: &C,
-    d: &D,
-) -> Result<(A, B, C, D), OutOfMemory>
-    ensures { IfOk result (λ copies. copies ≡ (a.now, b.now, c.now, d.now)) }
-{
-    let (a, b) = copied_two(alloc, a, b)?;
-    let (c, d) = copied_two(alloc, c, d)?;
-    Ok((a, b, c, d))
-}
-
-/// Copies of six values.
-pub fn copied_six<
-    A: Copies + Drop,
-    B: Copies + Drop,
-    C: Copies + Drop,
-    D: Copies + Drop,
-    E: Copies + Drop,
-    F: Copies,
->(
-    alloc: Global,
-    a: &A,
-    b: &B,
-    c: &C,
-    d: &D,
-    e: &E,
-    f: &F,
-) -> Result<(A, B, C, D, E, F), OutOfMemory>
-    ensures { IfOk result (λ copies. copies ≡ (a.now, b.now, c.now, d.now, e.now, f.now)) }
-{
-    let (a, b, c) = copied_three(alloc, a, b, c)?;
-    let (d, e, f) = copied_three(alloc, d, e, f)?;
-    Ok((a, b, c, d, e, f))
 }

@@ -1,9 +1,9 @@
 // Data sets.
 use crate::Transform;
-use crate::copying::{copied_four, copied_json};
+use crate::copying::copied_json;
 use json_exact::Json;
 use std::alloc::Global;
-use text_kit::{Copies, OutOfMemory, Seq, Text};
+use text_kit::{Copies, OutOfMemory, Seq, Text, copied_four};
 
 /// A data set.
 #[derive(Debug, Drop)]

@@ -1,10 +1,9 @@
 // Domains of scales.
 use crate::Order;
-use crate::copying::{copied_three, copied_two};
 use cell_value::Cell;
 use expr_syntax::Expr;
 use std::alloc::Global;
-use text_kit::{Copies, OutOfMemory, Seq, Text};
+use text_kit::{Copies, OutOfMemory, Seq, Text, copied_three, copied_two};
 
 /// The domain of a scale.
 #[derive(Debug, Drop)]

@@ -1,10 +1,10 @@
 // Encode sets.
-use crate::copying::{copied_expr, copied_four, copied_two};
+use crate::copying::copied_expr;
 use cell_value::Cell;
 use expr_syntax::Expr;
 use fixed_num::Num;
 use std::alloc::Global;
-use text_kit::{Copies, OutOfMemory, Seq, Text};
+use text_kit::{Copies, OutOfMemory, Seq, Text, copied_four, copied_two};
 
 /// The encode sets of a mark, of which `update` wins.
 #[derive(Debug, Drop)]

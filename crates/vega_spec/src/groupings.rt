@@ -1,10 +1,10 @@
 // Transforms over several rows.
 use crate::Sort;
-use crate::copying::{copied_four, copied_six, copied_three, copied_values};
+use crate::copying::copied_values;
 use cell_value::Cell;
 use fixed_num::Num;
 use std::alloc::Global;
-use text_kit::{Copies, OutOfMemory, Seq, Text};
+use text_kit::{Copies, OutOfMemory, Seq, Text, copied_four, copied_six, copied_three};
 
 /// What is computed of each group of rows.
 #[derive(Debug, Drop)]

@@ -1,9 +1,8 @@
 // Axes, legends and layouts.
-use crate::copying::{copied_four, copied_six};
 use cell_value::Cell;
 use fixed_num::Num;
 use std::alloc::Global;
-use text_kit::{Copies, OutOfMemory, Seq, Text};
+use text_kit::{Copies, OutOfMemory, Seq, Text, copied_four, copied_six};
 
 /// An axis.
 #[derive(Debug, Drop)]

@@ -1,8 +1,8 @@
 // Parts of marks.
 use crate::Texts;
-use crate::copying::{copied_three, copied_values};
+use crate::copying::copied_values;
 use std::alloc::Global;
-use text_kit::{Copies, OutOfMemory, Seq, Text};
+use text_kit::{Copies, OutOfMemory, Seq, Text, copied_three};
 
 /// The type of a mark.
 #[derive(Clone, Copy, Debug, PartialEq, Eq)]

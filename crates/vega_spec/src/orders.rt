@@ -1,7 +1,6 @@
 // Orders, and what may be one text or a list.
-use crate::copying::copied_two;
 use std::alloc::Global;
-use text_kit::{Copies, OutOfMemory, Seq, Text};
+use text_kit::{Copies, OutOfMemory, Seq, Text, copied_two};
 
 /// One text, or a list of them.
 #[derive(Debug, Drop)]

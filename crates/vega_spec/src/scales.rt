@@ -1,11 +1,11 @@
 // Scales.
 use crate::Domain;
-use crate::copying::{copied_expr, copied_three};
+use crate::copying::copied_expr;
 use cell_value::Cell;
 use expr_syntax::Expr;
 use fixed_num::Num;
 use std::alloc::Global;
-use text_kit::{Copies, OutOfMemory, Seq, Text};
+use text_kit::{Copies, OutOfMemory, Seq, Text, copied_three};
 
 /// A scale.
 #[derive(Debug, Drop)]

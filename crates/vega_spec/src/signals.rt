@@ -1,9 +1,9 @@
 // Signals.
-use crate::copying::{copied_expr, copied_four};
+use crate::copying::copied_expr;
 use cell_value::Cell;
 use expr_syntax::Expr;
 use std::alloc::Global;
-use text_kit::{Copies, OutOfMemory, Seq, Text};
+use text_kit::{Copies, OutOfMemory, Seq, Text, copied_four};
 
 /// A signal.
 #[derive(Debug, Drop)]

@@ -1,12 +1,11 @@
 // Marks, groups and whole specifications.
 ghost use Rattle.std.specs.Prelude.{◌≡◌, IfOk};
 
-use crate::copying::{copied_four, copied_six};
 use crate::{Axis, DataSet, Encode, Layout, Legend, MarkFrom, MarkType, Scale, Signal, Sort};
 use expr_syntax::Expr;
 use fixed_num::Num;
 use std::alloc::Global;
-use text_kit::{Copies, OutOfMemory, Seq, Text};
+use text_kit::{Copies, OutOfMemory, Seq, Text, copied_four, copied_six};
 
 /// A mark.
 #[cycle(marks)]

@@ -1,10 +1,9 @@
 // Transforms of rows.
-use crate::copying::{copied_four, copied_three, copied_two};
 use crate::{Aggregate, Lookup, Sort, Window};
 use expr_syntax::Expr;
 use fixed_num::Num;
 use std::alloc::Global;
-use text_kit::{Copies, OutOfMemory, Seq, Text};
+use text_kit::{Copies, OutOfMemory, Seq, Text, copied_four, copied_three, copied_two};
 
 /// A transform, by its `type`.
 #[derive(Debug, Drop)]

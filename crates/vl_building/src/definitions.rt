@@ -7,7 +7,7 @@ ghost use Rattle.vl_building.specs.Definitions.{bin_settings_of, bin_in, sort_na
 use crate::cells::needed_scalar;
 use crate::fields::field_at;
 use crate::names::{ByName, named_at};
-use crate::numbers::{bin_step_at, count_at, space_at};
+use crate::numbers::{count_at, number_between, space_at};
 use crate::parts;
 use crate::parts::{Items, Object, Plain, Value, each, plain_at};
 use crate::several::{Part, four_parts, six_parts};
@@ -18,8 +18,8 @@ use json_exact::{Json, Member};
 use std::alloc::Global;
 use text_kit::OutOfMemory;
 use vl_spec::{
-    Bin, BinSettings, DatumDefinition, Definition, FieldDefinition, FieldSort, Offset, Order, Sort,
-    Stacking,
+    Bin, BinSettings, DatumDefinition, Definition, FieldDefinition, FieldSort, MOST_NUMBER,
+    OVER_ZERO, Offset, Order, Sort, Stacking,
 };
 
 /// In which way a field is put into bins.
@@ -29,7 +29,7 @@ pub fn bin_settings_of(members: &[Member]) -> BinSettings
 {
     BinSettings {
         maxbins: count_at(members, "maxbins"),
-        step: bin_step_at(members, "step"),
+        step: number_between(members, "step", OVER_ZERO, MOST_NUMBER),
     }
 }
 

@@ -6,7 +6,7 @@ ghost use Rattle.tree_readers.specs.Parts.{found_at};
 ghost use Rattle.json_exact.specs.declared.json.Json.{out-Json};
 ghost use Rattle.vl_spec.specs.declared.filters.Filter.TheVariants as filter;
 ghost use Rattle.vl_building.specs.Inside.{member_gives};
-ghost use Rattle.vl_building.specs.Filters.{param_test_of, bound_in, range_from, range_in, later_comparison, comparison_of, field_test_of, as_filter, text_filter, filters_given, object_filter, filter_of, filters_of, needed_filter};
+ghost use Rattle.vl_building.specs.Filters.{param_test_of, bound_in, range_in, later_comparison, comparison_of, field_test_of, as_filter, text_filter, filters_given, object_filter, filter_of, filters_of, needed_filter};
 
 use crate::cells::needed_scalar;
 use crate::fields::needed_field;
@@ -45,22 +45,15 @@ pub fn bound_in(tree: &Json) -> Option<Option<Num>>
 }
 
 // From one bound to another.
-fn range_from(low: Option<Option<Num>>, high: Option<Option<Num>>) -> Option<Comparison>
-    ensures { result ≡ range_from low high }
-{
-    let low = low?;
-    let high = high?;
-    Some(Comparison::Range(low, high))
-}
-
-// Two bounds.
 fn range_in(items: &[Json]) -> Option<Comparison>
     ensures { result ≡ range_in items.now }
 {
     let [low, high] = items else {
         return None;
     };
-    range_from(bound_in(low), bound_in(high))
+    let low = bound_in(low)?;
+    let high = bound_in(high)?;
+    Some(Comparison::Range(low, high))
 }
 
 // The range of two bounds, where it is well-formed.

@@ -1,12 +1,12 @@
 // Transforms over several rows.
 ghost use Rattle.std.specs.Prelude.{◌≡◌, IfOk};
 ghost use Rattle.vl_spec.specs.declared.transforms.Transform.TheVariants as variant;
-ghost use Rattle.vl_building.specs.Transforms.{operation_of, aggregate_of, sort_field_of, window_operation_of, frame_number, frame_end, frame_from, frame_end_of, frame_in, frame_at, window_of, lookup_from, lookup_of};
+ghost use Rattle.vl_building.specs.Transforms.{operation_of, aggregate_of, sort_field_of, window_operation_of, frame_number, frame_end, frame_end_of, frame_in, frame_at, window_of, lookup_from, lookup_of};
 
 use crate::fields::{Fields, field_at, needed_field};
 use crate::filters::bound_in;
 use crate::names::named_at;
-use crate::numbers::{is_whole, whole_at};
+use crate::numbers::{count_between, is_whole};
 use crate::parts;
 use crate::parts::{Object, Objects, each_at, needed_each};
 use crate::tables::{operation_at, window_operation_at};
@@ -16,8 +16,8 @@ use std::alloc::Global;
 use text_kit::{Copies, OutOfMemory, Text};
 use tree_readers::{flag_at, items_at, needed_members, needed_text};
 use vl_spec::{
-    AggregateTransform, Frame, LookupFrom, LookupTransform, Operation, SortField, Transform,
-    WindowOperation, WindowTransform,
+    AggregateTransform, Frame, LookupFrom, LookupTransform, MOST_NUMBER, Operation, SortField,
+    Transform, WindowOperation, WindowTransform,
 };
 
 // An operation over the rows of a group.
@@ -68,7 +68,7 @@ impl Object for WindowOperation {
     #[tactic(auto, unfolding(crate::specs::Transforms::window_operation_of))]
     fn of_members(alloc: Global, members: &[Member]) -> Result<WindowOperation, OutOfMemory> {
         let op = window_operation_at(members, "op").unwrap_or(0);
-        let param = whole_at(members, "param");
+        let param = count_between(members, "param", 0, MOST_NUMBER);
         let field = field_at(alloc, members, "field")?;
         let as_ = needed_text(alloc, members, "as")?;
         Ok(WindowOperation {
@@ -108,15 +108,6 @@ fn frame_end_of(tree: &Json) -> Option<Option<Num>>
     frame_end(bound_in(tree)?)
 }
 
-// From one end to another.
-fn frame_from(first: Option<Option<Num>>, last: Option<Option<Num>>) -> Option<Frame>
-    ensures { result ≡ frame_from first last }
-{
-    let first = first?;
-    let last = last?;
-    Some(Frame { first, last })
-}
-
 // The rows about a row.
 fn frame_in(items: &[Json]) -> Option<Frame>
     ensures { result ≡ frame_in items.now }
@@ -124,7 +115,9 @@ fn frame_in(items: &[Json]) -> Option<Frame>
     let [first, last] = items else {
         return None;
     };
-    frame_from(frame_end_of(first), frame_end_of(last))
+    let first = frame_end_of(first)?;
+    let last = frame_end_of(last)?;
+    Some(Frame { first, last })
 }
 
 // The same under a name.

@@ -9,7 +9,7 @@ ghost use Rattle.json_exact.specs.declared.json.Json.{out-Json};
 ghost use Rattle.vl_building.specs.Guides.{axis_of, legend_of, header_of, param_domain_of, domain_in, ranged_in, range_item, range_in, range_at, scale_of};
 
 use crate::names::named_at;
-use crate::numbers::{angle_at, share_at, tick_count_at};
+use crate::numbers::{angle_at, count_between, share_at};
 use crate::parts::{Items, Object, Reads, Value, each};
 use crate::several::{three_parts, two_parts};
 use crate::tables::{channel_at, scale_kind_at};
@@ -20,7 +20,9 @@ use json_exact::{Json, Member};
 use std::alloc::Global;
 use text_kit::{OutOfMemory, Seq};
 use tree_readers::{flag_at, items_at, needed_text};
-use vl_spec::{Axis, Domain, Header, Legend, MOST_LOOK, ParamDomain, Scale};
+use vl_spec::{
+    Axis, Domain, Header, LEAST_COUNT, Legend, MOST_LOOK, MOST_TICKS, ParamDomain, Scale,
+};
 
 impl Object for Axis {
     ghost built = { axis_of };
@@ -32,7 +34,7 @@ impl Object for Axis {
         let domain = flag_at(members, "domain");
         let grid = flag_at(members, "grid");
         let label_angle = angle_at(members, "labelAngle");
-        let tick_count = tick_count_at(members, "tickCount");
+        let tick_count = count_between(members, "tickCount", LEAST_COUNT, MOST_TICKS);
         let orient = named_at(members, "orient");
         let (title, format, values) = three_parts(alloc, members, "title", "format", "values")?;
         Ok(Axis {

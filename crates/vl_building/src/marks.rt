@@ -7,7 +7,7 @@ ghost use Rattle.vl_building.specs.Marks.{is_sign, sign_size_at, mark_definition
 
 use crate::fields::Fields;
 use crate::names::{ByName, named_at, select_event_at};
-use crate::numbers::{count_at, look_at, share_at, shift_at};
+use crate::numbers::{count_at, number_between, share_at};
 use crate::parts;
 use crate::parts::{Items, Plain, Value, each_at, needed_expression, plain_at};
 use crate::several::Part;
@@ -19,8 +19,8 @@ use std::alloc::Global;
 use text_kit::{OutOfMemory, Text};
 use tree_readers::{cell_at, flag_at, has_member, needed_text, text_at};
 use vl_spec::{
-    Clear, Mark, MarkDefinition, MarkType, ParamKind, ParamOf, Select, SelectDefinition,
-    SelectType, Selection, Toggle,
+    Clear, LEAST_SHIFT, MOST_LOOK, MOST_SHIFT, Mark, MarkDefinition, MarkType, ParamKind, ParamOf,
+    Select, SelectDefinition, SelectType, Selection, Toggle,
 };
 
 // Whether marks of a type are signs, which have a size.
@@ -44,7 +44,7 @@ fn sign_size_at(type_: MarkType, members: &[Member], name: &str) -> Option<Num>
     ensures { result ≡ sign_size_at type_ members.now name.now }
 {
     if is_sign(type_) {
-        look_at(members, name)
+        number_between(members, name, 0, MOST_LOOK)
     } else {
         None
     }
@@ -60,11 +60,11 @@ fn mark_definition_of(members: &[Member]) -> Result<Option<Mark>, OutOfMemory>
     let filled = flag_at(members, "filled");
     let point = flag_at(members, "point");
     let size = sign_size_at(type_, members, "size");
-    let stroke_width = look_at(members, "strokeWidth");
+    let stroke_width = number_between(members, "strokeWidth", 0, MOST_LOOK);
     let align = named_at(members, "align");
     let baseline = named_at(members, "baseline");
-    let dx = shift_at(members, "dx");
-    let dy = shift_at(members, "dy");
+    let dx = number_between(members, "dx", LEAST_SHIFT, MOST_SHIFT);
+    let dy = number_between(members, "dy", LEAST_SHIFT, MOST_SHIFT);
     let font_size = count_at(members, "fontSize");
     let interpolate = named_at(members, "interpolate");
     let color = text_at(members, "color")?;

@@ -2,15 +2,12 @@
 ghost use Rattle.std.specs.Prelude.{◌≡◌};
 ghost use Rattle.fixed_num.specs.Ranges.{is_within};
 ghost use Rattle.spec_schema.specs.Values.{is_whole, is_whole_between};
-ghost use Rattle.vl_building.specs.Numbers.{between, whole_between, number_between, count_between, space_at, share_at, count_at, tick_count_at, look_at, shift_at, bin_step_at, size_step_at, plain_size_at, whole_at, is_angle, angle, angle_at};
+ghost use Rattle.vl_building.specs.Numbers.{between, whole_between, number_between, count_between, space_at, share_at, count_at, is_angle, angle, angle_at};
 
 use fixed_num::Num;
 use json_exact::Member;
 use tree_readers::number_at;
-use vl_spec::{
-    LEAST_COUNT, LEAST_SHIFT, MOST_COUNT, MOST_LOOK, MOST_NUMBER, MOST_SHARE, MOST_SHIFT,
-    MOST_SIZE, MOST_SPACE, MOST_STEP, MOST_TICKS, OVER_ZERO,
-};
+use vl_spec::{LEAST_COUNT, MOST_COUNT, MOST_SHARE, MOST_SPACE};
 
 // The millionths of 1.
 const MILLION: i128 = 1_000_000;
@@ -58,15 +55,15 @@ fn whole_between(number: Num, least: i128, most: i128) -> Option<Num>
     }
 }
 
-// The number under a name that lies between two bounds.
-fn number_between(members: &[Member], name: &str, least: i128, most: i128) -> Option<Num>
+/// The number under a name that lies between two bounds in millionths, both included.
+pub fn number_between(members: &[Member], name: &str, least: i128, most: i128) -> Option<Num>
     ensures { result ≡ number_between least most members.now name.now }
 {
     between(number_at(members, name)?, least, most)
 }
 
-// The whole number under a name that does.
-fn count_between(members: &[Member], name: &str, least: i128, most: i128) -> Option<Num>
+/// The whole number under a name that does.
+pub fn count_between(members: &[Member], name: &str, least: i128, most: i128) -> Option<Num>
     ensures { result ≡ count_between least most members.now name.now }
 {
     whole_between(number_at(members, name)?, least, most)
@@ -114,53 +111,4 @@ pub fn count_at(members: &[Member], name: &str) -> Option<Num>
     ensures { result ≡ count_at members.now name.now }
 {
     count_between(members, name, LEAST_COUNT, MOST_COUNT)
-}
-
-/// `tickCount`, under a name.
-pub fn tick_count_at(members: &[Member], name: &str) -> Option<Num>
-    ensures { result ≡ tick_count_at members.now name.now }
-{
-    count_between(members, name, LEAST_COUNT, MOST_TICKS)
-}
-
-/// `size` or `strokeWidth`, under a name.
-pub fn look_at(members: &[Member], name: &str) -> Option<Num>
-    ensures { result ≡ look_at members.now name.now }
-{
-    number_between(members, name, 0, MOST_LOOK)
-}
-
-/// `dx` or `dy`, under a name.
-pub fn shift_at(members: &[Member], name: &str) -> Option<Num>
-    ensures { result ≡ shift_at members.now name.now }
-{
-    number_between(members, name, LEAST_SHIFT, MOST_SHIFT)
-}
-
-/// The step of a bin, under a name.
-pub fn bin_step_at(members: &[Member], name: &str) -> Option<Num>
-    ensures { result ≡ bin_step_at members.now name.now }
-{
-    number_between(members, name, OVER_ZERO, MOST_NUMBER)
-}
-
-/// The step of a size, under a name.
-pub fn size_step_at(members: &[Member], name: &str) -> Option<Num>
-    ensures { result ≡ size_step_at members.now name.now }
-{
-    number_between(members, name, OVER_ZERO, MOST_STEP)
-}
-
-/// A size without a step, under a name.
-pub fn plain_size_at(members: &[Member], name: &str) -> Option<Num>
-    ensures { result ≡ plain_size_at members.now name.now }
-{
-    number_between(members, name, OVER_ZERO, MOST_SIZE)
-}
-
-/// `param` of an operation of a window, under a name.
-pub fn whole_at(members: &[Member], name: &str) -> Option<Num>
-    ensures { result ≡ whole_at members.now name.now }
-{
-    count_between(members, name, 0, MOST_NUMBER)
 }

@@ -4,31 +4,17 @@ ghost use Rattle.std.specs.Option.{option_map};
 ghost use Rattle.std.specs.List.{filter_map};
 ghost use Rattle.json_exact.specs.Inside.{members_in};
 ghost use Rattle.tree_readers.specs.Parts.{found_at};
-ghost use Rattle.vl_building.specs.Sizes.{size_of_number, size_of_step, size_in, config_view_of, config_at, sharing_coded, sharing_in, resolve_of};
+ghost use Rattle.vl_building.specs.Sizes.{size_in, config_view_of, config_at, sharing_in, resolve_of};
 
-use crate::numbers::{plain_size_at, size_step_at};
+use crate::names::named_in;
+use crate::numbers::{between, number_between};
+use crate::parts;
 use crate::parts::{Object, OfMember, Plain, given_by, plain_at};
-use crate::{names, numbers, parts};
-use fixed_num::Num;
 use json_exact::{Json, Member};
 use std::alloc::Global;
 use text_kit::{OutOfMemory, Seq};
 use tree_readers::members_at;
-use vl_spec::{ConfigView, MOST_SIZE, OVER_ZERO, Resolve, SharingOf, Size};
-
-// A size that is a number.
-fn size_of_number(number: Num) -> Option<Size>
-    ensures { result ≡ size_of_number number }
-{
-    Some(Size::Number(numbers::between(number, OVER_ZERO, MOST_SIZE)?))
-}
-
-// A size by its step.
-fn size_of_step(members: &[Member]) -> Option<Size>
-    ensures { result ≡ size_of_step members.now }
-{
-    Some(Size::Step(size_step_at(members, "step")?))
-}
+use vl_spec::{ConfigView, MOST_SIZE, MOST_STEP, OVER_ZERO, Resolve, SharingOf, Size};
 
 // A size: a number, or the step of an object.
 impl Plain for Size {
@@ -36,8 +22,13 @@ impl Plain for Size {
 
     fn of_plain(tree: &Json) -> Option<Size> {
         match tree {
-            Json::Number(number) => size_of_number(*number),
-            Json::Object(members) => size_of_step(members.as_slice()),
+            Json::Number(number) => Some(Size::Number(between(*number, OVER_ZERO, MOST_SIZE)?)),
+            Json::Object(members) => Some(Size::Step(number_between(
+                members.as_slice(),
+                "step",
+                OVER_ZERO,
+                MOST_STEP,
+            )?)),
             Json::Null | Json::Flag(_) | Json::Huge | Json::Text(_) | Json::List(_) => None,
         }
     }
@@ -49,11 +40,11 @@ impl Object for ConfigView {
     #[tactic(auto, unfolding(crate::specs::Sizes::config_view_of))]
     fn of_members(_: Global, members: &[Member]) -> Result<ConfigView, OutOfMemory> {
         Ok(ConfigView {
-            continuous_width: plain_size_at(members, "continuousWidth"),
-            continuous_height: plain_size_at(members, "continuousHeight"),
+            continuous_width: number_between(members, "continuousWidth", OVER_ZERO, MOST_SIZE),
+            continuous_height: number_between(members, "continuousHeight", OVER_ZERO, MOST_SIZE),
             discrete_width: plain_at(members, "discreteWidth"),
             discrete_height: plain_at(members, "discreteHeight"),
-            step: size_step_at(members, "step"),
+            step: number_between(members, "step", OVER_ZERO, MOST_STEP),
         })
     }
 }
@@ -72,22 +63,16 @@ pub fn config_at(
     }
 }
 
-// What is said of a channel of this code.
-fn sharing_coded(member: &Member, channel: u16) -> Option<SharingOf>
-    ensures { result ≡ sharing_coded member.now channel }
-{
-    Some(SharingOf {
-        channel,
-        sharing: names::named_in(&member.value)?,
-    })
-}
-
 // What a member says of the channel of its name.
 #[tactic(auto, unfolding(crate::specs::Sizes::sharing_in))]
 fn sharing_in(member: &Member) -> Option<SharingOf>
     ensures { result ≡ sharing_in member.now }
 {
-    sharing_coded(member, case_table::channel_of(member.name.as_str())?)
+    let channel = case_table::channel_of(member.name.as_str())?;
+    Some(SharingOf {
+        channel,
+        sharing: named_in(&member.value)?,
+    })
 }
 
 impl OfMember for SharingOf {

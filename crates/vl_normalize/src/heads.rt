@@ -2,9 +2,9 @@
 ghost use Rattle.std.specs.Prelude.{◌≡◌, IfOk};
 ghost use Rattle.vl_normalize.specs.Heads.{head_of, view_of, no_head, outer_head, inner_head};
 
-use crate::copying::{beside_numbers, copied_five};
+use crate::copying::beside_numbers;
 use std::alloc::Global;
-use text_kit::{OutOfMemory, Seq, Text};
+use text_kit::{OutOfMemory, Seq, Text, copied_five};
 use vl_spec::{Resolve, Size, Transform, View, ViewKind};
 
 /// What a view has beside its kind.

@@ -3,11 +3,10 @@ ghost use Rattle.std.specs.Prelude.{◌≡◌, map, [], IfOk};
 ghost use Rattle.vl_normalize.specs.Normal.{normal_view, normal_kind, normal_layer, normal_faceted, normal_joined, normal_form, unit_form};
 ghost use Rattle.vl_normalize.specs.Channels.{channels_in, with_around};
 
-use crate::copying::beside_three;
 use crate::heads::{Head, head_of};
 use crate::{channels, units};
 use std::alloc::Global;
-use text_kit::{Boxed, Copies, OutOfMemory, Seq};
+use text_kit::{Boxed, Copies, OutOfMemory, Seq, beside_three};
 use vl_spec::{ChannelOf, Faceted, Joined, Layer, Unit, View, ViewKind, VlSpec};
 
 // The normal form of a unit.

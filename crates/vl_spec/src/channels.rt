@@ -1,10 +1,9 @@
 // Channels, and their conditions.
 ghost use Rattle.std.specs.Prelude.{◌≡◌, ◌++◌, IfOk, OnOk};
 
-use crate::copying::beside;
 use crate::{Definition, Filter, ParamTest};
 use std::alloc::Global;
-use text_kit::{Boxed, Copies, OutOfMemory, Seq};
+use text_kit::{Boxed, Copies, OutOfMemory, Seq, beside};
 
 /// The channels of a view, in the order of the text.
 pub struct Encoding {

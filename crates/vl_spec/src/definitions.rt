@@ -2,12 +2,11 @@
 ghost use Rattle.std.specs.Prelude.{◌≡◌, IfOk};
 ghost use Rattle.vl_spec.specs.declared.definitions.Definition.TheVariants as variant;
 
-use crate::copying::{copied_five, copied_seven};
 use crate::{Axis, Header, Legend, Offset, Scale, Sort};
 use cell_value::Cell;
 use fixed_num::Num;
 use std::alloc::Global;
-use text_kit::{Copies, OutOfMemory, Text};
+use text_kit::{Copies, OutOfMemory, Text, copied_five, copied_seven};
 
 /// What a channel shows.
 pub enum Definition {

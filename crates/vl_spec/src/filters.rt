@@ -2,12 +2,11 @@
 ghost use Rattle.std.specs.Prelude.{◌≡◌, ◌++◌, IfOk, OnOk};
 ghost use Rattle.vl_spec.specs.declared.filters.Filter.TheVariants as variant;
 
-use crate::copying::copied_two;
 use cell_value::Cell;
 use expr_syntax::Expr;
 use fixed_num::Num;
 use std::alloc::Global;
-use text_kit::{Boxed, Copies, OutOfMemory, Seq, Text};
+use text_kit::{Boxed, Copies, OutOfMemory, Seq, Text, copied_two};
 
 /// Which rows pass.
 #[cycle(filters)]

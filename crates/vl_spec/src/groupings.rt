@@ -2,12 +2,11 @@
 ghost use Rattle.std.specs.Prelude.{◌≡◌, IfOk};
 ghost use Rattle.vl_spec.specs.declared.transforms.Transform.TheVariants as variant;
 
-use crate::copying::{copied_four, copied_three, copied_two};
 use crate::{SortField, Texts, Transform};
 use cell_value::Cell;
 use fixed_num::Num;
 use std::alloc::Global;
-use text_kit::{Copies, OutOfMemory, Seq, Text};
+use text_kit::{Copies, OutOfMemory, Seq, Text, copied_four, copied_three, copied_two};
 
 /// What is computed of each group of rows.
 pub struct AggregateTransform {

@@ -1,9 +1,8 @@
 // Axes, legends and headers.
-use crate::copying::{copied_three, copied_two};
 use cell_value::Cell;
 use fixed_num::Num;
 use std::alloc::Global;
-use text_kit::{Copies, OutOfMemory, Seq, Text};
+use text_kit::{Copies, OutOfMemory, Seq, Text, copied_three, copied_two};
 
 /// An axis.
 pub struct Axis {

@@ -3,11 +3,11 @@ ghost use Rattle.std.specs.Prelude.{◌≡◌, IfOk};
 ghost use Rattle.vl_spec.specs.declared.params.ParamKind.TheVariants as variant;
 ghost use Rattle.vl_spec.specs.declared.params.Select.TheVariants as select;
 
-use crate::copying::{copied_two, copied_values};
+use crate::copying::copied_values;
 use cell_value::Cell;
 use expr_syntax::Expr;
 use std::alloc::Global;
-use text_kit::{Copies, OutOfMemory, Seq, Text};
+use text_kit::{Copies, OutOfMemory, Seq, Text, copied_two};
 
 /// A parameter.
 pub struct ParamOf {

@@ -2,11 +2,10 @@
 ghost use Rattle.std.specs.Prelude.{◌≡◌, IfOk};
 ghost use Rattle.vl_spec.specs.declared.scales.Domain.TheVariants as variant;
 
-use crate::copying::copied_two;
 use cell_value::Cell;
 use fixed_num::Num;
 use std::alloc::Global;
-use text_kit::{Copies, OutOfMemory, Seq, Text};
+use text_kit::{Copies, OutOfMemory, Seq, Text, copied_two};
 
 /// What is said of a scale.
 pub struct Scale {

@@ -1,10 +1,9 @@
 // Sources.
 ghost use Rattle.std.specs.Prelude.{◌≡◌, IfOk};
 
-use crate::copying::beside_three;
 use json_exact::Json;
 use std::alloc::Global;
-use text_kit::{Copies, OutOfMemory, Seq, Text};
+use text_kit::{Copies, OutOfMemory, Seq, Text, beside_three};
 
 /// A source: where rows come from.
 pub struct SourceOf {

@@ -1,12 +1,11 @@
 // Whole specifications.
 ghost use Rattle.std.specs.Prelude.{◌≡◌, IfOk};
 
-use crate::copying::beside_three;
 use crate::views::copied_view;
 use crate::{Autosize, ConfigView, ParamOf, SourceOf, View};
 use fixed_num::Num;
 use std::alloc::Global;
-use text_kit::{OutOfMemory, Seq, Text};
+use text_kit::{OutOfMemory, Seq, Text, beside_three};
 
 /// A Vega-Lite specification.
 pub struct VlSpec {

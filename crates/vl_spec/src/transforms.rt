@@ -2,12 +2,11 @@
 ghost use Rattle.std.specs.Prelude.{◌≡◌, IfOk};
 ghost use Rattle.vl_spec.specs.declared.transforms.Transform.TheVariants as variant;
 
-use crate::copying::{copied_four, copied_two};
 use crate::groupings::{copied_lookup, copied_window};
 use crate::{AggregateTransform, Bin, Filter, LookupTransform, Offset, SortField, WindowTransform};
 use expr_syntax::Expr;
 use std::alloc::Global;
-use text_kit::{Copies, OutOfMemory, Seq, Text};
+use text_kit::{Copies, OutOfMemory, Seq, Text, copied_four, copied_two};
 
 /// A transform, by the member that decides.
 pub enum Transform {

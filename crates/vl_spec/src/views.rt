@@ -3,11 +3,11 @@ ghost use Rattle.std.specs.Prelude.{◌≡◌, ◌++◌, IfOk, OnOk};
 ghost use Rattle.vl_spec.specs.declared.views.Facet.TheVariants as variant;
 ghost use Rattle.vl_spec.specs.declared.views.ViewKind.TheVariants as kind;
 
-use crate::copying::{beside, beside_five, copied_two};
+use crate::copying::beside_five;
 use crate::{Channel, Encoding, Mark, Resolve, Size, Transform};
 use fixed_num::Num;
 use std::alloc::Global;
-use text_kit::{Boxed, Copies, OutOfMemory, Seq, Text};
+use text_kit::{Boxed, Copies, OutOfMemory, Seq, Text, beside, copied_two};
 
 /// A view.
 #[cycle(views)]
