@@ -1,6 +1,6 @@
--- Which cells count for the domain of a scale: view after view, and in a view definition after definition, the cells of each row. A definition
+-- Which cells count for the domain of a scale: unit after unit, and in a unit definition after definition, the cells of each row. A definition
 -- shows its cell: a field's, or what is made of it, which of bins and units of time is the start; a cell that is written is one that each row has. On a
--- continuous scale the ends of bins count too. Where a view stacks the channel, the two ends of the stack stand in place of the cells that it
+-- continuous scale the ends of bins count too. Where a unit stacks the channel, the two ends of the stack stand in place of the cells that it
 -- stacks. What x2 shows counts for x behind x itself, and what y2 shows for y.
 use Rattle.std.specs.Prelude.{ℕ, ◌==◌, Bool, Option, Some, None, List, [], ◌∷◌, ◌++◌, flat_map, map, if◌then◌else◌, option_map, option_to_list}
 use Rattle.std.specs.Option.{option_and_then, option_map_or}

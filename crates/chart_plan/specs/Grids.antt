@@ -157,7 +157,8 @@ is_there number grids = list_any (λ (g : GridPlan). g.number == number) grids
 abbrev pub with_grid : List UnitAt → List GridPlan → ViewAt → List GridPlan
 with_grid units grids v = if is_there v.number grids then grids else grids ++ option_to_list (grid_in units v)
 
--- the grids round some units, an outer one before those in it
+-- The grids round some units, an outer one before those in it. These are all grids: no view is without a unit, since an empty layer or list of joined views
+-- is refused.
 abbrev pub with_grids : List UnitAt → List GridPlan → UnitAt → List GridPlan
 with_grids units grids unit = fold (with_grid units) grids unit.round
 

@@ -1,8 +1,8 @@
--- In which order the cells of a discrete domain stand: ascending, or as the first view says whose definition of the channel has a `sort`. Null is
+-- In which order the cells of a discrete domain stand: ascending, or as the first unit says whose definition of the channel has a `sort`. Null is
 -- the order in which cells first appear; `ascending` and `descending` are by the cells themselves; a list stands as it is, and the rest
--- follows ascending. Other orders are by rows: those of that view before its aggregate, grouped by the cells that the channel has there. Each
+-- follows ascending. Other orders are by rows: those of that unit before its aggregate, grouped by the cells that the channel has there. Each
 -- group has what an operation gives over a field, and cells of one rank stand ascending. `{field, op}` names both; its operation is `sum` where the
--- view is stacked, else `min`. `x` and `y` mean the field of that channel, of bins and units of time the start, and its own aggregate, else `sum` where
+-- unit is stacked, else `min`. `x` and `y` mean the field of that channel, of bins and units of time the start, and its own aggregate, else `sum` where
 -- that channel is stacked, else `min`. A channel that itself has an aggregate, or no field, has no groups: its cells stand ascending.
 use Rattle.std.specs.Prelude.{ℕ, Bool, true, false, Option, Some, None, List, option_map, is_some, unwrap_or, if◌then◌else◌}
 use Rattle.std.specs.Option.{option_and_then, option_map_or}

@@ -1,6 +1,6 @@
 -- The plots of a chart: each unit is drawn in one, by itself or in the outermost layer round it within the innermost facet and joined views. A plot has
 -- the title of its own view, else that of the first view in it that has one, from the outside in and in the order of the text. Its size along x goes
--- by the scale of its first unit which shows something there, else by that of its first unit alone. It has an axis for each scale of x, and then for each of y,
+-- by the scale of its first unit which shows something there, else by the scale that stands there for its first unit alone, of one null. It has an axis for each scale of x, and then for each of y,
 -- on which something is shown in it that counts for an axis. Facets round the plot that share such a scale among their panels have the axis at
 -- their edge alone: one of x where no panel is below, one of y in the first column.
 use Rattle.std.specs.Prelude.{ℕ, ◌==◌, Bool, true, false, nat_le, nat_lt, Option, Some, None, List, [], ◌∷◌, ◌++◌, filter, find, flat_map, length, map}

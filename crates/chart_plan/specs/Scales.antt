@@ -1,7 +1,7 @@
 -- The scales of a chart. Each has its kind, its flags and its paddings by the units that share it, in their order; a ramp is one of instants where its first
--- definition shows some. Its domain, its range and `reverse` each come from the first of its definitions that gives it. Where the innermost facet that gives
--- its views scales of their own for the channel stands round these units, the scale belongs to that facet and stands once in each of its panels; else it
--- stands once in the chart.
+-- definition shows some. Its domain, its range and `reverse` each come from the first of its definitions that gives it. A scale belongs to the
+-- innermost facet round its units whose `resolve` makes the channel independent, and stands once in each panel of it; without one, once in the chart. Which
+-- units share a scale is the sharing of the composed views.
 use Rattle.std.specs.Prelude.{ℕ, ◌==◌, ◌&&◌, ◌||◌, Bool, false, Option, Some, None, List, [], ◌∷◌, find, if◌then◌else◌}
 use Rattle.std.specs.Option.{option_and_then, option_map_or}
 use Rattle.std.specs.List.{enumerate_from, filter_map, fold}

@@ -2,7 +2,8 @@
 -- without names those below the view that has it. It keeps its `fields`, or else the fields of the channels that it names, or else
 -- `_vgsid_`; of an aggregated unit all names of its grouping in place of that. The field of a channel is the name of its cells in the unit's rows; an
 -- interval keeps of bins the field itself. `row`, `column` and `facet` mean that field of the innermost facet which has one, and `detail` all of its. A
--- point keeps what it keeps on a click and toggles it with shift; an interval keeps two ends of each channel that it names, without names of x and y. A
+-- point keeps what it keeps on a click and toggles it with shift; an interval keeps two ends of each channel that it names, without names of x and y
+-- as far as they show a field. A
 -- double click clears both. A drag inverts the scales of these channels in the plot in which it is made: those of the first unit there that is concerned.
 use Rattle.std.specs.Prelude.{ℕ, ◌==◌, ◌&&◌, ◌||◌, Bool, true, false, Option, Some, None, List, [], ◌∷◌, codes, find, map, bytes_eq}
 use Rattle.std.specs.Prelude.{option_map, option_to_list, unwrap_or, if◌then◌else◌}
@@ -197,6 +198,7 @@ units_concerned number s units = filter_map (number_if number s) units
 abbrev pub first_concerned : ℕ → Selection → List UnitAt → Option UnitAt
 first_concerned number s units = find (concerns number s) units
 
+-- what a selection of this name keeps over these units: whatever a click keeps is also toggled with shift
 abbrev pub kept_with : List ℕ → List ℕ → Select → Option UnitAt → SelectionOf
 kept_with name units s first = record {
   name = name;

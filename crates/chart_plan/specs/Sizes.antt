@@ -1,6 +1,6 @@
 -- The size of a plot, first its width. The plot's own view says it, or else the first view in it that does, from the outside in and in the order of the
 -- text: a number of pixels, or a step from one cell to the next. A step says nothing on a continuous scale. The scale is that of the first unit in
--- the plot which has one for x; where none has, it is that of its first unit alone, so that the width is one step. Where nothing is said, a
+-- the plot which has one for x; where none has, it is the scale that stands there for its first unit alone, of one null, so that the width is one step. Where nothing is said, a
 -- continuous scale has the `continuousWidth` of `config.view`, else 200; a discrete one its `discreteWidth`, else the steps of its `step`, else of 20.
 -- The height goes by y alike.
 use Rattle.std.specs.Prelude.{◌≡◌, refl, ℕ, ◌==◌, ◌*◌, Bool, true, false, ℤ, pos, Option, Some, None, List, [], ◌∷◌, unwrap_or, if◌then◌else◌}

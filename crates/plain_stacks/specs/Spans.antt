@@ -17,7 +17,7 @@ size v = pos (unsigned_abs v)
 abbrev pub same_side : ℤ → ℤ → Bool
 same_side v w = if int_lt v (pos 0) then int_lt w (pos 0) else not (int_lt w (pos 0))
 
--- the sum before a value, of the values before it: from zero of those on its side, else of how long all are
+-- what the values before a value add up to: with the offset zero those on its side of 0, else the lengths of all
 abbrev pub sum_before : Offset → List ℤ → ℤ → ℤ
 sum_before Zero before v = sum_of (filter (same_side v) before)
 sum_before Normalize before v = sum_of (map size before)

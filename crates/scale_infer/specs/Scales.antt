@@ -1,5 +1,5 @@
 -- The scales of a specification: for each channel and the units that share its scale one scale, whose kind, flags and paddings go by these
--- units, in their order. Of a unit count its mark, which of x and y is its measure, and what the definitions of the channel say that
+-- units, in their order. What counts of a unit is its mark, which of x and y is its measure, and what the definitions of the channel say that
 -- have a scale, the channel's own before those of its conditions.
 use Rattle.std.specs.Prelude.{◌≡◌, refl, ℕ, true, false, pos, Option, Some, None, List, [], ◌∷◌, map, filter_map, slice_get, option_map}
 use Rattle.fixed_num.specs.Number.{million, rounded, floor_quotient}

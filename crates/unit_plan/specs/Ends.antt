@@ -1,5 +1,5 @@
 -- Where the ends of marks stand, branch by branch. A `value` is a number of pixels. A cell stands on the scale of its direction: at its place, which on a band is the
--- lesser end, or at the middle of its band; a measure that is stacked stands at its stack's end. What spans a band goes over the whole band; what spans a bin or
+-- lesser end, or at the middle of its band, which on a scale without bands is the place; a measure that is stacked stands at its stack's end. What spans a band goes over the whole band; what spans a bin or
 -- a unit of time on a continuous scale goes from the start's place to the end's where the scale's range rises, else from the end's to the start's; anything else is 5 wide. A bin's
 -- middle is half of the sum of its ends. A channel that is absent is one null on a scale of its own. Where nothing is said for a row, x and y are the middle of the
 -- plot; but what spans bands stands at the band of null, and along the measure of a bar nothing has a place.
@@ -97,7 +97,9 @@ middle_of cell (Some end) = middle_by cell end
 abbrev pub middle_cell : ScaleSeen → ℕ → Definition → CellOf
 middle_cell s channel d = if is_line s && is_binned d then middle_of (cell_of channel d) (end_of channel d) else cell_of channel d
 
--- an end for a definition on a scale
+-- An end for a definition on a scale. `Near` and `Far` are the two ends of what is spanned, the first with a gap; `Place` is the cell's place; `PlaceOrCentre`
+-- the place on bands, else the centre; `Centre` the middle of the cell's band; `Middle` that of its bin on a continuous scale; `Before` and `Behind` lie half a
+-- size from there; the start and the centre of a stack stand at the base of a scale where nothing is stacked.
 abbrev pub plain_on : End → ScaleSeen → ℕ → Definition → SpotWay
 plain_on (end.Near gap) s channel d = near_on gap s (cell_of channel d) (end_of channel d)
 plain_on end.Far s channel d = far_on s (cell_of channel d) (end_of channel d)

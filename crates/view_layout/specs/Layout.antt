@@ -59,7 +59,7 @@ places_below title width cells x y = title_at title width x y ++ cells x y
 abbrev pub grid_corners : ℕ → ℕ → List Span → List Span → List (ℕ × ℕ)
 grid_corners gap above columns rows = corners_of (positions 0 gap columns) (positions above gap rows)
 
--- a grid as a cell, which has no extents, from its columns and rows and what stands in its cells
+-- a grid as a cell, from its columns and rows and what stands in its cells; it has no extents: headers and axes of its plots lie inside it
 abbrev pub grid_by : ℕ → Bool → List Span → List Span → List Places → Cell
 grid_by gap title columns rows places =
     let across = without_extent (extent gap columns) in

@@ -1,4 +1,4 @@
--- Which views share which scale.
+-- Which units share which scale. The views of a scale are these units, by their numbers.
 use Rattle.std.specs.Prelude.{ℕ, ◌==◌, Bool, true, false, ◌||◌, Option, List, [], ◌∷◌, filter, find, flat_map, map, unwrap_or}
 use Rattle.std.specs.Option.{option_map, option_map_or, option_and_then}
 use Rattle.vl_spec.specs.declared.sizes.Resolve.{Resolve}
@@ -35,7 +35,8 @@ separates_by (AJoined joined) code said = option_map_or is_independent said (cod
 abbrev pub separates : ℕ → ViewAt → Bool
 separates code v = separates_by v.kind code (sharing_said v.resolve code)
 
--- the view up to which a view shares a channel: the outermost one within the innermost that separates it
+-- the view up to which a view shares a channel: the outermost view round it, or itself, inside the innermost view that separates the channel; the top where
+-- none does
 abbrev pub home_of : Round → ℕ → ℕ
 home_of round code = first_number (behind (separates code) round)
 

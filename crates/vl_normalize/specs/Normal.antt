@@ -43,7 +43,7 @@ line_with_points channels d =
 abbrev pub mark_kind : Option Mark → List ChannelOf → ViewKind
 mark_kind mark channels = option_map_or (line_with_points channels) (pointed mark) (unit_with mark channels)
 
--- a view parted by a facet, and what stays inside
+-- a view parted by a facet, and what stays inside. The number of columns stays with the facet's field, and is read there.
 abbrev pub faceted_by : Head → ViewKind → Facet → View
 faceted_by head inside facet = view_of (outer_head head) (kind.Facet (roll-Faceted (record {
   facet = facet;
