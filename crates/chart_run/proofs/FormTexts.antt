@@ -12,7 +12,7 @@ use Rattle.json_exact.specs.Inside.{text_in, number_in, items_in, members_in}
 use Rattle.json_exact.specs.Path.{member_value}
 use Rattle.first_form.specs.declared.form.FirstForm.{FirstForm}
 use Rattle.first_form.specs.declared.form.Value.{Value}
-use Rattle.first_form.specs.FirstForm.{has_each, object_of, null_in, found_at, is_whole_amount, value_in, field_at, fields_of, data_in}
+use Rattle.first_form.specs.FirstForm.{has_each, object_of, null_in, found_at, is_whole_amount, value_in, is_plain, field_at, fields_of, data_in}
 use Rattle.first_form.specs.FirstForm.{bars_in, form_of}
 use Rattle.compiled_bars.proofs.ReadTexts.{IsSound, EachItem, EachMember, value_at_sound, text_in_sound, members_in_sound, items_in_sound}
 
@@ -101,7 +101,7 @@ field_sound encoding name kind field each is =
     let (its_kind, said, rest) = bind_some (found_at text_in channel (codes "type")) _ field rest in
     let (none, null, rest) = bind_some (found_at null_in channel (codes "axis")) _ field rest in
     let inside = members_sound names encoding name channel each object in
-    subst IsUtf8 (kept (bytes_eq its_kind kind) own field rest) (text_sound channel (codes "field") own inside text)
+    subst IsUtf8 (kept (bytes_eq its_kind kind && is_plain own) own field rest) (text_sound channel (codes "field") own inside text)
 
 fields_sound : (top : List Member) (fields : List ℕ × List ℕ) → EachMember top → fields_of top ≡ Some fields
     → IsUtf8 fields.0 × IsUtf8 fields.1

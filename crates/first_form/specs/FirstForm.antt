@@ -1,5 +1,5 @@
 -- The first chart form: which trees are of it, and what their parts are. None stands for what is not of the form.
-use Rattle.std.specs.Prelude.{ℕ, ◌==◌, Bool, true, false, ◌&&◌, nat_le, ℤ, pos, neg_ℤ, ◌+◌, ◌*◌, ◌%◌, ◌^◌, Option, Some, None, List, []}
+use Rattle.std.specs.Prelude.{ℕ, ◌==◌, Bool, true, false, ◌&&◌, not, nat_le, ℤ, pos, neg_ℤ, ◌+◌, ◌*◌, ◌%◌, ◌^◌, Option, Some, None, List, []}
 use Rattle.std.specs.Prelude.{◌∷◌, length, map, replicate, if◌then◌else◌, codes, ◌≡◌, refl}
 use Rattle.std.specs.Option.{is_some, option_map, option_and_then}
 use Rattle.std.specs.List.{list_all}
@@ -49,14 +49,18 @@ value_in x y row = do
   amount ← found_at number_in members y
   if is_whole_amount amount then Some (record { category = category; amount = amount }) else None
 
--- the field of the channel of this name, which is of this type and has no axis
+-- a text without `\`; a field that is written with one, as an escape, is none of the form
+abbrev pub is_plain : List ℕ → Bool
+is_plain text = list_all (λ b. not (b == 92)) text
+
+-- the field of the channel of this name, which is plain, of this type and without an axis
 abbrev pub field_at : List Member → List ℕ → List ℕ → Option (List ℕ)
 field_at encoding name kind = do
   channel ← found_at (object_of (codes "field" ∷ codes "type" ∷ codes "axis" ∷ [])) encoding name
   field ← found_at text_in channel (codes "field")
   its_kind ← found_at text_in channel (codes "type")
   no_axis ← found_at null_in channel (codes "axis")
-  if bytes_eq its_kind kind then Some field else None
+  if bytes_eq its_kind kind && is_plain field then Some field else None
 
 -- the fields of the two channels, which differ
 abbrev pub fields_of : List Member → Option (List ℕ × List ℕ)
@@ -118,6 +122,9 @@ a_text_is_found : option_and_then (λ members. found_at text_in members (codes "
     ≡ Some (codes "B")
 unfolding out-Json denote.Hole.Carrier.out
 a_text_is_found = refl
+
+plain_fields : map is_plain (codes "a.b[0]" ∷ codes "a\\.b" ∷ codes "a\\b" ∷ []) ≡ true ∷ false ∷ false ∷ []
+plain_fields = refl
 
 whole_amounts : map is_whole_amount (pos 0 ∷ pos (28 * million) ∷ pos (10 ^ 9 * million) ∷ []) ≡ replicate 3 true
 whole_amounts = refl

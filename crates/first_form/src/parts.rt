@@ -1,7 +1,7 @@
 //! The parts of a specification of the first form.
 ghost use Rattle.std.specs.Prelude.{◌≡◌};
 ghost use Rattle.std.specs.Option.{option_copied, option_map};
-ghost use Rattle.first_form.specs.FirstForm.{is_whole_amount, field_at, fields_of, data_in, bars_in};
+ghost use Rattle.first_form.specs.FirstForm.{is_whole_amount, is_plain, field_at, fields_of, data_in, bars_in};
 
 use crate::objects::{items_at, null_at, object_at, object_of, text_at};
 use fixed_num::Num;
@@ -21,7 +21,14 @@ pub fn is_whole_amount(amount: Num) -> bool
     }
 }
 
-/// The field of the channel of this name, which is of this type and has no axis.
+/// Whether this is a text without `\`. A field that is written with one, as an escape, is none of the form.
+pub fn is_plain(text: &str) -> bool
+    ensures { result ≡ is_plain text.now }
+{
+    text.as_bytes().iter().all(|byte| *byte != b'\\')
+}
+
+/// The field of the channel of this name, which is plain, of this type and without an axis.
 pub fn field_at<'a>(encoding: &'a [Member], name: &str, kind: &str) -> Option<&'a Text>
     ensures { option_copied result ≡ field_at encoding.now name.now kind.now }
 {
@@ -29,7 +36,7 @@ pub fn field_at<'a>(encoding: &'a [Member], name: &str, kind: &str) -> Option<&'
     let field = text_at(channel, "field")?;
     let its_kind = text_at(channel, "type")?;
     null_at(channel, "axis")?;
-    if its_kind.as_str() == kind {
+    if its_kind.as_str() == kind && is_plain(field.as_str()) {
         Some(field)
     } else {
         None
