@@ -1,0 +1,9 @@
+mod Orders
+mod Plain
+mod Tables
+mod Walks
+mod Channels
+mod Sources
+mod Tops
+mod Texts
+mod Drawn
