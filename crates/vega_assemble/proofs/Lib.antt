@@ -1,0 +1,5 @@
+mod TableNames
+mod MarkLemmas
+mod OrderLemmas
+mod ViewLemmas
+mod TopLemmas

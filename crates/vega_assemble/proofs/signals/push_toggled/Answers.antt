@@ -1,0 +1,11 @@
+use Rattle.std.proofs.Common.{[], ◌∷◌, ◌++◌, sym, ap, ◌∙◌}
+use Rattle.std.specs.Prelude.{option_map, option_to_list}
+use Rattle.std.proofs.lemmas.Result.{IfOk-equal}
+use Rattle.vega_assemble.specs.Signals.{toggled}
+use Rattle.vega_assemble.proofs.signals.push_toggled.Goals as goal
+
+pub returns-in_ok-toggled-in-Some : goal.returns-in_ok-toggled-in-Some
+returns-in_ok-toggled-in-Some c =
+    IfOk-equal _ _ _ _ c.push.ensures.ok
+    (ap (λ made. c.args.out.now ++ made ∷ []) (c.in_ok-toggled-in-Some.ensures ∙ ap (toggled c.args.name.now) c.as_slice.ensures)
+    ∙ ap (λ fields. c.args.out.now ++ option_to_list (option_map (toggled c.args.name.now) fields)) (sym c.in-Some.is))

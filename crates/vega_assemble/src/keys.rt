@@ -1,0 +1,408 @@
+// By what the panels of a facet stand.
+ghost use Rattle.std.specs.Prelude.{◌≡◌, ◌≤◌, ◌++◌, ◌∷◌, [], take, length, map, flat_map, IfOk, OnOk};
+ghost use Rattle.std.specs.List.{enumerate_from};
+ghost use Rattle.expr_syntax.specs.declared.expr.Expr.TheVariants as expr;
+ghost use Rattle.vega_spec.specs.declared.transforms.Transform.TheVariants as vega;
+ghost use Rattle.vega_assemble.specs.Names.{key_column};
+ghost use Rattle.vega_assemble.specs.Ranked.{formula, numbers_rows};
+ghost use Rattle.vega_assemble.specs.Ranks.{listed_rank};
+ghost use Rattle.vega_assemble.specs.Keys.{is_first, ordered, by_name, entry_of, placed, sort_of, wants_key, has_keys};
+ghost use Rattle.vega_assemble.specs.Keys.{place_of_row, looked_up, steps_for, keys_list, given_by, orders_list, orders_for};
+ghost use Rattle.vega_assemble.specs.Keys.{lists_of_facet, lists_of_grid, facet_begins, grid_begins};
+
+use crate::exprs::whole_place;
+use crate::lists::order_begins;
+use crate::names::{begun_name, key_column, keys_name, orders_name, rank_column, unit_name};
+use crate::ranked::{formula, given_in, numbers_rows};
+use crate::ranks::listed_rank;
+use crate::several::one_of;
+use crate::sources::list_made;
+use crate::steps::sort_written;
+use cell_value::Cell;
+use chart_plan::{CellOrder, FacetField, FacetPlan, GridPlan, RowsOrder};
+use expr_syntax::Expr;
+use plain_rows::SortBy;
+use std::alloc::Global;
+use text_kit::{OutOfMemory, Seq, Text};
+use unit_plan::pair;
+use vega_spec::{DataSet, Lookup, Sort, Transform};
+
+// ---- orders of fields
+
+// Whether cells stand as they first appear.
+fn is_first(order: &CellOrder) -> bool
+    ensures { result ≡ is_first order.now }
+{
+    match order {
+        CellOrder::First => true,
+        CellOrder::Up | CellOrder::Down | CellOrder::Listed(_) | CellOrder::ByRows(_) => false,
+    }
+}
+
+// How many fields an order speaks of.
+#[tactic(auto, using(crate::proofs::OrderLemmas::ends_here, crate::proofs::OrderLemmas::ends_before))]
+fn ordered_count(fields: &[FacetField]) -> usize
+    ensures front { take result fields.now ≡ ordered fields.now }
+    ensures within { result ≤ length fields.now }
+{
+    for at in (0..fields.len()).rev() {
+        if !is_first(&fields[at].order) {
+            return at + 1;
+        }
+    }
+    0
+}
+
+// These fields.
+fn ordered(fields: &[FacetField]) -> &[FacetField]
+    ensures { result.now ≡ ordered fields.now }
+{
+    &fields[..ordered_count(fields)]
+}
+
+// The field by which cells stand.
+fn by_name(name: Text, descending: bool) -> SortBy
+    ensures { result ≡ by_name name descending }
+{
+    SortBy {
+        field: name,
+        descending,
+    }
+}
+
+// The field by which the cells of a field stand, and whether descending.
+fn entry_of(
+    alloc: Global,
+    stem: &Text,
+    place: usize,
+    field: &FacetField,
+) -> Result<SortBy, OutOfMemory>
+    ensures { IfOk result (λ entry. entry ≡ entry_of stem.now (place, field.now)) }
+{
+    match &field.order {
+        CellOrder::Up => Ok(by_name(field.name.copy()?, false)),
+        CellOrder::Down => Ok(by_name(field.name.copy()?, true)),
+        CellOrder::First | CellOrder::Listed(_) => Ok(by_name(
+            key_column(alloc, stem, place)?,
+            false,
+        )),
+        CellOrder::ByRows(by) => Ok(by_name(key_column(alloc, stem, place)?, by.descending)),
+    }
+}
+
+/// The order of the copies, if it is one.
+pub(crate) fn sort_of(
+    alloc: Global,
+    stem: &Text,
+    fields: &[FacetField],
+) -> Result<Option<Sort>, OutOfMemory>
+    ensures { IfOk result (λ sort. sort ≡ sort_of stem.now fields.now) }
+{
+    let mut by = Seq::new(alloc);
+    for (place, field) in ordered(fields).iter().enumerate() {
+        by.push(entry_of(alloc, stem, place, field)?)?;
+    }
+    sort_written(alloc, by.as_slice())
+}
+
+// ---- keys
+
+// Whether a field has keys.
+fn wants_key(order: &CellOrder) -> bool
+    ensures { result ≡ wants_key order.now }
+{
+    match order {
+        CellOrder::Up | CellOrder::Down => false,
+        CellOrder::First | CellOrder::Listed(_) | CellOrder::ByRows(_) => true,
+    }
+}
+
+/// Whether one of some fields has.
+pub(crate) fn has_keys(fields: &[FacetField]) -> bool
+    ensures { result ≡ has_keys fields.now }
+{
+    for field in ordered(fields) {
+        if wants_key(&field.order) {
+            return true;
+        }
+    }
+    false
+}
+
+// The number of a unit with that of its row, in the column of a key.
+fn place_formula(alloc: Global, unit: usize, name: &Text) -> Result<Transform, OutOfMemory>
+    ensures { IfOk result (λ made. made ≡ formula name.now (place_of_row unit name.now)) }
+{
+    let number = whole_place(unit)?;
+    let row = name.copy().map(Expr::Field)?;
+    let place = pair(alloc, number, row)?;
+    Ok(formula(name.copy()?, place))
+}
+
+// Adds the number of each row under a name.
+fn push_numbers(alloc: Global, name: &Text, out: &mut Seq<Transform>) -> Result<(), OutOfMemory>
+    ensures { OnOk result (out.new ≡ out.old ++ vega.Window (numbers_rows name.now) ∷ []) }
+{
+    out.push(numbers_rows(alloc, name.copy()?)?)
+}
+
+// Adds the keys of a field that keeps the order of its first rows.
+fn push_places(
+    alloc: Global,
+    unit: usize,
+    name: &Text,
+    out: &mut Seq<Transform>,
+) -> Result<(), OutOfMemory>
+    ensures { OnOk result (out.new
+        ≡ out.old ++ vega.Window (numbers_rows name.now) ∷ formula name.now (place_of_row unit name.now) ∷ []) }
+{
+    push_numbers(alloc, name, out)?;
+    out.push(place_formula(alloc, unit, name)?)
+}
+
+// The same under the name of its key.
+fn push_first(
+    alloc: Global,
+    stem: &Text,
+    unit: usize,
+    place: usize,
+    out: &mut Seq<Transform>,
+) -> Result<(), OutOfMemory>
+    ensures { OnOk result (out.new ≡ out.old ++ vega.Window (numbers_rows (key_column stem.now place))
+        ∷ formula (key_column stem.now place) (place_of_row unit (key_column stem.now place)) ∷ []) }
+{
+    let name = key_column(alloc, stem, place)?;
+    push_places(alloc, unit, &name, out)?;
+    Ok(())
+}
+
+// The keys of a field whose cells are listed.
+fn listed_key(
+    alloc: Global,
+    key: Text,
+    name: &Text,
+    cells: &[Cell],
+) -> Result<Transform, OutOfMemory>
+    ensures { IfOk result (λ made. made ≡ formula key (listed_rank (expr.Field name.now) cells.now)) }
+{
+    let shown = name.copy().map(Expr::Field)?;
+    let rank = listed_rank(alloc, &shown, cells)?;
+    Ok(formula(key, rank))
+}
+
+// What the cells of a field have by rows, looked up under its name.
+fn looked_up(
+    alloc: Global,
+    stem: &Text,
+    facet: usize,
+    place: usize,
+    name: &Text,
+    by: &RowsOrder,
+) -> Result<Lookup, OutOfMemory>
+    ensures { IfOk result (λ made. made ≡ looked_up stem.now facet place name.now by.now) }
+{
+    let from = orders_name(alloc, stem, facet, place)?;
+    let key = by.cell.copy()?;
+    let fields = one_of(alloc, name.copy()?)?;
+    let values = one_of(alloc, rank_column(stem)?)?;
+    let names = one_of(alloc, key_column(alloc, stem, place)?)?;
+    Ok(Lookup {
+        from,
+        key,
+        fields,
+        values,
+        as_: Some(names),
+        default: Some(Cell::Null),
+    })
+}
+
+// Adds the keys of a field in the rows of a unit.
+fn push_key(
+    alloc: Global,
+    stem: &Text,
+    facet: usize,
+    unit: usize,
+    place: usize,
+    field: &FacetField,
+    out: &mut Seq<Transform>,
+) -> Result<(), OutOfMemory>
+    ensures { OnOk result (out.new ≡ out.old ++ steps_for stem.now facet unit (place, field.now)) }
+{
+    match &field.order {
+        CellOrder::Up | CellOrder::Down => Ok(()),
+        CellOrder::First => push_first(alloc, stem, unit, place, out),
+        CellOrder::Listed(cells) => out.push(listed_key(
+            alloc,
+            key_column(alloc, stem, place)?,
+            &field.name,
+            cells.as_slice(),
+        )?),
+        CellOrder::ByRows(by) => out.push(looked_up(alloc, stem, facet, place, &field.name, by).map(
+            Transform::Lookup,
+        )?),
+    }
+}
+
+// The keys of all fields in the rows of a unit.
+fn key_steps(
+    alloc: Global,
+    stem: &Text,
+    facet: usize,
+    fields: &[FacetField],
+    unit: usize,
+) -> Result<Seq<Transform>, OutOfMemory>
+    ensures { IfOk result (λ steps. steps ≡ flat_map (steps_for stem.now facet unit) (placed fields.now)) }
+{
+    let mut out = Seq::new(alloc);
+    for (place, field) in ordered(fields).iter().enumerate() {
+        push_key(alloc, stem, facet, unit, place, field, &mut out)?;
+    }
+    Ok(out)
+}
+
+// The list of keys of a unit's rows.
+fn keys_list(
+    alloc: Global,
+    stem: &Text,
+    facet: usize,
+    fields: &[FacetField],
+    unit: usize,
+) -> Result<DataSet, OutOfMemory>
+    ensures { IfOk result (λ set. set ≡ keys_list stem.now facet fields.now unit) }
+{
+    let name = keys_name(alloc, stem, facet, unit)?;
+    let source = unit_name(alloc, stem, unit)?;
+    let steps = key_steps(alloc, stem, facet, fields, unit)?;
+    Ok(list_made(name, source, steps))
+}
+
+// What an operation gives of each cell over the rows of all panels.
+fn given_by(alloc: Global, stem: &Text, by: &RowsOrder) -> Result<Transform, OutOfMemory>
+    ensures { IfOk result (λ made. made ≡ vega.Aggregate (given_by stem.now by.now)) }
+{
+    let name = rank_column(stem)?;
+    let groupby = one_of(alloc, by.cell.copy()?)?;
+    given_in(alloc, groupby, by, name)
+}
+
+// The list of these.
+fn orders_list(
+    alloc: Global,
+    stem: &Text,
+    facet: usize,
+    place: usize,
+    by: &RowsOrder,
+) -> Result<DataSet, OutOfMemory>
+    ensures { IfOk result (λ set. set ≡ orders_list stem.now facet place by.now) }
+{
+    let name = orders_name(alloc, stem, facet, place)?;
+    let source = begun_name(alloc, stem, by.unit)?;
+    let steps = one_of(alloc, given_by(alloc, stem, by)?)?;
+    Ok(list_made(name, source, steps))
+}
+
+// Adds it where a field stands by rows.
+fn push_orders(
+    alloc: Global,
+    stem: &Text,
+    facet: usize,
+    place: usize,
+    field: &FacetField,
+    out: &mut Seq<DataSet>,
+) -> Result<(), OutOfMemory>
+    ensures { OnOk result (out.new ≡ out.old ++ orders_for stem.now facet (place, field.now)) }
+{
+    match &field.order {
+        CellOrder::First | CellOrder::Up | CellOrder::Down | CellOrder::Listed(_) => Ok(()),
+        CellOrder::ByRows(by) => out.push(orders_list(alloc, stem, facet, place, by)?),
+    }
+}
+
+// Adds those of all fields.
+fn push_all_orders(
+    alloc: Global,
+    stem: &Text,
+    facet: usize,
+    fields: &[FacetField],
+    out: &mut Seq<DataSet>,
+) -> Result<(), OutOfMemory>
+    ensures { OnOk result (out.new ≡ out.old ++ flat_map (orders_for stem.now facet) (placed fields.now)) }
+{
+    for (place, field) in ordered(fields).iter().enumerate() {
+        push_orders(alloc, stem, facet, place, field, out)?;
+    }
+    Ok(())
+}
+
+// Adds the lists of keys of units.
+fn push_all_keys(
+    alloc: Global,
+    stem: &Text,
+    facet: usize,
+    fields: &[FacetField],
+    units: &[usize],
+    out: &mut Seq<DataSet>,
+) -> Result<(), OutOfMemory>
+    ensures { OnOk result (out.new ≡ out.old ++ map (keys_list stem.now facet fields.now) units.now) }
+{
+    for unit in units {
+        out.push(keys_list(alloc, stem, facet, fields, *unit)?)?;
+    }
+    Ok(())
+}
+
+// Adds all lists of a facet's keys.
+fn push_facet(
+    alloc: Global,
+    stem: &Text,
+    number: usize,
+    f: &FacetPlan,
+    out: &mut Seq<DataSet>,
+) -> Result<(), OutOfMemory>
+    ensures { OnOk result (out.new ≡ out.old ++ lists_of_facet stem.now number f.now) }
+{
+    let fields = f.fields.as_slice();
+    if has_keys(fields) {
+        push_all_orders(alloc, stem, number, fields, out)?;
+        push_all_keys(alloc, stem, number, fields, f.units.as_slice(), out)
+    } else {
+        Ok(())
+    }
+}
+
+/// Adds the lists of keys of a grid's facet.
+pub(crate) fn push_grid(
+    alloc: Global,
+    stem: &Text,
+    grid: &GridPlan,
+    out: &mut Seq<DataSet>,
+) -> Result<(), OutOfMemory>
+    ensures { OnOk result (out.new ≡ out.old ++ lists_of_grid stem.now grid.now) }
+{
+    match &grid.facet {
+        Some(f) => push_facet(alloc, stem, grid.number, f, out),
+        None => Ok(()),
+    }
+}
+
+// Whether an order of a facet reads the rows of a unit before its aggregate.
+fn facet_begins(unit: usize, f: &FacetPlan) -> bool
+    ensures { result ≡ facet_begins unit f.now }
+{
+    for field in f.fields.as_slice() {
+        if order_begins(unit, &field.order) {
+            return true;
+        }
+    }
+    false
+}
+
+/// Whether an order of a grid's facet does.
+pub(crate) fn grid_begins(unit: usize, grid: &GridPlan) -> bool
+    ensures { result ≡ grid_begins unit grid.now }
+{
+    match &grid.facet {
+        Some(f) => facet_begins(unit, f),
+        None => false,
+    }
+}
