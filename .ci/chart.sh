@@ -116,9 +116,9 @@ stands_at() {
     tail -n 2 notes | cmp -s - wanted
 }
 
-no_place_of_what_isnt_drawn() {
-    "$chart" render dots.json >out 2>notes </dev/null
-    ! grep -q '^chart: at ' notes
+a_compiled_picture() {
+    "$chart" render dots.json >drawn 2>notes && "$chart" compile dots.json >dots-vega.json 2>notes \
+        && "$chart" render dots-vega.json >again 2>notes && grep -q '^<svg ' drawn && cmp -s drawn again
 }
 
 a_small_tree
@@ -146,12 +146,11 @@ fact "wrong words" ends 1 'chart: words' draw examples/three-bars.json
 fact "no such file" ends 2 'chart: missing no-such-file.json' render no-such-file.json
 fact "no JSON text" ends 3 'chart: json twice.json at 9' render twice.json
 fact "no specification" ends 4 'chart: spec wrong ' render list.json
-fact "no chart that is drawn" ends 4 'chart: spec unsupported ' render dots.json
+fact "a picture in Vega-Lite, and that of its Vega text" a_compiled_picture
 fact "where a fault of a specification stands" stands_at typo.json 3:40 'spec unsupported /transform/1/a~1é'
 fact "where a member is missing" stands_at no-data.json 1:28 'spec missing /hconcat/0/data'
 fact "where the whole is wrong" stands_at list.json 1:1 'spec wrong '
 fact "where a text is no JSON" stands_at list-fault.json 2:15 'json list-fault.json at 25'
-fact "no place of what isn't drawn" no_place_of_what_isnt_drawn
 
 echo "chart: $passed passed, $failed failed"
 [ "$failed" -eq 0 ]

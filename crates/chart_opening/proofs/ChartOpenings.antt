@@ -1,5 +1,5 @@
 -- What is opened keeps the rules of charts and of selections.
-use Rattle.std.proofs.Common.{◌≡◌, ℕ, ◌≤◌, Bool, true, false, List, length, Option, Some, None, Result, Ok, Err, refl, subst, nat_le, if◌then◌else◌}
+use Rattle.std.proofs.Common.{◌≡◌, ℕ, ◌≤◌, Bool, true, false, List, length, Option, Some, None, Result, Ok, Err, refl, subst, nat_le, if◌then◌else◌, ◌&&◌}
 use Rattle.std.specs.Result.{result_map_both}
 use Rattle.std.proofs.lemmas.Bool.{leb-true}
 use Rattle.fixed_num.proofs.Steps.{bind_ok, guarded}
@@ -10,8 +10,11 @@ use Rattle.vega_spec.specs.declared.spec.VgSpec.{VgSpec}
 use Rattle.vega_model.specs.Reading.{Refused, read_of}
 use Rattle.vl_spec.specs.declared.spec.VlSpec.{VlSpec}
 use Rattle.vl_model.specs.Reading as vl
-use Rattle.vega_copies.specs.Tested.{KeepsRules}
+use Rattle.vega_assemble.specs.Assembled.{assembled}
+use Rattle.vega_copies.specs.Tested.{keeps_rules, KeepsRules}
 use Rattle.vega_selections.specs.Kept.{KeepsSelections}
+use Rattle.selection_rules.specs.Tested.{keeps_selections}
+use Rattle.selection_rules.proofs.TestLemmas.{tested_are_kept}
 use Rattle.vega_standing.specs.Laws.{AcceptedKeepRules, AcceptedKeepSelections}
 use Rattle.first_form.specs.declared.form.FirstForm.{FirstForm}
 use Rattle.first_form.specs.FirstForm.{form_of}
@@ -24,7 +27,7 @@ use Rattle.chart_opening.specs.Files.{most_bytes, bytes_in, bytes_of, tree_in, t
 use Rattle.chart_opening.specs.Laws.{OpenedKeepRules}
 use Rattle.chart_opening.specs.Opening.{opening_by}
 use Rattle.chart_opening.specs.Schemas.{is_vega}
-use Rattle.chart_opening.specs.Specs.{vega_read, form_read, vl_read, spec_of, opened_with, opened_tree}
+use Rattle.chart_opening.specs.Specs.{not_drawn_yet, vega_read, if_kept, compiled_form, vl_read, spec_of, opened_with, opened_tree}
 use Rattle.chart_opening.specs.Texts.{Reading, IsRightFor, ReadsJson}
 use Rattle.chart_opening.specs.inner.Trees.{IsFileTree}
 
@@ -35,12 +38,25 @@ same x y e = cc
 abbrev Keeps : VgSpec → Type 0
 Keeps g = KeepsRules g × KeepsSelections g
 
-form_kept : (o : Option FirstForm) (g : VgSpec) → form_read o ≡ Ok g → Keeps g
-form_kept (Some form) g e = subst Keeps (same (bars_of form) g e) (bars_keep_rules form)
-form_kept None g e = absurd (cc e)
+-- a test that held
+tested : (b c : Bool) (h g : VgSpec) → (if b && c then Ok h else Err not_drawn_yet) ≡ Ok g → (b ≡ true) × (c ≡ true) × (h ≡ g)
+tested true true h g e = (refl, refl, same h g e)
+tested true false h g e = absurd (cc e)
+tested false c h g e = absurd (cc e)
+
+-- a compiled specification keeps them where the test holds
+compiled_kept : (h g : VgSpec) → if_kept h ≡ Ok g → Keeps g
+compiled_kept h g e =
+    let (rules, selections, is) = tested (keeps_rules h) (keeps_selections h) h g e in
+    subst Keeps is (rules, tested_are_kept h selections)
+
+form_kept : (s : VlSpec) (g : VgSpec) → compiled_form s ≡ Ok g → Keeps g
+unfolding compiled_form
+form_kept s g e = compiled_kept (assembled s) g e
 
 vl_kept : (r : Result VlSpec vl.Refused) (o : Option FirstForm) (g : VgSpec) → vl_read r o ≡ Ok g → Keeps g
-vl_kept (Ok s) o g e = form_kept o g e
+vl_kept (Ok s) (Some form) g e = subst Keeps (same (bars_of form) g e) (bars_keep_rules form)
+vl_kept (Ok s) None g e = form_kept s g e
 vl_kept (Err fault) o g e = absurd (cc e)
 
 module _ (rules : AcceptedKeepRules) (selections : AcceptedKeepSelections) (tree : Json) (g : VgSpec) (of : IsFileTree tree) where

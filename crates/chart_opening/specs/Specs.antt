@@ -1,5 +1,5 @@
 -- Which Vega specification a file says, and with which state it opens.
-use Rattle.std.specs.Prelude.{ℕ, Option, Some, None, List, [], Result, Ok, Err, if◌then◌else◌}
+use Rattle.std.specs.Prelude.{ℕ, Bool, ◌&&◌, Option, Some, None, List, [], Result, Ok, Err, if◌then◌else◌}
 use Rattle.fixed_num.specs.Steps.{◌>>=◌}
 use Rattle.json_exact.specs.declared.json.Json.{Json}
 use Rattle.json_exact.specs.declared.spec_error.SpecKind.TheVariants.{Unsupported}
@@ -8,6 +8,9 @@ use Rattle.vega_spec.specs.declared.spec.VgSpec.{VgSpec}
 use Rattle.vega_model.specs.Reading.{Refused, read_of}
 use Rattle.vl_spec.specs.declared.spec.VlSpec.{VlSpec}
 use Rattle.vl_model.specs.Reading as vl
+use Rattle.vega_assemble.specs.Assembled.{assembled}
+use Rattle.vega_copies.specs.Tested.{keeps_rules}
+use Rattle.selection_rules.specs.Tested.{keeps_selections}
 use Rattle.first_form.specs.declared.form.FirstForm.{FirstForm}
 use Rattle.first_form.specs.FirstForm.{form_of}
 use Rattle.first_form.specs.Opening.{bars_of}
@@ -28,14 +31,23 @@ abbrev pub vega_read : Result VgSpec Refused → Result VgSpec Refusal
 vega_read (Ok g) = Ok g
 vega_read (Err fault) = Err (refusal.Spec fault.1 fault.0)
 
--- the Vega specification of a chart of the first form
-abbrev pub form_read : Option FirstForm → Result VgSpec Refusal
-form_read (Some form) = Ok (bars_of form)
-form_read None = Err not_drawn_yet
+-- whether a specification keeps what charts ask: the rules of specifications and those of selections
+abbrev pub is_kept : VgSpec → Bool
+is_kept g = keeps_rules g && keeps_selections g
 
--- that of a Vega-Lite specification, as it is read: its first fault; else so far its chart is drawn where it is one of the first form
+-- a specification, where it keeps them
+abbrev pub if_kept : VgSpec → Result VgSpec Refusal
+if_kept g = if is_kept g then Ok g else Err not_drawn_yet
+
+-- the Vega specification to which a Vega-Lite specification is compiled, where it keeps them
+unfoldable pub compiled_form : VlSpec → Result VgSpec Refusal
+compiled_form s = if_kept (assembled s)
+
+-- The Vega specification of a Vega-Lite specification, as it is read: its first fault; else the bars of the first form where it is one; else that to
+-- which it is compiled. That the latter has the meaning of the Vega-Lite specification isn't said here, and isn't proved yet.
 abbrev pub vl_read : Result VlSpec vl.Refused → Option FirstForm → Result VgSpec Refusal
-vl_read (Ok s) form = form_read form
+vl_read (Ok s) (Some form) = Ok (bars_of form)
+vl_read (Ok s) None = compiled_form s
 vl_read (Err fault) form = Err (refusal.Spec fault.1 fault.0)
 
 -- the Vega specification that a Vega-Lite tree says, or its first fault

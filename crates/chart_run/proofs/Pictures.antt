@@ -22,23 +22,14 @@ use Rattle.chart_opening.specs.Texts.{Reading}
 use Rattle.chart_opening.specs.Files.{tree_of_file}
 use Rattle.chart_opening.specs.Schemas.{is_vega}
 use Rattle.chart_opening.specs.Opening.{opening_by}
-use Rattle.chart_opening.specs.Specs.{spec_of, vega_read, form_read, vl_read, vl_spec_of, opened_with, opened_by}
+use Rattle.chart_opening.specs.Specs.{spec_of, vega_read, vl_read, vl_spec_of, opened_with, opened_by}
 use Rattle.chart_opening.specs.Laws.{FormsOpen}
 use Rattle.chart_run.specs.Wanted.{opening_chart, form_chart}
 
--- a form that is read gives the specification of its bars
-pub form_is : (o : Option FirstForm) (g : VgSpec) → form_read o ≡ Ok g → (form : FirstForm) × (o ≡ Some form) × (bars_of form ≡ g)
-form_is (Some form) g e = (form, refl, same e)
-  where
-    same : form_read (Some form) ≡ Ok g → bars_of form ≡ g
-    same e = cc
-form_is None g e = absurd cc
-
--- a Vega-Lite specification that is drawn is that of a form
-pub vl_form_is : (r : Result VlSpec vl.Refused) (o : Option FirstForm) (g : VgSpec) → vl_read r o ≡ Ok g
-    → (form : FirstForm) × (o ≡ Some form) × (bars_of form ≡ g)
-vl_form_is (Ok s) o g e = form_is o g e
-vl_form_is (Err fault) o g e = absurd cc
+-- a Vega-Lite specification of the first form gives the specification of its bars
+pub form_bars : (r : Result VlSpec vl.Refused) (form : FirstForm) (g : VgSpec) → vl_read r (Some form) ≡ Ok g → bars_of form ≡ g
+form_bars (Ok s) form g e = cc
+form_bars (Err fault) form g e = absurd cc
 
 -- what is not refused
 abbrev pub accepted : {A : Type 0} → A → Result A Refusal
@@ -58,17 +49,21 @@ module _ (drawable : FormsAreDrawable) (same_chart : VegaChartIsTheChart) (forms
       let states : state ≡ opening_of form = accepted_is state (opening_of form) same in
       sym (accepted_is _ opened after) ∙ ap (λ (s : ChartState). record { spec = bars_of form; state = s }) states
 
-  chart_here : (vega : Bool) (tree : Json) (g : VgSpec) (opened : Opened)
-      → (if vega then vega_read (read_of tree) else vl_spec_of tree) ≡ Ok g → opened_with reading files g ≡ Ok opened
-      → (if vega then vega_chart_of opened.spec (state_of opened.state) else form_chart (form_of tree))
-      ≡ vega_chart_of opened.spec (state_of opened.state)
-  chart_here true tree g opened e after = refl
-  chart_here false tree g opened e after =
-      let (form, said, bars) = vl_form_is (vl.read_of tree) (form_of tree) g e in
+  by_form : (o : Option FirstForm) (tree : Json) (g : VgSpec) (opened : Opened) → form_of tree ≡ o → vl_read (vl.read_of tree) o ≡ Ok g
+      → opened_with reading files g ≡ Ok opened → form_chart o opened ≡ vega_chart_of opened.spec (state_of opened.state)
+  by_form None tree g opened said e after = refl
+  by_form (Some form) tree g opened said e after =
       let is = drawable tree form said in
       let at : VgSpec → Type 0 = λ spec. opened_with reading files spec ≡ Ok opened in
-      let whole = form_opened form opened is (subst at (sym bars) after) in
-      ap form_chart said ∙ sym (same_chart form is) ∙ ap (λ (o : Opened). vega_chart_of o.spec (state_of o.state)) (sym whole)
+      let whole = form_opened form opened is (subst at (sym (form_bars (vl.read_of tree) form g e)) after) in
+      sym (same_chart form is) ∙ ap (λ (o : Opened). vega_chart_of o.spec (state_of o.state)) (sym whole)
+
+  chart_here : (vega : Bool) (tree : Json) (g : VgSpec) (opened : Opened)
+      → (if vega then vega_read (read_of tree) else vl_spec_of tree) ≡ Ok g → opened_with reading files g ≡ Ok opened
+      → (if vega then vega_chart_of opened.spec (state_of opened.state) else form_chart (form_of tree) opened)
+      ≡ vega_chart_of opened.spec (state_of opened.state)
+  chart_here true tree g opened e after = refl
+  chart_here false tree g opened e after = by_form (form_of tree) tree g opened refl e after
 
   pub picture_is : (name : List ℕ) (opened : Opened) → opened_by reading files name ≡ Ok opened
       → (tree : Json) × (tree_of_file reading files name ≡ Ok tree)

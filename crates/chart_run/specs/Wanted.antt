@@ -4,7 +4,7 @@ use Rattle.chart_io.specs.Outside.{Files, Appended, AppendedPrefix}
 use Rattle.json_exact.specs.declared.json.Json.{Json}
 use Rattle.json_exact.specs.Writing.{text_of}
 use Rattle.cell_value.specs.State.{State, state_of}
-use Rattle.scene_tree.specs.Outcome.{Outcome, Drawn, Overflow}
+use Rattle.scene_tree.specs.Outcome.{Outcome, Drawn}
 use Rattle.vega_writing.specs.Spec.{tree_of}
 use Rattle.vega_meaning.specs.Charts.{vega_chart_of}
 use Rattle.vega_meaning.specs.Semantics.{IsVegaReply, IsVegaOutput}
@@ -20,22 +20,23 @@ use Rattle.chart_opening.specs.Schemas.{is_vega}
 use Rattle.chart_run.specs.Words.{Ask, Render, Play, Compile, reads_script}
 use Rattle.chart_run.specs.Refusals.{opened_for}
 
--- the chart of a form, if there is one
-abbrev pub form_chart : Option FirstForm → Outcome (List ℕ)
-form_chart (Some form) = chart_of form
-form_chart None = Overflow
+-- The opening chart of a Vega-Lite specification: that of the first form, which knows nothing of Vega; else the Vega chart of the specification to
+-- which it is compiled. That the latter is the chart that the Vega-Lite specification means isn't proved yet.
+abbrev pub form_chart : Option FirstForm → Opened → Outcome (List ℕ)
+form_chart (Some form) opened = chart_of form
+form_chart None opened = vega_chart_of opened.spec (state_of opened.state)
 
--- The opening chart of a tree: that of its Vega specification in the opening state where it says that it is one, else the chart of the
--- first form, which knows nothing of Vega.
+-- the opening chart of a tree: that of its Vega specification in the opening state where it says that it is one, else that of a Vega-Lite specification
 abbrev pub opening_chart : Json → Opened → Outcome (List ℕ)
-opening_chart tree opened = if is_vega tree then vega_chart_of opened.spec (state_of opened.state) else form_chart (form_of tree)
+opening_chart tree opened = if is_vega tree then vega_chart_of opened.spec (state_of opened.state) else form_chart (form_of tree) opened
 
 -- the text of a Vega specification, and a line feed
 abbrev pub vega_text : Opened → List ℕ
 vega_text opened = text_of (tree_of opened.spec) ++ 10 ∷ []
 
 -- The text is the output of the script from the opening state, and these are the notes. A print is replied to with the Vega chart of
--- the state of that moment, which in the opening state of a chart of the first form is the chart of the form.
+-- the state of that moment, for a Vega-Lite specification that of the specification to which it is compiled. In the opening state of a chart of the
+-- first form that is the chart of the form.
 abbrev pub IsOutputFrom : Opened → List ℕ → List ℕ → Type 0
 IsOutputFrom opened script text = (notes : List ℕ) × (now : State) × IsVegaOutput opened.spec (state_of opened.state) script text notes now
 

@@ -10,6 +10,6 @@ mod running;
 mod stop;
 mod words;
 
-pub use laws::compiled_opens_alike;
+pub use laws::{compiled_opens_alike, forms_open_alike};
 pub use running::run;
 pub use stop::{Stop, refusal_line, refusal_status};

@@ -57,8 +57,8 @@ fn ended<N: Sink>(alloc: Global, done: Result<(), Stop>, notes: &mut N) -> u8
 }
 
 /// Does what the words after the program's name ask, and gives the status that the program ends with: 0 done (for `play`, the script was
-/// read to its end), 1 no form of words, 2 no such file, 3 no JSON text, 4 a fault of a specification or one of Vega-Lite that isn't drawn
-/// yet, 5 a bad row of opening data, 6 a number of the opening chart out of range, 7 the folder or the script could not be read, 8 the output
+/// read to its end), 1 no form of words, 2 no such file, 3 no JSON text, 4 a fault of a specification or one of Vega-Lite whose compiled form
+/// isn't drawn, 5 a bad row of opening data, 6 a number of the opening chart out of range, 7 the folder or the script could not be read, 8 the output
 /// could not be written, 9 memory was refused, 10 a file has more than 16,777,216 bytes, there are more than 200,000 opening rows, or more than
 /// 268,435,456 bytes of the script were taken, 11 more than 400 plots of the opening chart stand in facets.
 pub fn chart_main<F: Folder, S: Source, K: Sink, N: Sink>(

@@ -1,6 +1,5 @@
-use Rattle.chart_opening.proofs.FormOpenings.{form_opens}
 use Rattle.chart_run.proofs.Alike.{compiled_opens_alike}
 use Rattle.chart_run.proofs.laws.compiled_opens_alike.Goals as goal
 
 pub returns : goal.returns
-returns c = compiled_opens_alike form_opens
+returns c = compiled_opens_alike
