@@ -2,7 +2,9 @@
 """Replays the cases of cases/ on the built program, many at once: python3 .ci/cases.py [PROGRAM [FILE..]].
 
 A file of cases is a description, parts that all of its cases share, and cases. `=== NAME` begins a case, `--- HEAD` a part:
-- `--- $ COMMAND` is run by sh, `chart` being the program: its lines behind `> ` are its standard input, the others what it has to write;
+- `--- $ COMMAND` is run by sh, `chart` being the program: its lines behind `> ` are its standard input, the others what it has to write.
+  `both render s.json` and `both play s.json` are for Vega-Lite: they do the same, and then again over the Vega text to which the file is compiled,
+  and say so where output, notes or status differ;
 - `--- ends with N` gives the status and the standard error of the command above; without it these are 0 and nothing;
 - `--- @NAME` is a text that stands in the files where they say @NAME;
 - any other HEAD is the name of a file, `(no line feed at its end)` behind it said where that is so.
@@ -15,6 +17,20 @@ TOP = os.path.dirname(os.path.dirname(os.path.abspath(__file__)))
 BARE = b" (no line feed at its end)"
 # a command has at most 2,000,000 KiB
 LIMITS = b"ulimit -v 2000000\n"
+WORDS = rb"""chart() { "$PROGRAM" "$@"; }
+both() {
+    cat >.typed
+    chart "$1" "$2" <.typed >.first 2>.said
+    status=$?
+    cat .first
+    cat .said >&2
+    : >.second
+    chart compile "$2" >.compiled.json 2>.said-again && chart "$1" .compiled.json <.typed >.second 2>.said-again
+    again=$?
+    [ $again -eq $status ] && cmp -s .first .second && cmp -s .said .said-again || echo "the compiled text does otherwise: status $again"
+    return $status
+}
+"""
 
 
 class Part:
@@ -68,7 +84,7 @@ def run(part, ends, room, env):
     status, notes = 0, b""
     if ends:
         status, notes = int(ends.head.removeprefix(b"ends with ")), ends.text()
-    words = LIMITS + b'chart() { "$PROGRAM" "$@"; }\n' + part.head[2:]
+    words = LIMITS + WORDS + part.head[2:]
     pipe = subprocess.PIPE
     ran = subprocess.Popen(["sh", "-c", words], cwd=room, env=env, stdin=pipe, stdout=pipe, stderr=pipe, start_new_session=True)
     try:

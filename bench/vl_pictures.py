@@ -1,23 +1,28 @@
 #!/usr/bin/env python3
 """Draws small Vega-Lite specifications straight from their rules, apart from the program and from its definitions.
 
-Usage: bench/vl_pictures.py FILE.., each a Vega-Lite specification whose rows stand in it; prints the picture of each, `Overflow`, or
-`Panels` with their count. bench/vl_random.py makes small specifications at random.
+Usage: bench/vl_pictures.py FILE.., at the top of the repository. Of a Vega-Lite specification it prints the picture, `Overflow`, or `Panels`
+with their count, and of NAME.script what its lines are answered over NAME.json. Without words it compares those of examples/vega-lite with what is
+stored beside them. bench/vl_random.py makes small specifications at random.
 
 It takes units, layers, facets in facets and joined views, all marks and channels, types, bins, units of time, aggregates, stacks, sorts,
-scales, axes, legends, conditions, parameters, selections that keep nothing yet, and filters, folds and calculations. There is no plan here: views are
+scales, axes, legends, conditions, parameters, selections with their clicks, drags and brushes, and all transforms. There is no plan here: views are
 walked copy by copy, scales are made where they are used, and rows are dictionaries. Expressions, instants, aggregates, stacks, ticks, axes
 and legends are those of bench/gallery_pictures.py and bench/guide_tests.py.
 """
+import glob
 import itertools
 import json
 import math
+import re
 import sys
 from dataclasses import dataclass, field
 from fractions import Fraction as F
 
 from gallery_pictures import (
-    FIRST, LAST, Overflow, binned, given, in_range, instant, row_of_json, stacked, time_label, time_unit, times, truthy, value_of)
+    FIRST, LAST, MOST, NoReading, Overflow, binned, given, in_range, instant, listed, read_as_expression, row_of_json, rows_of_source, stacked,
+    time_label, time_unit, times, truthy, value_of)
+from gallery_pictures import transformed as vega_transformed
 from guide_tests import Scale, axis_answer, by_number_format, cut, display, is_number, is_number_format, legend_answer, near, root, said, step
 from mark_pictures import CATEGORY, SHAPES, line_of, lines_in, painted, pairs, path, rank
 
@@ -57,6 +62,16 @@ class View:
     round: list = field(default_factory=list)
 
 
+def with_plain_names(it, member=None):
+    """A part of a specification in which no name of a field is written with an escape."""
+    if isinstance(it, dict):
+        return {k: v if k == "values" else with_plain_names(v, k) for k, v in it.items()}
+    if isinstance(it, list):
+        return [with_plain_names(v, member) for v in it]
+    of_fields = isinstance(it, str) and member in ("field", "fields", "groupby", "fold", "key", "lookup", "stack")
+    return re.sub(r"\\([.\[\]])", r"\1", it) if of_fields else it
+
+
 HEAD = ("title", "name", "data", "transform", "resolve")
 
 
@@ -69,7 +84,7 @@ def normal(spec, outer):
         f = spec["facet"]
         fields = [("facet", f)] if not {"row", "column"} & set(f) else [(c, f[c]) for c in ("row", "column") if c in f]
         return View("facet", spec, [normal(spec["spec"], {})], fields)
-    encoding = outer | spec.get("encoding", {})
+    encoding = {c: d for c, d in (outer | spec.get("encoding", {})).items() if c != "tooltip"}
     if "layer" in spec:
         return View("layer", spec, [normal(s, encoding) for s in spec["layer"]])
     heads = [(c, encoding[c]) for c in ("row", "column") if c in encoding] or [(c, encoding[c]) for c in ("facet",) if c in encoding]
@@ -240,6 +255,51 @@ def has_said_stack(unit):
     return stack_of(unit) is not None and "stack" in d
 
 
+# ---- selections
+
+
+@dataclass
+class Store:
+    """What a selection keeps: cells of fields, or ends along channels; and the panel in which it was last changed."""
+
+    tuples: list = field(default_factory=list)
+    extents: list = field(default_factory=list)
+    cells: tuple = None
+    unit: int = 0
+
+    def is_empty(self):
+        return not self.tuples and not self.extents
+
+    def holds(self, row):
+        if self.extents:
+            at = [(instant(c) if of_time and isinstance(c := row.get(name), str) else row.get(name), lo, hi) for _, name, of_time, lo, hi in self.extents]
+            return all(is_number(c) and lo <= c <= hi for c, lo, hi in at)
+        return any(all(same(row.get(name), c) for name, c in t.items()) for t in self.tuples)
+
+
+@dataclass
+class Selection:
+    """A parameter with `select`, and the units that it concerns."""
+
+    name: str
+    kind: str
+    said: dict
+    units: list
+
+    def fields(self, unit):
+        """The names of the cells that a click on a unit keeps."""
+        if self.said.get("fields"):
+            return self.said["fields"]
+        if self.said.get("encodings"):
+            return [names_of(c, definitions(unit, c)[0])[0] for c in self.said["encodings"]]
+        if is_aggregated(unit):
+            return [n for c, d in shown(unit) if "aggregate" not in d for n in names_of(c, d)]
+        return ["_vgsid_"]
+
+    def channels(self):
+        return self.said.get("encodings") or list(PLACES)
+
+
 # ---- rows
 
 
@@ -253,9 +313,15 @@ def filtered_by(f, row, values):
     if "not" in f:
         return not filtered_by(f["not"], row, values)
     if "param" in f:
-        # a selection keeps nothing so far, and then selects all unless `empty` is false
-        return truthy(values[f["param"]]) if f["param"] in values else f.get("empty", True)
+        held = values[f["param"]]
+        if not isinstance(held, Store):
+            return truthy(held)
+        return f.get("empty", True) if held.is_empty() else held.holds(row)
     cell = row.get(f["field"])
+    if "timeUnit" in f:
+        cell = time_unit(cell, f["timeUnit"])[0]
+        moment = lambda c: instant(c) if isinstance(c, str) else c
+        f = {k: v if k in ("field", "valid") else [moment(c) for c in v] if isinstance(v, list) else moment(v) for k, v in f.items() if k != "timeUnit"}
     same_kind = lambda a: is_number(a) and is_number(cell) or isinstance(a, str) and isinstance(cell, str)
     if "equal" in f:
         return same(cell, f["equal"])
@@ -318,15 +384,47 @@ def scale_with(kind_, numbers, domain=(), entries=()):
     return s
 
 
-def transformed(t, rows, values):
+def two_names(t):
+    return t["as"] if isinstance(t["as"], list) else [t["as"], t["as"] + "_end"]
+
+
+def columns_of(operations):
+    """The members of Vega's transforms for a list of operations."""
+    return {"ops": [o["op"] for o in operations], "fields": [o.get("field") for o in operations], "as": [o["as"] for o in operations],
+            "params": [o.get("param") for o in operations]}
+
+
+def sorted_as(t):
+    sort = t.get("sort", [])
+    return {"sort": {"field": [s["field"] for s in sort], "order": [s.get("order", "ascending") for s in sort]}} if sort else {}
+
+
+def transformed(t, rows, values, rows_of_data):
+    """The rows after a transform; `rows_of_data` gives those of the data of a lookup."""
     if "filter" in t:
         return [row for row in rows if filtered_by(t["filter"], row, values)]
     if "calculate" in t:
         return [row | {t["as"]: value_of(t["calculate"], row, values)} for row in rows]
-    if "fold" in t:
-        key, value = t.get("as", ["key", "value"])
-        return [row | {key: name, value: row.get(name)} for row in rows for name in t["fold"]]
-    raise NotImplementedError(t)
+    if "bin" in t:
+        settings = t["bin"] if isinstance(t["bin"], dict) else {}
+        return binned({"field": t["field"], "extent": {"signal": "null"}, "as": two_names(t)} | settings, rows, {})
+    if "timeUnit" in t:
+        return [row | dict(zip(two_names(t), time_unit(row.get(t["field"]), t["timeUnit"]))) for row in rows]
+    groups = {"groupby": t["groupby"]} if "groupby" in t else {}
+    if "stack" in t:
+        return stacked({"field": t["stack"], "as": two_names(t), "offset": t.get("offset", "zero")} | groups | sorted_as(t), rows)
+    for name in ("aggregate", "joinaggregate", "window"):
+        if name in t:
+            more = {k: t[k] for k in ("frame", "ignorePeers") if k in t}
+            return vega_transformed({"type": name} | columns_of(t[name]) | groups | sorted_as(t) | more, rows, {}, values)
+    if "lookup" in t:
+        of = t["from"]
+        names = t.get("as", of["fields"])
+        found = {"type": "lookup", "from": 0, "key": of["key"], "fields": [t["lookup"]], "values": of["fields"],
+                 "as": names if isinstance(names, list) else [names], "default": t.get("default")}
+        return vega_transformed(found, rows, {0: rows_of_data(of["data"])}, values)
+    key, value = t.get("as", ["key", "value"])
+    return [row | {key: name, value: row.get(name)} for row in rows for name in t["fold"]]
 
 
 def cells_named(rows, fields):
@@ -336,16 +434,15 @@ def cells_named(rows, fields):
     return parts
 
 
-def rows_of(unit, source, values):
+def rows_of(unit, source, values, rows_of_data):
     """The rows of a unit, and those before its aggregate."""
     rows = source
     for v in unit.round:
         for t in v.spec.get("transform", []):
-            rows = transformed(t, rows, values)
-    for c in unit.encoding:
-        for d in definitions(unit, c):
-            if "field" in d and (type_in(unit, c, d) == "temporal" or "timeUnit" in d):
-                rows = [row | {d["field"]: instant(v) if isinstance(v := row.get(d["field"]), str) else v} for row in rows]
+            rows = transformed(t, rows, values, rows_of_data)
+    for c, d in [(c, d) for c in unit.encoding for d in definitions(unit, c)] + [(c, d) for v in unit.round if v.kind == "facet" for c, d in v.fields]:
+        if "field" in d and (type_in(unit, c, d) == "temporal" or "timeUnit" in d):
+            rows = [row | {d["field"]: instant(v) if isinstance(v := row.get(d["field"]), str) else v} for row in rows]
     for c, d in shown(unit):
         if is_binned(d):
             rows = binned({"field": d["field"], "extent": {"signal": "null"}, "as": names_of(c, d)} | bin_settings(c, d)[1], rows, {})
@@ -426,28 +523,67 @@ class Copy:
     held: dict = field(default_factory=dict)
 
 
+def datas_in(view):
+    """The data of a view and of the views in it, in the order of the text."""
+    for name, member in view.items():
+        if name == "data":
+            yield member
+        elif name == "transform":
+            yield from (t["from"]["data"] for t in member if "lookup" in t)
+        elif name in ("layer", "hconcat", "vconcat", "concat"):
+            for inner in member:
+                yield from datas_in(inner)
+        elif name == "spec":
+            yield from datas_in(member)
+
+
+def names_of_data(spec):
+    """The name of each data, by its identity, in the order of the text."""
+    unnamed = itertools.count()
+    return {id(d): d["name"] if "name" in d else f"source_{next(unnamed)}" for d in datas_in(spec)}
+
+
+def rows_given(spec):
+    """The rows with which each source begins: those of the data of its name, of a dataset, or none."""
+    names = names_of_data(spec)
+    with_rows = {names[id(d)]: d for d in datas_in(spec) if "values" in d or "url" in d}
+    ids, found = itertools.count(1), {}
+    for data in datas_in(spec):
+        name = names[id(data)]
+        if name not in found:
+            of = with_rows.get(name, {"values": spec.get("datasets", {}).get(name, []), "format": data.get("format", {})})
+            kind_ = {"type": "csv" if of.get("url", "").endswith(".csv") else "json"}
+            found[name] = [row | {"_vgsid_": F(next(ids))} for row in rows_of_source(of | {"format": kind_ | of.get("format", {})})]
+    return found, next(ids)
+
+
 class Chart:
-    def __init__(self, spec):
+    def __init__(self, spec, rows=None, given_=None, stores=None):
         self.spec = spec
         self.top = normal(spec, {})
         self.units, self.facets = [], []
         walk(self.top, [], self.units, self.facets)
-        self.sources = self.rows_given()
+        self.names = names_of_data(spec)
+        self.sources = rows_given(spec)[0] if rows is None else rows
         self.lost = False
-        self.values = self.parameters()
+        views = list({id(v): v for u in self.units for v in u.round}.values())
+        self.listed = [(v, p) for v in views for p in v.spec.get("params", [])]
+        self.selections = self.selecting(views)
+        self.values = self.parameters(given_ or {}) | {s.name: (stores or {}).get(s.name, Store()) for s in self.selections}
 
-    def rows_given(self):
-        ids, found = itertools.count(1), {}
-        for v in [self.top] + [v for u in self.units for v in u.round]:
-            data = v.spec.get("data")
-            if data and "values" in data and id(data) not in found:
-                found[id(data)] = [row_of_json(o) | {"_vgsid_": F(next(ids))} for o in data["values"]]
+    def selecting(self, views):
+        found = []
+        for v, p in self.listed:
+            if "select" in p:
+                said_ = p["select"] if isinstance(p["select"], dict) else {"type": p["select"]}
+                concerned = v.units if "views" not in p else [u for w in views if w.spec.get("name") in p["views"] for u in w.units]
+                found.append(Selection(p["name"], said_["type"], said_, sorted({u.number for u in concerned})))
         return found
 
-    def parameters(self):
+    def parameters(self, given_):
         """The values of parameters; a computed one is worked out once those that it may need are."""
-        listed_ = [p for v in {id(v): v for u in self.units for v in u.round}.values() for p in v.spec.get("params", [])]
-        values = {p["name"]: p.get("value") for p in listed_ if "expr" not in p and "select" not in p}
+        listed_ = [p for _, p in self.listed]
+        values = {p["name"]: given_.get(p["name"], p.get("value")) for p in listed_ if "expr" not in p and "select" not in p}
         for _ in listed_:
             for p in listed_:
                 if "expr" in p:
@@ -458,8 +594,10 @@ class Chart:
         return values
 
     def source_of(self, unit):
-        data = next(v.spec["data"] for v in reversed(unit.round) if "data" in v.spec)
-        return self.sources[id(data)]
+        return self.rows_of_data(next(v.spec["data"] for v in reversed(unit.round) if "data" in v.spec))
+
+    def rows_of_data(self, data):
+        return self.sources[self.names[id(data)]]
 
     # -- sharing
 
@@ -534,6 +672,11 @@ class Chart:
         copy = self.whole if holder is None else copy.held[holder.number]
         kind_ = self.kind(units, channel)
         given_ = self.member(units, channel, "domain")
+        if isinstance(given_, dict):
+            dragged = self.dragged(given_)
+            if dragged is not None and kind_ in ("linear", "time", "ramp", "timeramp"):
+                return dragged
+            given_ = None
         if kind_ in ("linear", "time", "ramp", "timeramp"):
             of_time = kind_ in ("time", "timeramp")
             cells = self.cells(units, channel, True, copy) if given_ is None else given_
@@ -549,6 +692,12 @@ class Chart:
             return ordered(cells, "ascending", None)
         u, _, d = deciding
         return ordered(cells, d["sort"], lambda cell: self.rank_in(copy.begun[u.number], u, channel, d, cell))
+
+    def dragged(self, asked):
+        """The ends that an interval keeps along a channel, or along its first."""
+        held = self.values.get(asked["param"])
+        ends = [(lo, hi) for c, _, _, lo, hi in held.extents if asked.get("encoding", c) == c] if isinstance(held, Store) else []
+        return ends[0] if ends else None
 
     def rank_in(self, rows, unit, channel, d, cell):
         if "aggregate" in d or not is_field(d):
@@ -644,8 +793,12 @@ class Chart:
         asked = next((v.spec[name] for v in views if name in v.spec and not (continuous and isinstance(v.spec[name], dict))), None)
         if asked is not None and not isinstance(asked, dict):
             return F(asked)
+        view = self.spec.get("config", {}).get("view", {})
         if continuous:
-            return F(200)
+            return F(view.get("continuous" + name.capitalize(), 200))
+        by_cells = view.get("discrete" + name.capitalize())
+        if asked is None and by_cells is not None and not isinstance(by_cells, dict):
+            return F(by_cells)
         kind_, (inner, outer), count = (*self.absent(unit, channel), 1) if not units else (self.kind(units, channel), (F(0), F(0)), 0)
         if units:
             inner, outer = self.paddings(units, channel, kind_)
@@ -653,7 +806,8 @@ class Chart:
         if kind_ == "point":
             inner, outer = F(1), outer if units else F(1, 2)
         space = F(0) if count == 0 else max(count - inner + 2 * outer, 0) or F(1)
-        return min(LARGEST, in_range(near((asked["step"] if asked else F(20)) * space)))
+        by_step = asked or by_cells or {"step": view.get("step", F(20))}
+        return min(LARGEST, in_range(near(F(by_step["step"]) * space)))
 
 
 # ---- marks
@@ -729,7 +883,7 @@ class Here:
             return self.at(channel, row.get(self.stack[0] + "_end"), "centre")
         if with_middle and is_binned(d) and self.scale(channel).kind in ("linear", "time"):
             a, b = (row.get(n) for n in names_of(channel, d))
-            return self.at(channel, in_range(near(in_range(a + b) / 2)) if is_number(a) and is_number(b) else None)
+            return self.at(channel, near((a + b) / 2) if is_number(a) and is_number(b) else None)
         return self.at(channel, self.cell(channel, d, row), "centre")
 
     def about(self, at, size):
@@ -882,15 +1036,16 @@ class Here:
         return "rect" + pairs(x=min(x), y=min(y), width=reach(abs(x[1] - x[0])), height=reach(abs(y[1] - y[0])))
 
     def items(self):
+        """The items, each with its row where it can be clicked on."""
         rows = self.copy.rows[self.unit.number]
         if self.type in ("line", "area"):
-            yield from self.paths(rows)
+            yield from ((line, None) for line in self.paths(rows))
             return
         for row in rows:
             found, look = self.shape(row), self.look(row)
             words = self.words(row) if self.type == "text" else None
             if found is not None and look is not None and look[3] is not None:
-                yield painted(found, *look, words)
+                yield painted(found, *look, words), None if self.type in ("text", "rule") else row
 
     def paths(self, rows):
         d = self.own(dimension(self.unit))
@@ -1051,6 +1206,17 @@ def legends_at(chart, holder, copy):
 
 
 @dataclass
+class Plot:
+    """A plot as it is drawn: its view and copy, its size, and its items that can be clicked on, each with its unit and row."""
+
+    view: View
+    copy: Copy
+    width: F
+    height: F
+    items: list
+
+
+@dataclass
 class Box:
     """How far a view reaches round its corner, and its panels and legends."""
 
@@ -1070,7 +1236,8 @@ def centred(words, x, y):
 def plot_box(chart, plot, copy):
     width, height = chart.size(plot, "x", copy), chart.size(plot, "y", copy)
     guides, e = axes_in(chart, plot, width, height, copy)
-    items = [line for u in plot.units for line in Here(chart, u, width, height, copy).items()]
+    items = [(line, u, row) for u in plot.units for line, row in Here(chart, u, width, height, copy).items()]
+    here = Plot(plot, copy, width, height, [(line, u, row) for line, u, row in items if row is not None])
     headers = []
     for beside, words in copy.headers:
         if beside:
@@ -1080,11 +1247,11 @@ def plot_box(chart, plot, copy):
         headers.append(line_of(f"text {place} middle 10 plain {words} #000 none 1 1"))
         e[side] += 15
     title = next((v.spec["title"] for v in titled(plot) if "title" in v.spec), None)
-    lines = headers + guides + items
+    lines = headers + guides + [line for line, _, _ in items]
     if title is not None:
         lines = [centred(title, near(width / 2), -(e["top"] + 10))] + lines
         e["top"] += 23
-    return Box(e["left"], e["top"], width + e["right"], height + e["bottom"], [(F(0), F(0), lines)], [], True)
+    return Box(e["left"], e["top"], width + e["right"], height + e["bottom"], [(F(0), F(0), lines, here)], [], True)
 
 
 def titled(plot):
@@ -1106,11 +1273,11 @@ def grid_box(cells, columns, spacing, title):
         row = cells[k:k + columns]
         y += max(c.top for c in row)
         for at, c in zip(xs, row):
-            panels += [(at + dx, y + dy, lines) for dx, dy, lines in c.panels]
+            panels += [(at + dx, y + dy, lines, here) for dx, dy, lines, here in c.panels]
         y += max(c.bottom for c in row) + spacing
     across, down = (x - spacing, y - spacing) if cells else (F(0), above)
     if title is not None:
-        panels.insert(0, (F(0), F(0), [centred(title, near(across / 2), F(13))]))
+        panels.insert(0, (F(0), F(0), [centred(title, near(across / 2), F(13))], None))
     return Box(F(0), F(0), across, down, panels, [g for c in cells for g in c.legends], any(c.has_plot for c in cells))
 
 
@@ -1190,13 +1357,13 @@ def scales_of(chart):
                 yield None, channel, u, chart.holder(u, channel)
 
 
-def picture_of(spec):
-    """The lines of the picture of a specification."""
-    chart = Chart(spec)
+def panels_of(chart):
+    """The panels of a chart, each with its corner, its lines and its plot, and the size of the picture."""
+    spec = chart.spec
     mentioned = [t for v in {id(v): v for u in chart.units for v in u.round}.values() for t in v.spec.get("transform", [])]
     if chart.lost and any("lost" in json.dumps(t, default=str) for t in mentioned):
         raise Overflow
-    found = [rows_of(u, chart.source_of(u), chart.values) for u in chart.units]
+    found = [rows_of(u, chart.source_of(u), chart.values, chart.rows_of_data) for u in chart.units]
     whole = chart.whole = Copy({i: rows for i, (rows, _) in enumerate(found)}, {i: begun for i, (_, begun) in enumerate(found)})
     for f in chart.facets:
         facet_cells(chart, f, whole, whole)
@@ -1211,14 +1378,39 @@ def picture_of(spec):
     box = box_of(chart, chart.top, whole, whole)
     legends = (list(legends_at(chart, None, whole)) if box.has_plot else []) + box.legends
     padding = F(spec.get("padding", 5))
-    panels = [(padding + box.left + x, padding + box.top + y, lines) for x, y, lines in box.panels]
+    panels = [(padding + box.left + x, padding + box.top + y, lines, here) for x, y, lines, here in box.panels]
     across, down = box.left + box.right, box.top + box.bottom
     top, reach_, lower = F(0), across, down
     for _, w, h, lines in sorted(legends, key=lambda g: g[0]):
-        panels.append((padding + across + 18, padding + top, lines))
+        panels.append((padding + across + 18, padding + top, lines, None))
         reach_, lower, top = max(reach_, across + 18 + w), max(lower, top + h), top + h + 18
-    yield f"S({said(cut(reach_ + 2 * padding))},{said(cut(lower + 2 * padding))})"
-    for x, y, lines in panels:
+    for s in chart.selections:
+        for _, _, lines, here in panels:
+            if here is not None and brush_in(chart, s, here):
+                lines.append(brush_in(chart, s, here))
+                break
+    return panels, cut(reach_ + 2 * padding), cut(lower + 2 * padding)
+
+
+def brush_in(chart, selection, here):
+    """The brush of a selection where it stands in this plot."""
+    held = chart.values[selection.name]
+    if not held.extents or held.cells != here.copy.cells or held.unit not in [u.number for u in here.view.units]:
+        return None
+    unit, spans = chart.units[held.unit], {"x": (F(0), here.width), "y": (F(0), here.height)}
+    for channel, _, _, lo, hi in held.extents:
+        s, size = chart.scale(unit, channel, here.width, here.height, here.copy), spans[channel][1]
+        a, b = sorted(min(max(reach(s.place(v)), F(0)), size) for v in (lo, hi))
+        spans[channel] = a, b - a
+    (x, width), (y, height) = spans["x"], spans["y"]
+    return painted("rect" + pairs(x=x, y=y, width=width, height=height), "#333", None, F(1), F(1, 8))
+
+
+def picture_of(spec, *state):
+    """The lines of the picture of a specification, as it opens or in a state."""
+    panels, across, down = panels_of(Chart(with_plain_names(spec), *state))
+    yield f"S({said(across)},{said(down)})"
+    for x, y, lines, _ in panels:
         yield f'<g transform="translate({said(cut(x))},{said(cut(y))})">'
         yield from lines
         yield "</g>"
@@ -1233,10 +1425,211 @@ def answer_of(spec):
         return f"Panels[{e.args[0]}]"
 
 
+def svg_of(lines):
+    """The text of a picture."""
+    first, *rest = lines
+    across, down = first.removeprefix("S(").removesuffix(")").split(",")
+    head = f'<svg xmlns="http://www.w3.org/2000/svg" version="1.1" width="{across}" height="{down}" viewBox="0 0 {across} {down}">'
+    return "\n".join([head, *rest, "</svg>", ""])
+
+
+# ---- scripts
+
+
+def is_hit(line, x, y):
+    """Whether an item, of which this is the line, is at a point."""
+    read = lambda name: F(re.search(rf' {name}="([^"]*)"', line)[1])
+    if line.startswith("<circle"):
+        return (x - read("cx")) ** 2 + (y - read("cy")) ** 2 <= read("r") ** 2
+    if line.startswith("<rect"):
+        return read("x") <= x <= read("x") + read("width") and read("y") <= y <= read("y") + read("height")
+    points = [tuple(map(F, p.split(","))) for p in re.findall(r"[ML](\S+,\S+?)(?=[ \"Z])", line)]
+    left, right = min(p[0] for p in points), max(p[0] for p in points)
+    middle, r = (left + right) / 2, (right - left) / 2
+    level = sum((min(p[1] for p in points), max(p[1] for p in points))) / 2
+    return abs(x - middle) <= r and abs(y - level) <= r
+
+
+class Live:
+    """A specification whose rows, parameters and selections change."""
+
+    def __init__(self, spec):
+        self.spec, self.given, self.stores = with_plain_names(spec), {}, {}
+        self.rows, self.ids = rows_given(self.spec)
+
+    def chart(self):
+        return Chart(self.spec, self.rows, self.given, self.stores)
+
+    def picture(self):
+        return svg_of(picture_of(self.spec, self.rows, self.given, self.stores))
+
+    def numbered(self, rows):
+        first, self.ids = self.ids, self.ids + len(rows)
+        return [row | {"_vgsid_": F(first + i)} for i, row in enumerate(rows)]
+
+    def changed(self, source, change):
+        entries, names = change.get("modify", []), set()
+        if not change.keys() <= {"remove", "modify", "insert"} or not isinstance(change.get("insert", []), list) or not isinstance(entries, list):
+            raise NoReading
+        for e in entries:
+            if not isinstance(e, dict) or e.keys() != {"where", "field", "set"} or not isinstance(e["field"], str):
+                raise NoReading
+        for text in [change.get("remove", "true")] + [e[k] for e in entries for k in ("where", "set")]:
+            read_as_expression(text, names)
+        chart = self.chart()
+        if source not in self.rows or names - chart.values.keys():
+            return "refused name"
+        for i, row in enumerate(change.get("insert", [])):
+            if isinstance(row, list):
+                return f'refused row {i} ""'
+            for name, cell in row.items() if isinstance(row, dict) else [("data", row)]:
+                if is_number(cell) and abs(near(cell)) > MOST:
+                    return f'refused row {i} "{name}"'
+        kept = []
+        for row in self.rows[source]:
+            if "remove" in change and truthy(value_of(change["remove"], row, chart.values)):
+                continue
+            new = dict(row)
+            for e in entries:
+                if truthy(value_of(e["where"], row, chart.values)):
+                    new[e["field"]] = value_of(e["set"], row, chart.values)
+            kept.append(new)
+        self.rows = self.rows | {source: kept + self.numbered([row_of_json(row) for row in change.get("insert", [])])}
+        return "ok"
+
+    def settled(self, name, value):
+        is_pair = isinstance(value, list) and len(value) == 2 and all(map(is_number, value))
+        is_cell = value is None or isinstance(value, (bool, str)) or is_number(value)
+        if not (is_pair or is_cell) or any(is_number(n) and abs(near(n)) > MOST for n in listed(value)):
+            raise NoReading
+        if not any(p["name"] == name and "expr" not in p and "select" not in p for _, p in self.chart().listed):
+            return "refused name"
+        self.given = self.given | {name: tuple(value) if isinstance(value, list) else value}
+        return "ok"
+
+    def event(self, kind_, x, y, *to):
+        chart = self.chart()
+        at = None
+        for left, top, _, here in panels_of(chart)[0]:
+            if here is not None and 0 <= x - left <= here.width and 0 <= y - top <= here.height:
+                at = left, top, here
+        if at is None:
+            return "ok"
+        left, top, here = at
+        inside = {u.number for u in here.view.units}
+        stores = dict(self.stores)
+        for s in chart.selections:
+            here_units = [n for n in s.units if n in inside]
+            if not here_units:
+                continue
+            held = chart.values[s.name]
+            tuples, extents = None, None
+            if kind_ == "double":
+                tuples = []
+            elif kind_ in ("click", "shift") and s.kind == "point":
+                hits = [(u, row) for line, u, row in here.items if u.number in here_units and is_hit(line, x - left, y - top)]
+                found = {n: hits[-1][1].get(n) for n in s.fields(hits[-1][0])} if hits else None
+                if kind_ == "click":
+                    tuples = [found] if hits else []
+                elif hits:
+                    tuples = [t for t in held.tuples if t != found] if found in held.tuples else held.tuples + [found]
+            elif kind_ == "drag" and s.kind == "interval":
+                extents = self.extents(chart, s, chart.units[here_units[0]], here, x - left, y - top, to[0] - left, to[1] - top)
+            if tuples is not None or extents is not None:
+                new = Store(tuples or [], extents or [])
+                if not new.is_empty():
+                    new.cells, new.unit = here.copy.cells, min(here_units)
+                stores[s.name] = new
+        self.stores = stores
+        return "ok"
+
+    def extents(self, chart, s, unit, here, x, y, to_x, to_y):
+        """The ends of a drag along the channels of an interval; none where one of them is a point."""
+        made = []
+        for channel in s.channels():
+            scale = chart.scale(unit, channel, here.width, here.height, here.copy)
+            d0, d1, r0, r1 = scale.n
+            size, ends = (here.width, (x, to_x)) if channel == "x" else (here.height, (y, to_y))
+            if r0 == r1:
+                return []
+            back = [d0 + near((min(max(p, F(0)), size) - r0) * (d1 - d0) / (r1 - r0)) for p in ends]
+            lo, hi = sorted(min(max(v, min(d0, d1)), max(d0, d1)) for v in back)
+            if lo == hi:
+                return []
+            d = definitions(unit, channel)[0]
+            made.append((channel, d["field"] if is_binned(d) else names_of(channel, d)[0], scale.kind == "time", lo, hi))
+        return made
+
+    def reply(self, line):
+        before = self.given, self.rows, self.stores, self.ids
+        try:
+            words = json.loads(line, parse_float=F, parse_int=F)
+            if words == ["print"]:
+                return self.picture()
+            if not isinstance(words, list) or len(words) < 3:
+                raise NoReading
+            if words[0] == "change" and isinstance(words[1], str) and isinstance(words[2], dict) and len(words) == 3:
+                answer = self.changed(*words[1:])
+            elif words[0] == "set" and isinstance(words[1], str) and len(words) == 3:
+                answer = self.settled(*words[1:])
+            elif words[0] in ("click", "shift", "double", "drag") and len(words) == (5 if words[0] == "drag" else 3) and all(map(is_number, words[1:])):
+                answer = self.event(words[0], *words[1:])
+            else:
+                raise NoReading
+            if answer == "ok":
+                self.picture()
+        except (NoReading, json.JSONDecodeError):
+            answer = "refused line"
+        except Panels:
+            answer = "refused limit"
+        except Overflow:
+            answer = "refused overflow"
+        if answer != "ok":
+            self.given, self.rows, self.stores, self.ids = before
+        return answer + "\n"
+
+
+def replies_of(spec, script):
+    live = Live(spec)
+    return "".join(live.reply(line) for line in script.splitlines() if line and not line.startswith("#"))
+
+
+def compared(names):
+    """The stored pictures and replies that differ from what is drawn here."""
+    wrong = []
+    for name in names:
+        start = name.removesuffix(".json").removesuffix(".script")
+        with open(start + ".json", encoding="utf-8") as file:
+            spec = json.load(file, parse_float=F, parse_int=F)
+        if name.endswith(".script"):
+            with open(name, encoding="utf-8") as file:
+                stored, answer = start + ".replies", replies_of(spec, file.read())
+        else:
+            stored, answer = start + ".svg", svg_of(picture_of(spec))
+        try:
+            with open(stored, encoding="utf-8") as file:
+                is_same = file.read() == answer
+        except FileNotFoundError:
+            is_same = False
+        wrong += [] if is_same else [stored]
+    return wrong
+
+
 def main(words):
+    if not words:
+        wrong = compared(sorted(glob.glob("examples/vega-lite/*.json") + glob.glob("examples/vega-lite/*.script")))
+        for stored in wrong:
+            print(f"vl_pictures: {stored} differs", file=sys.stderr)
+        return 1 if wrong else 0
     for name in words:
-        with open(name, encoding="utf-8") as file:
-            print(answer_of(json.load(file, parse_float=F, parse_int=F)))
+        with open(name.removesuffix(".script") + ".json" if name.endswith(".script") else name, encoding="utf-8") as file:
+            spec = json.load(file, parse_float=F, parse_int=F)
+        if name.endswith(".script"):
+            with open(name, encoding="utf-8") as file:
+                print(replies_of(spec, file.read()), end="")
+        else:
+            print(answer_of(spec))
+    return 0
 
 
 if __name__ == "__main__":

@@ -260,7 +260,8 @@ class Maker:
     def layer(self):
         v = {"layer": [self.unit(False) for _ in range(self.one(1, 2, 2, 3))]} | self.head()
         if self.may(0.5):
-            v["encoding"] = {self.one("x", "y"): self.place("x") | {"axis": None}, **({"color": self.look("color")} if self.may(0.3) else {})}
+            channel, place = self.one("x", "y"), self.place("x")
+            v["encoding"] = {channel: place if "value" in place else place | {"axis": None}, **({"color": self.look("color")} if self.may(0.3) else {})}
         return v
 
     def view(self, depth=0):
