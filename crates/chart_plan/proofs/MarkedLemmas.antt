@@ -1,5 +1,6 @@
 -- What marks say is what the views round a unit have, and places of units stand for these units.
-use Rattle.std.proofs.Common.{◌≡◌, ℕ, suc, ◌+◌, ◌<◌, ◌≤◌, Bool, true, false, cond, ◌||◌, ◌&&◌, List, [], ◌∷◌, map, eqb, get_or, length, refl, sym, subst, ap, ◌∙◌, arith}
+use Rattle.std.proofs.Common.{◌≡◌, ℕ, suc, ◌+◌, ◌<◌, ◌≤◌, Bool, true, false, cond, ◌||◌, ◌&&◌, List, [], ◌∷◌, map}
+use Rattle.std.proofs.Common.{eqb, get_or, length, refl, sym, subst, ap, ◌∙◌, arith}
 use Rattle.std.specs.Prelude.{Option, Some, None, find, option_map, slice_get, slice_set}
 use Rattle.std.specs.List.{cons_option, enumerate_from, filter_map, flat_map, fold, list_any}
 use Rattle.std.specs.Option.{option_and_then, option_map_or, option_or, unwrap_or}
@@ -20,8 +21,9 @@ use Rattle.guide_infer.specs.First.{first_given}
 use Rattle.chart_plan.specs.Plots.{is_in, number_in}
 use Rattle.chart_plan.specs.Selections.{concerns, drag_channels, first_concerned, has_param, is_concerned_in, is_named, kept_with, plan_by, plan_if, plot_drags}
 use Rattle.chart_plan.specs.Selections.{selection_plan, selections_of, units_concerned}
-use Rattle.chart_plan.specs.inner.Marked.{with_mark, with_view, no_marks, unit_marks, is_marked, marks_at, concerns_by, place_if, places_of, number_at, numbers_at}
-use Rattle.chart_plan.specs.inner.Marked.{first_at, number_there, drags_numbered, drags_along, plan_marked, unit_there, kind_marked, param_marked, all_marked}
+use Rattle.chart_plan.specs.inner.Marked.{with_mark, with_view, no_marks, unit_marks, is_marked, marks_at, concerns_by, place_if}
+use Rattle.chart_plan.specs.inner.Marked.{places_of, number_at, numbers_at, first_at, number_there, drags_numbered}
+use Rattle.chart_plan.specs.inner.Marked.{drags_along, plan_marked, unit_there, kind_marked, param_marked, all_marked}
 
 -- ---- marks
 
@@ -101,14 +103,16 @@ Fits h k keeps c j u = (keeps (j, u) ≡ cond (c u) (Some j) None) × (h j ≡ k
 abbrev AllFit : {B : Type 0} → (ℕ → Option B) → (UnitAt → Option B) → (ℕ × UnitAt → Option ℕ) → (UnitAt → Bool) → List UnitAt → ℕ → Type 0
 AllFit h k keeps c us m = (i : ℕ) (u : UnitAt) → slice_get us i ≡ Some u → Fits h k keeps c (m + i) u
 
-here_fits : {B : Type 0} (h : ℕ → Option B) (k : UnitAt → Option B) (keeps : ℕ × UnitAt → Option ℕ) (c : UnitAt → Bool) (u : UnitAt) (us : List UnitAt) (m : ℕ) →
+here_fits : {B : Type 0} (h : ℕ → Option B) (k : UnitAt → Option B) (keeps : ℕ × UnitAt → Option ℕ) (c : UnitAt → Bool)
+    (u : UnitAt) (us : List UnitAt) (m : ℕ) →
     AllFit h k keeps c (u ∷ us) m → Fits h k keeps c m u
 here_fits h k keeps c u us m all =
     let at : ℕ → Type 0 = λ j. Fits h k keeps c j u in
     let same : m + 0 ≡ m = omega arith in
     subst at same (all 0 u refl)
 
-others_fit : {B : Type 0} (h : ℕ → Option B) (k : UnitAt → Option B) (keeps : ℕ × UnitAt → Option ℕ) (c : UnitAt → Bool) (u : UnitAt) (us : List UnitAt) (m : ℕ) →
+others_fit : {B : Type 0} (h : ℕ → Option B) (k : UnitAt → Option B) (keeps : ℕ × UnitAt → Option ℕ) (c : UnitAt → Bool)
+    (u : UnitAt) (us : List UnitAt) (m : ℕ) →
     AllFit h k keeps c (u ∷ us) m → AllFit h k keeps c us (m + 1)
 others_fit h k keeps c u us m all i v there =
     let at : ℕ → Type 0 = λ j. Fits h k keeps c j v in
@@ -210,7 +214,8 @@ drags_same : (count n : ℕ) (s : Selection) (us : List UnitAt) (scales : List S
 drags_same count n s us scales plot within =
     ap (λ o. option_map_or (drags_numbered scales (drag_channels s.select) plot.number) o [])
     (place_gives (number_there plot.number (slice_get us)) (number_in plot.number) (place_if (map (unit_marks count) us) n s) (concerns n s) us 0
-    (all_fit (number_there plot.number (slice_get us)) (number_in plot.number) count n s us within (λ j u there. ap (option_and_then (number_in plot.number)) there))
+    (all_fit (number_there plot.number (slice_get us)) (number_in plot.number) count n s us within
+    (λ j u there. ap (option_and_then (number_in plot.number)) there))
     ∙ found_in (is_in plot.number) (concerns n s) us)
     ∙ by_number scales (drag_channels s.select) plot.number (find (is_concerned_in n s plot.number) us)
 
@@ -228,7 +233,8 @@ kind_same count n name (kind.Expr e) us scales plots within = refl
 kind_same count n name (kind.Select s) us scales plots within = ap (λ plan. Some plan) (plan_same count n name s us scales plots within)
 
 same_from : (count m : ℕ) (ps : List ParamOf) (us : List UnitAt) (scales : List ScalePlan) (plots : List PlotPlan) → m + length ps ≤ count →
-    filter_map (param_marked (map (unit_marks count) us) us (slice_get us) scales plots) (enumerate_from m ps) ≡ filter_map (plan_if us scales plots) (enumerate_from m ps)
+    filter_map (param_marked (map (unit_marks count) us) us (slice_get us) scales plots) (enumerate_from m ps)
+    ≡ filter_map (plan_if us scales plots) (enumerate_from m ps)
 same_from count m [] us scales plots within = refl
 same_from count m (p ∷ ps) us scales plots within =
     let here : m < count = omega arith in
@@ -240,8 +246,8 @@ there_same : (units : List UnitHere) (place : ℕ) → unit_there units place �
 there_same units place = sym (slice_get-map unit_shown units place)
 
 -- by marks of as many parameters as there are, the selections are those of the units
-pub all_same : (count : ℕ) (marks : List (List Bool)) (ps : List ParamOf) (units : List UnitHere) (scales : List ScalePlan) (plots : List PlotPlan) → count ≡ length ps →
-    marks ≡ map (unit_marks count) (map unit_shown units) →
+pub all_same : (count : ℕ) (marks : List (List Bool)) (ps : List ParamOf) (units : List UnitHere) (scales : List ScalePlan) (plots : List PlotPlan) →
+    count ≡ length ps → marks ≡ map (unit_marks count) (map unit_shown units) →
     all_marked marks (map unit_shown units) (unit_there units) scales plots ps ≡ selections_of (map unit_shown units) scales plots ps
 all_same count marks ps units scales plots same made =
     let within : 0 + length ps ≤ count = omega arith in

@@ -13,8 +13,8 @@ use Rattle.vl_spec.specs.declared.views.ViewKind.TheOpen as level
 use Rattle.chart_plan.specs.declared.views.Counted.{Counted}
 use Rattle.chart_plan.specs.declared.views.ViewPlan.{ViewPlan}
 use Rattle.chart_plan.specs.declared.views.ViewPlan.TheVariants as view
-use Rattle.chart_plan.specs.Views.{Tree, and_grid, before_others, in_row, plot_tree, grid_of, grid_tree, kind_here, faceted_here, joined_here, layer_here, view_here}
-use Rattle.chart_plan.specs.Views.{tree_of, kind_tree, faceted_tree, joined_tree, layer_tree}
+use Rattle.chart_plan.specs.Views.{Tree, and_grid, before_others, in_row, plot_tree, grid_of, grid_tree, kind_here}
+use Rattle.chart_plan.specs.Views.{faceted_here, joined_here, layer_here, view_here, tree_of, kind_tree, faceted_tree, joined_tree, layer_tree}
 
 -- ---- what each kind of view is
 
@@ -73,7 +73,8 @@ faceted_made f spec old mid new plan views same counted made there =
     ∙ sym (faceted_is f old)
 
 -- joined views of their trees
-pub joined_made : (j : Joined) (old mid new : Counted) (plans : List ViewPlan) → mid ≡ and_grid old → (plans, new) ≡ in_row (map tree_of (out-Joined j).views) mid →
+pub joined_made : (j : Joined) (old mid new : Counted) (plans : List ViewPlan) →
+    mid ≡ and_grid old → (plans, new) ≡ in_row (map tree_of (out-Joined j).views) mid →
     (view.Grid old.grids plans, new) ≡ joined_tree j old
 joined_made j old mid new plans counted made =
     ap (grid_of old.grids) (made ∙ ap (in_row (map tree_of (out-Joined j).views)) counted) ∙ sym (joined_is j old)

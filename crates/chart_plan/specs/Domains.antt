@@ -1,6 +1,6 @@
 -- The domain of a scale: the first that is given. A list stands as it is. Else it is made of cells of rows, which on a discrete scale stand in an
--- order. `{param}` gives a continuous scale what a selection keeps, as far as it keeps anything: the two ends of the channel that it names, without a name those
--- of the first channel that the selection keeps; only x and y have ends. The scale of a unit alone has one null.
+-- order. `{param}` gives a continuous scale what a selection keeps, as far as it keeps anything: the two ends of the channel that it names, without a
+-- name those of the first channel that the selection keeps; only x and y have ends. The scale of a unit alone has one null.
 use Rattle.std.specs.Prelude.{◌≡◌, refl, ℕ, ◌==◌, Option, Some, None, List, [], ◌∷◌, codes, find, unwrap_or, bytes_eq, if◌then◌else◌}
 use Rattle.std.specs.Option.{option_and_then, option_map_or, option_map}
 use Rattle.expr_syntax.specs.declared.expr.Expr.{Expr}

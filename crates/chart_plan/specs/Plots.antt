@@ -1,8 +1,8 @@
 -- The plots of a chart: each unit is drawn in one, by itself or in the outermost layer round it within the innermost facet and joined views. A plot has
 -- the title of its own view, else that of the first view in it that has one, from the outside in and in the order of the text. Its size along x goes
--- by the scale of its first unit which shows something there, else by the scale that stands there for its first unit alone, of one null. It has an axis for each scale of x, and then for each of y,
--- on which something is shown in it that counts for an axis. Facets round the plot that share such a scale among their panels have the axis at
--- their edge alone: one of x where no panel is below, one of y in the first column.
+-- by the scale of its first unit which shows something there, else by the scale that stands there for its first unit alone, of one null. It has an axis
+-- for each scale of x, and then for each of y, on which something is shown in it that counts for an axis. Facets round the plot that share such a scale
+-- among their panels have the axis at their edge alone: one of x where no panel is below, one of y in the first column.
 use Rattle.std.specs.Prelude.{ℕ, ◌==◌, Bool, true, false, nat_le, nat_lt, Option, Some, None, List, [], ◌∷◌, ◌++◌, filter, find, flat_map, length, map}
 use Rattle.std.specs.Prelude.{if◌then◌else◌}
 use Rattle.std.specs.Option.{option_and_then, option_map_or, option_or}
@@ -33,13 +33,14 @@ use Rattle.chart_plan.specs.Sizes.{size_of}
 abbrev pub is_in : ℕ → UnitAt → Bool
 is_in plot unit = plot_of unit.round == plot
 
--- the numbers of the plots of some units, each where its first unit stands
+-- numbers with one more, unless it is there
 abbrev pub with_number : List ℕ → ℕ → List ℕ
 with_number numbers n = if list_any (λ m. m == n) numbers then numbers else numbers ++ n ∷ []
 
 abbrev pub with_plot : List ℕ → UnitAt → List ℕ
 with_plot numbers unit = with_number numbers (plot_of unit.round)
 
+-- the numbers of the plots of some units, each where its first unit stands
 abbrev pub plot_numbers : List UnitAt → List ℕ
 plot_numbers units = fold with_plot [] units
 

@@ -2,10 +2,10 @@
 -- without names those below the view that has it. It keeps its `fields`, or else the fields of the channels that it names, or else
 -- `_vgsid_`; of an aggregated unit all names of its grouping in place of that. The field of a channel is the name of its cells in the unit's rows; an
 -- interval keeps of bins the field itself. `row`, `column` and `facet` mean that field of the innermost facet which has one, and `detail` all of its. A
--- point keeps what it keeps on a click and toggles it with shift; an interval keeps two ends of each channel that it names, without names of x and y
--- as far as they show a field. A
--- double click clears both. A drag inverts the scales of these channels in the plot in which it is made: those of the first unit there that is concerned.
-use Rattle.std.specs.Prelude.{ℕ, ◌==◌, ◌&&◌, ◌||◌, Bool, true, false, Option, Some, None, List, [], ◌∷◌, codes, find, map, bytes_eq}
+-- point keeps what it keeps on a click and toggles it with shift; an interval keeps two ends of each channel that it names (one that it names twice
+-- counts once), without names of x and y as far as they show a field. A double click clears both. A drag inverts the scales of these channels in the plot
+-- in which it is made: those of the first unit there that is concerned.
+use Rattle.std.specs.Prelude.{◌≡◌, refl, ℕ, ◌==◌, ◌&&◌, ◌||◌, Bool, true, false, Option, Some, None, List, [], ◌∷◌, codes, find, map, bytes_eq}
 use Rattle.std.specs.Prelude.{option_map, option_to_list, unwrap_or, if◌then◌else◌}
 use Rattle.std.specs.Option.{option_and_then, option_map_or, option_or}
 use Rattle.std.specs.List.{enumerate_from, filter_map, flat_map, fold, list_any}
@@ -44,7 +44,7 @@ use Rattle.chart_plan.specs.declared.selections.SelectionPlan.{SelectionPlan}
 use Rattle.chart_plan.specs.Grids.{shown_by}
 use Rattle.guide_infer.specs.Once.{each_once}
 use Rattle.chart_plan.specs.Orders.{field_in, name_of}
-use Rattle.chart_plan.specs.Plots.{is_in}
+use Rattle.chart_plan.specs.Plots.{is_in, with_number}
 use Rattle.chart_plan.specs.Scales.{seen_by}
 
 -- ---- what a selection says
@@ -171,8 +171,12 @@ clicked s unit = if is_interval (type_in s) then None else Some (each_once (poin
 abbrev pub both_places : List ℕ
 both_places = X ∷ Y ∷ []
 
+-- channels, each where it stands first
+abbrev pub channels_once : List ℕ → List ℕ
+channels_once channels = fold with_number [] channels
+
 abbrev pub drag_channels : Select → List ℕ
-drag_channels s = if is_interval (type_in s) then unwrap_or (channels_said s) both_places else []
+drag_channels s = if is_interval (type_in s) then option_map_or channels_once (channels_said s) both_places else []
 
 abbrev pub place_word : ℕ → Option (List ℕ)
 place_word code = if code == X then Some (codes "x") else (if code == Y then Some (codes "y") else None)
@@ -245,3 +249,8 @@ plan_if units scales plots param = plan_by units scales plots param.0 param.1.na
 
 abbrev pub selections_of : List UnitAt → List ScalePlan → List PlotPlan → List ParamOf → List SelectionPlan
 selections_of units scales plots params = filter_map (plan_if units scales plots) (enumerate_from 0 params)
+
+-- The rules at work.
+
+channels_named_twice : channels_once (X ∷ Y ∷ X ∷ Y ∷ []) ≡ X ∷ Y ∷ []
+channels_named_twice = refl

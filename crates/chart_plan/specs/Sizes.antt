@@ -1,8 +1,8 @@
 -- The size of a plot, first its width. The plot's own view says it, or else the first view in it that does, from the outside in and in the order of the
 -- text: a number of pixels, or a step from one cell to the next. A step says nothing on a continuous scale. The scale is that of the first unit in
--- the plot which has one for x; where none has, it is the scale that stands there for its first unit alone, of one null, so that the width is one step. Where nothing is said, a
--- continuous scale has the `continuousWidth` of `config.view`, else 200; a discrete one its `discreteWidth`, else the steps of its `step`, else of 20.
--- The height goes by y alike.
+-- the plot which has one for x; where none has, it is the scale that stands there for its first unit alone, of one null, so that the width is one
+-- step. Where nothing is said, a continuous scale has the `continuousWidth` of `config.view`, else 200; a discrete one its `discreteWidth`, else the
+-- steps of its `step`, else of 20. The height goes by y alike.
 use Rattle.std.specs.Prelude.{◌≡◌, refl, ℕ, ◌==◌, ◌*◌, Bool, true, false, ℤ, pos, Option, Some, None, List, [], ◌∷◌, unwrap_or, if◌then◌else◌}
 use Rattle.std.specs.Option.{option_and_then, option_map_or}
 use Rattle.fixed_num.specs.Number.{million}
@@ -79,10 +79,12 @@ some_sizes = record {
   step = Some (pixels 12);
 }
 
-sizes_that_are_said : (size_of X true 3 None (size.Number (pixels 50) ∷ []) ≡ Pixels (pixels 50)) × (size_of X false 3 None (size.Step (pixels 8) ∷ []) ≡ Steps (pixels 8) 3)
+sizes_that_are_said : (size_of X true 3 None (size.Number (pixels 50) ∷ []) ≡ Pixels (pixels 50))
+    × (size_of X false 3 None (size.Step (pixels 8) ∷ []) ≡ Steps (pixels 8) 3)
 sizes_that_are_said = (refl, refl)
 
-no_step_on_numbers : (size_of X true 3 None (size.Step (pixels 8) ∷ size.Number (pixels 50) ∷ []) ≡ Pixels (pixels 50)) × (size_of X true 3 None (size.Step (pixels 8) ∷ []) ≡ Pixels usual_size)
+no_step_on_numbers : (size_of X true 3 None (size.Step (pixels 8) ∷ size.Number (pixels 50) ∷ []) ≡ Pixels (pixels 50))
+    × (size_of X true 3 None (size.Step (pixels 8) ∷ []) ≡ Pixels usual_size)
 no_step_on_numbers = (refl, refl)
 
 sizes_by_default : (size_of 1 true 3 None [] ≡ Pixels usual_size) × (size_of 1 false 3 None [] ≡ Steps usual_step 3)

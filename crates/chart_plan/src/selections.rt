@@ -1,12 +1,15 @@
 // The selections of a chart.
-ghost use Rattle.std.specs.Prelude.{◌≡◌, ◌++◌, [], map, option_map, option_to_list, IfOk, OnOk};
+ghost use Rattle.std.specs.Prelude.{◌≡◌, ◌==◌, ◌++◌, [], map, option_map, option_to_list, IfOk, OnOk};
 ghost use Rattle.std.specs.Option.{option_and_then, option_map_or};
-ghost use Rattle.std.specs.List.{filter_map, flat_map};
+ghost use Rattle.std.specs.List.{filter_map, flat_map, list_any};
 ghost use Rattle.vl_compose.specs.Shown.{unit_shown};
 ghost use Rattle.guide_infer.specs.First.{first_given};
+ghost use Rattle.chart_plan.specs.Plots.{with_number};
 ghost use Rattle.chart_plan.specs.Selections.{type_in, is_interval, if_some, fields_said, channels_said, first_name, id_names, default_names, unit_names};
-ghost use Rattle.chart_plan.specs.Selections.{point_names, clicked, drag_channels, both_places, place_word, drag_with, drag_of, dragged, kept_with, drag_in, selections_of};
-ghost use Rattle.chart_plan.specs.inner.Marked.{unit_there, number_at, numbers_at, first_at, number_there, drags_numbered, drags_along, plan_at, plan_marked, param_marked, all_marked};
+ghost use Rattle.chart_plan.specs.Selections.{point_names, clicked, channels_once, drag_channels, both_places, place_word, drag_with, drag_of, dragged};
+ghost use Rattle.chart_plan.specs.Selections.{kept_with, drag_in, selections_of};
+ghost use Rattle.chart_plan.specs.inner.Marked.{unit_there, number_at, numbers_at, first_at, number_there, drags_numbered, drags_along};
+ghost use Rattle.chart_plan.specs.inner.Marked.{plan_at, plan_marked, param_marked, all_marked};
 
 use crate::kept::{names_of_channels, push_channel_names};
 use crate::marked::{marks_of, places_of};
@@ -220,13 +223,47 @@ fn both_places(alloc: Global) -> Result<Seq<u16>, OutOfMemory>
     Seq::from_slice(alloc, &[X, Y])
 }
 
+// Whether a channel is there.
+fn has_channel(channels: &[u16], channel: u16) -> bool
+    ensures { result ≡ list_any (λ m. m == channel) channels.now }
+{
+    for one in channels {
+        if *one == channel {
+            return true;
+        }
+    }
+    false
+}
+
+// Adds a channel, unless it is there.
+fn push_channel(channels: &mut Seq<u16>, channel: u16) -> Result<(), OutOfMemory>
+    ensures { OnOk result (channels.new ≡ with_number channels.old channel) }
+{
+    if has_channel(channels.as_slice(), channel) {
+        Ok(())
+    } else {
+        channels.push(channel)
+    }
+}
+
+// Channels, each where it stands first. Few differ, so that looking for one is short.
+fn channels_once(alloc: Global, channels: &[u16]) -> Result<Seq<u16>, OutOfMemory>
+    ensures { IfOk result (λ once. once ≡ channels_once channels.now) }
+{
+    let mut once = Seq::new(alloc);
+    for channel in channels {
+        push_channel(&mut once, *channel)?;
+    }
+    Ok(once)
+}
+
 // The channels of a drag.
 fn drag_channels(alloc: Global, select: &Select) -> Result<Seq<u16>, OutOfMemory>
     ensures { IfOk result (λ codes. codes ≡ drag_channels select.now) }
 {
     if is_interval(type_in(select)) {
         match channels_said(select) {
-            Some(codes) => Seq::from_slice(alloc, codes.as_slice()),
+            Some(channels) => channels_once(alloc, channels.as_slice()),
             None => both_places(alloc),
         }
     } else {
@@ -527,7 +564,8 @@ fn plan_marked(
     name: &Text,
     selection: &Selection,
 ) -> Result<SelectionPlan, OutOfMemory>
-    ensures { IfOk result (λ plan. plan ≡ plan_marked marks.now (map unit_shown units.now) (unit_there units.now) scales.now plots.now number name.now selection.now) }
+    ensures { IfOk result (λ plan. plan
+        ≡ plan_marked marks.now (map unit_shown units.now) (unit_there units.now) scales.now plots.now number name.now selection.now) }
 {
     let places = places_of(alloc, marks, number, selection, units)?;
     plan_at(
@@ -552,7 +590,8 @@ fn push_selection(
     param: &ParamOf,
     out: &mut Seq<SelectionPlan>,
 ) -> Result<(), OutOfMemory>
-    ensures { OnOk result (out.new ≡ out.old ++ option_to_list (param_marked marks.now (map unit_shown units.now) (unit_there units.now) scales.now plots.now (number, param.now))) }
+    ensures { OnOk result (out.new ≡ out.old
+        ++ option_to_list (param_marked marks.now (map unit_shown units.now) (unit_there units.now) scales.now plots.now (number, param.now))) }
 {
     match &param.kind {
         ParamKind::Select(selection) => out.push(plan_marked(

@@ -6,4 +6,5 @@ use Rattle.chart_plan.proofs.grids.push_grids.Given as goal
 
 abbrev pub invariant-loop-here : goal.invariant-loop-here
 invariant-loop-here l =
-    fold (with_grid (map unit_shown l.units)) l.grids (round_shown (drop l.here-index l.round)) ≡ fold (with_grid (map unit_shown l.units)) l.fn.grids (round_shown l.round)
+    fold (with_grid (map unit_shown l.units)) l.grids (round_shown (drop l.here-index l.round))
+    ≡ fold (with_grid (map unit_shown l.units)) l.fn.grids (round_shown l.round)

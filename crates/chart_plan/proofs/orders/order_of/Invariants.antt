@@ -6,4 +6,5 @@ use Rattle.chart_plan.proofs.orders.order_of.Given as goal
 
 abbrev pub invariant-loop-unit : goal.invariant-loop-unit
 invariant-loop-unit l =
-    first_given (unit_order l.channel l.sharing) (map unit_shown (drop l.unit-index l.units)) ≡ first_given (unit_order l.channel l.sharing) (map unit_shown l.units)
+    first_given (unit_order l.channel l.sharing) (map unit_shown (drop l.unit-index l.units))
+    ≡ first_given (unit_order l.channel l.sharing) (map unit_shown l.units)

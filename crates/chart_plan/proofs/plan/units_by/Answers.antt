@@ -7,5 +7,6 @@ use Rattle.chart_plan.proofs.plan.units_by.Goals as goal
 
 pub returns : goal.returns
 returns c =
-    let all : List ParamOf → Type 0 = λ params. IfOk c.units_named.result (λ plans. plans ≡ map (unit_by params c.args.scales.now) (map unit_shown c.args.units.now)) in
+    let all : List ParamOf → Type 0 = λ params.
+    IfOk c.units_named.result (λ plans. plans ≡ map (unit_by params c.args.scales.now) (map unit_shown c.args.units.now)) in
     subst all c.in_ok-names.ensures c.units_named.ensures

@@ -5,4 +5,5 @@ use Rattle.chart_plan.proofs.plan.units_named.Given as goal
 
 abbrev pub invariant-loop-unit : goal.invariant-loop-unit
 invariant-loop-unit l =
-    l.plans ++ map (unit_by l.names.params.now l.scales) (map unit_shown (drop l.unit-index l.units)) ≡ map (unit_by l.names.params.now l.scales) (map unit_shown l.units)
+    l.plans ++ map (unit_by l.names.params.now l.scales) (map unit_shown (drop l.unit-index l.units))
+    ≡ map (unit_by l.names.params.now l.scales) (map unit_shown l.units)

@@ -6,4 +6,5 @@ use Rattle.chart_plan.proofs.plots.all_shows.Given as goal
 
 abbrev pub invariant-loop-unit : goal.invariant-loop-unit
 invariant-loop-unit l =
-    map (λ d. d.now) l.out ++ flat_map (unit_shows l.plot l.scale) (map unit_shown (drop l.unit-index l.units)) ≡ all_shows l.plot l.scale (map unit_shown l.units)
+    map (λ d. d.now) l.out ++ flat_map (unit_shows l.plot l.scale) (map unit_shown (drop l.unit-index l.units))
+    ≡ all_shows l.plot l.scale (map unit_shown l.units)

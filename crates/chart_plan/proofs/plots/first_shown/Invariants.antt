@@ -6,4 +6,5 @@ use Rattle.chart_plan.proofs.plots.first_shown.Given as goal
 
 abbrev pub invariant-loop-unit : goal.invariant-loop-unit
 invariant-loop-unit l =
-    first_given (shown_in_plot l.channel l.plot l.scales) (map unit_shown (drop l.unit-index l.units)) ≡ first_given (shown_in_plot l.channel l.plot l.scales) (map unit_shown l.units)
+    first_given (shown_in_plot l.channel l.plot l.scales) (map unit_shown (drop l.unit-index l.units))
+    ≡ first_given (shown_in_plot l.channel l.plot l.scales) (map unit_shown l.units)

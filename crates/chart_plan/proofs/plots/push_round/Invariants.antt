@@ -6,4 +6,5 @@ use Rattle.chart_plan.proofs.plots.push_round.Given as goal
 
 abbrev pub invariant-loop-here : goal.invariant-loop-here
 invariant-loop-here l =
-    l.sizes ++ filter_map (size_at l.channel l.plot) (round_shown (drop l.here-index l.round)) ≡ l.fn.sizes ++ filter_map (size_at l.channel l.plot) (round_shown l.round)
+    l.sizes ++ filter_map (size_at l.channel l.plot) (round_shown (drop l.here-index l.round))
+    ≡ l.fn.sizes ++ filter_map (size_at l.channel l.plot) (round_shown l.round)

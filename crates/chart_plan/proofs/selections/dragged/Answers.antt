@@ -8,5 +8,7 @@ use Rattle.chart_plan.proofs.selections.dragged.Goals as goal
 
 pub returns : goal.returns
 returns c =
-    let all : List ℕ → Type 0 = λ codes. IfOk c.dragged_along.result (λ drags. drags ≡ option_map_or (λ u. filter_map (drag_of u) codes) (first_at (unit_there c.args.units.now) c.args.places.now) []) in
+    let all : List ℕ → Type 0 = λ codes.
+    IfOk c.dragged_along.result (λ drags. drags
+    ≡ option_map_or (λ u. filter_map (drag_of u) codes) (first_at (unit_there c.args.units.now) c.args.places.now) []) in
     subst all (c.as_slice.ensures ∙ c.in_ok-codes.ensures) c.dragged_along.ensures

@@ -7,5 +7,6 @@ use Rattle.chart_plan.proofs.selections.drags_of_all.Goals as goal
 pub returns : goal.returns
 returns c =
     let all : List ℕ → Type 0 = λ codes.
-    IfOk c.all_drags.result (λ drags. drags ≡ flat_map (drags_along c.args.scales.now (unit_there c.args.units.now) c.args.places.now codes) c.args.plots.now) in
+    IfOk c.all_drags.result (λ drags. drags
+    ≡ flat_map (drags_along c.args.scales.now (unit_there c.args.units.now) c.args.places.now codes) c.args.plots.now) in
     subst all (c.as_slice.ensures ∙ c.in_ok-codes.ensures) c.all_drags.ensures
