@@ -1,5 +1,6 @@
 -- Of the data sets of a compiled specification only the one without rows asks for an extent.
-use Rattle.std.proofs.Common.{filter, length, ◌≡◌, ℕ, Bool, true, false, cond, Option, Some, None, List, [], ◌∷◌, ◌++◌, map, flat_map, unwrap_or, refl, ap, ap₂, ◌∙◌}
+use Rattle.std.proofs.Common.{filter, length, ◌≡◌, ℕ, Bool, true, false, cond, Option, Some, None, List, [], ◌∷◌, ◌++◌, map, flat_map, unwrap_or, refl, ap, ap₂}
+use Rattle.std.proofs.Common.{◌∙◌}
 use Rattle.std.specs.Prelude.{filter_map}
 use Rattle.std.specs.List.{cons_option, enumerate_from}
 use Rattle.std.specs.Option.{option_map_or}
@@ -27,15 +28,16 @@ use Rattle.chart_plan.specs.declared.orders.RowsOrder.{RowsOrder}
 use Rattle.chart_plan.specs.declared.plan.Plan.{Plan}
 use Rattle.chart_plan.specs.declared.scales.ScalePlan.{ScalePlan}
 use Rattle.chart_plan.specs.declared.selections.SelectionPlan.{SelectionPlan}
+use Rattle.vega_assemble.specs.Cells.{field_expr}
 use Rattle.vega_assemble.specs.Assembled.{unit_list, begun_list, begun_lists, lists_made, is_begun}
-use Rattle.vega_assemble.specs.Domains.{is_lone}
 use Rattle.vega_assemble.specs.Drags.{is_copied, references_of, outer_list, outer_lists, all_outer}
-use Rattle.vega_assemble.specs.Keys.{key_steps, steps_for, keys_list, orders_if, orders_for, lists_with_keys, lists_of_facet, lists_of_grid, has_keys, placed}
-use Rattle.vega_assemble.specs.Lists.{column_list, plain_list, list_if_wanted, plain_lists, ranked_lists, lists_in_order, rank_formula}
+use Rattle.vega_assemble.specs.Keys.{field_keys, found_somewhere, given_by, has_keys, keys_list, lists_of_facet, lists_of_grid, lists_with_keys, looked_twice}
+use Rattle.vega_assemble.specs.Keys.{orders_for, orders_if, orders_steps, placed, steps_for}
+use Rattle.vega_assemble.specs.Lists.{column_list, column_lists, names_of_columns, plain_list, list_if_wanted, plain_lists, ranked_lists, lists_in_order}
 use Rattle.vega_assemble.specs.Lists.{lists_of_domain, lists_of_scale, beside_order, beside_domain, lists_for_scale, names_held}
-use Rattle.vega_assemble.specs.Names.{unit_name, begun_name, cells_name, ranks_name, keys_name, cell_column, rank_column, key_column}
+use Rattle.vega_assemble.specs.Names.{unit_name, begun_name, cells_name, keys_name, orders_name, cell_column, rank_column, key_column}
 use Rattle.vega_assemble.specs.Ranked as ranked
-use Rattle.vega_assemble.specs.Ranks.{listed_rank, over_none}
+use Rattle.vega_assemble.specs.Ranks.{counts, listed_rank}
 use Rattle.expr_syntax.specs.declared.expr.Expr.TheVariants as expr
 use Rattle.vega_spec.specs.declared.transforms.Transform.TheVariants as vega
 use Rattle.vega_assemble.specs.Sources.{if_any, list_made, source_written}
@@ -157,17 +159,30 @@ module _ (stem : List ℕ) where
       (none_of_each extent_asked (ranked.number_found stem scale) (λ field. refl) (enumerate_from 0 (ranked.told_by stem facets))) refl
   keys_ask scale facets false = refl
 
-  ranks_ask : (scale : ℕ) (facets : List (List ℕ)) (by : RowsOrder) → asked (ranked.rank_steps stem scale facets by) ≡ []
-  ranks_ask scale facets by =
-      none_of_both extent_asked (ranked.key_steps stem scale facets)
-      (vega.Lookup (ranked.found_in (ranks_name stem scale) (ranked.key_name stem facets) (rank_column stem) (over_none by.op)) ∷ [])
-      (keys_ask scale facets (ranked.are_some facets)) refl
+  kept_ask : (key : List ℕ) (sets : List (List ℕ)) → asked (ranked.kept_in stem key sets) ≡ []
+  kept_ask key sets =
+      none_of_both extent_asked (map (ranked.lacks_key stem key) sets) (vega.Filter (record { expr = ranked.not_all sets }) ∷ [])
+      (none_of_each extent_asked (ranked.lacks_key stem key) (λ set. refl) sets) refl
+
+  rank_asks : (facets : List (List ℕ)) (by : RowsOrder) (b : Bool)
+      → asked (cond b (vega.Aggregate (ranked.given_in (ranked.told_by stem facets) by (rank_column stem)))
+      (ranked.rank_formula stem (field_expr by.field)) ∷ []) ≡ []
+  rank_asks facets by true = refl
+  rank_asks facets by false = refl
+
+  ranks_ask : (scale : ℕ) (facets sets : List (List ℕ)) (by : RowsOrder) → asked_by (ranked.ranks_list stem scale facets sets by) ≡ []
+  ranks_ask scale facets sets by =
+      let name = ranked.key_name stem facets in
+      none_of_both extent_asked (ranked.key_steps stem scale facets ++ ranked.kept_in stem name sets) (ranked.rank_step stem facets by ∷ [])
+      (none_of_both extent_asked (ranked.key_steps stem scale facets) (ranked.kept_in stem name sets) (keys_ask scale facets (ranked.are_some facets))
+      (kept_ask name sets)) (rank_asks facets by (counts by.op))
 
   rankeds_ask : (scale : ℕ) (facets : List (List ℕ)) (by : RowsOrder) (columns : List Column)
       → asked_by_all (ranked_lists stem scale facets by columns) ≡ []
   rankeds_ask scale facets by columns =
-      nothing_of_either asked_by (is_lone by columns) [] (map (column_list stem scale (ranked.rank_steps stem scale facets by)) (enumerate_from 0 columns))
-      refl (columns_ask scale (ranked.rank_steps stem scale facets by) (ranks_ask scale facets by) columns)
+      nothing_of_both asked_by (column_lists stem scale facets by columns) (ranked.ranks_list stem scale facets (names_of_columns stem scale columns) by ∷ [])
+      (columns_ask scale (ranked.column_steps stem scale facets by) (keys_ask scale facets (ranked.are_some facets)) columns)
+      (ap (λ l. l ++ []) (ranks_ask scale facets (names_of_columns stem scale columns) by))
 
   module _ (grids : List GridPlan) (scale : ℕ) (holder : Option ℕ) where
     order_asks : (order : CellOrder) (columns : List Column) → asked_by_all (lists_in_order stem grids scale holder order columns) ≡ []
@@ -175,7 +190,7 @@ module _ (stem : List ℕ) where
     order_asks stands.Up columns = plains_ask scale columns
     order_asks stands.Down columns = plains_ask scale columns
     order_asks (stands.Listed cells) columns =
-        columns_ask scale (rank_formula stem (listed_rank (expr.Field (cell_column stem)) cells) ∷ []) refl columns
+        columns_ask scale (ranked.rank_formula stem (listed_rank (expr.Field (cell_column stem)) cells) ∷ []) refl columns
     order_asks (stands.ByRows by) columns = rankeds_ask scale (names_held grids by.unit holder) by columns
 
     domain_asks : (d : DomainPlan) → asked_by_all (lists_of_domain stem grids scale holder d) ≡ []
@@ -187,29 +202,16 @@ module _ (stem : List ℕ) where
         nothing_of_either asked_by (ranked.are_some facets) (map (ranked.codes_list stem scale by) (enumerate_from 0 (ranked.told_by stem facets))) []
         (nothing_of_each asked_by (ranked.codes_list stem scale by) (λ field. refl) (enumerate_from 0 (ranked.told_by stem facets))) refl
 
-    ranks_list_asks : (facets : List (List ℕ)) (by : RowsOrder) → asked_by (ranked.ranks_list stem scale facets by) ≡ []
-    ranks_list_asks facets by =
-        made_asks (ranks_name stem scale) (begun_name stem by.unit)
-        (ranked.cell_formula stem (shows.Field by.cell) ∷ vega.Aggregate (ranked.given_in (ranked.told_by stem facets) by (rank_column stem))
-        ∷ ranked.key_steps stem scale facets) (keys_ask scale facets (ranked.are_some facets))
-
-    beside_lists_ask : (facets : List (List ℕ)) (by : RowsOrder) → asked_by_all (ranked.lists_beside stem scale facets by) ≡ []
-    beside_lists_ask facets by =
-        nothing_of_both asked_by (ranked.codes_lists stem scale facets by) (ranked.ranks_list stem scale facets by ∷ []) (codes_ask facets by)
-        (ap (λ l. l ++ []) (ranks_list_asks facets by))
-
-    beside_asks : (order : CellOrder) (columns : List Column) → asked_by_all (beside_order stem grids scale holder order columns) ≡ []
-    beside_asks stands.First columns = refl
-    beside_asks stands.Up columns = refl
-    beside_asks stands.Down columns = refl
-    beside_asks (stands.Listed cells) columns = refl
-    beside_asks (stands.ByRows by) columns =
-        nothing_of_either asked_by (is_lone by columns) [] (ranked.lists_beside stem scale (names_held grids by.unit holder) by)
-        refl (beside_lists_ask (names_held grids by.unit holder) by)
+    beside_asks : (order : CellOrder) → asked_by_all (beside_order stem grids scale holder order) ≡ []
+    beside_asks stands.First = refl
+    beside_asks stands.Up = refl
+    beside_asks stands.Down = refl
+    beside_asks (stands.Listed cells) = refl
+    beside_asks (stands.ByRows by) = codes_ask (names_held grids by.unit holder) by
 
     beside_domain_asks : (d : DomainPlan) → asked_by_all (beside_domain stem grids scale holder d) ≡ []
     beside_domain_asks (plan.Cells cells) = refl
-    beside_domain_asks (plan.Columns of) = beside_asks of.order of.columns
+    beside_domain_asks (plan.Columns of) = beside_asks of.order
 
   scale_asks : (grids : List GridPlan) (s : ℕ × ScalePlan) → asked_by_all (lists_for_scale stem grids s) ≡ []
   scale_asks grids s =
@@ -219,7 +221,7 @@ module _ (stem : List ℕ) where
   -- ---- lists of facets
 
   module _ (facet : ℕ) where
-    key_asks : (unit place : ℕ) (name : List ℕ) (order : CellOrder) → asked (key_steps stem facet unit place name order) ≡ []
+    key_asks : (unit place : ℕ) (name : List ℕ) (order : CellOrder) → asked (field_keys stem facet unit place name order) ≡ []
     key_asks unit place name stands.First = refl
     key_asks unit place name stands.Up = refl
     key_asks unit place name stands.Down = refl
@@ -231,17 +233,21 @@ module _ (stem : List ℕ) where
         made_asks (keys_name stem facet unit) (unit_name stem unit) (flat_map (steps_for stem facet unit) (placed fields))
         (none_of_lists extent_asked (steps_for stem facet unit) (λ field. key_asks unit field.0 field.1.name field.1.order) (placed fields))
 
-    order_list_asks : (place : ℕ) (order : CellOrder) → asked_by_all (orders_if stem facet place order) ≡ []
-    order_list_asks place stands.First = refl
-    order_list_asks place stands.Up = refl
-    order_list_asks place stands.Down = refl
-    order_list_asks place (stands.Listed cells) = refl
-    order_list_asks place (stands.ByRows by) = refl
+    order_list_asks : (units : List ℕ) (place : ℕ) (name : List ℕ) (order : CellOrder) → asked_by_all (orders_if stem facet units place name order) ≡ []
+    order_list_asks units place name stands.First = refl
+    order_list_asks units place name stands.Up = refl
+    order_list_asks units place name stands.Down = refl
+    order_list_asks units place name (stands.Listed cells) = refl
+    order_list_asks units place name (stands.ByRows by) =
+        ap (λ l. l ++ []) (made_asks (orders_name stem facet place) (begun_name stem by.unit) (orders_steps stem facet units name by)
+        (none_of_both extent_asked (flat_map (looked_twice stem facet name by.cell) units)
+        (vega.Filter (record { expr = found_somewhere stem facet units }) ∷ vega.Aggregate (given_by stem by) ∷ [])
+        (none_of_lists extent_asked (looked_twice stem facet name by.cell) (λ unit. refl) units) refl))
 
     with_keys_ask : (fields : List FacetField) (units : List ℕ) → asked_by_all (lists_with_keys stem facet fields units) ≡ []
     with_keys_ask fields units =
-        nothing_of_both asked_by (flat_map (orders_for stem facet) (placed fields)) (map (keys_list stem facet fields) units)
-        (nothing_of_lists asked_by (orders_for stem facet) (λ field. order_list_asks field.0 field.1.order) (placed fields))
+        nothing_of_both asked_by (flat_map (orders_for stem facet units) (placed fields)) (map (keys_list stem facet fields) units)
+        (nothing_of_lists asked_by (orders_for stem facet units) (λ field. order_list_asks units field.0 field.1.name field.1.order) (placed fields))
         (nothing_of_each asked_by (keys_list stem facet fields) (keys_list_asks fields) units)
 
     facet_asks : (f : FacetPlan) → asked_by_all (lists_of_facet stem facet f) ≡ []

@@ -1,5 +1,6 @@
 -- Why rows before an aggregate have no cells that those behind it lack.
-use Rattle.std.proofs.Common.{◌≡◌, ◌⊎◌, inl, inr, ⊎_elim, ℕ, ◌*◌, ◌&&◌, ◌||◌, not, Bool, true, false, cond, Option, Some, None, List, [], ◌∷◌, ◌++◌, map, All, refl, sym, ap, ap₂, ◌∙◌, subst, pos}
+use Rattle.std.proofs.Common.{◌≡◌, ◌⊎◌, inl, inr, ⊎_elim, ℕ, ◌*◌, ◌&&◌, ◌||◌, not, Bool, true, false, cond, Option, Some, None, List, [], ◌∷◌, ◌++◌, map, All}
+use Rattle.std.proofs.Common.{refl, sym, ap, ap₂, ◌∙◌, subst, pos}
 use Rattle.std.specs.List.{list_all, list_any}
 use Rattle.std.specs.Option.{option_map}
 use Rattle.std.specs.Str.{bytes_eq}
@@ -33,11 +34,11 @@ use Rattle.compiled_rows.proofs.PartLemmas.{by_cases, or_left, or_right, or_eith
 use Rattle.compiled_rows.proofs.RisingLemmas.{Has}
 use Rattle.compiled_rows.proofs.FollowLemmas.{both_of, drawn_both, Outside, all_put_outside, op_outside}
 
-all_had : {X : Type 0} (P : X → Type 0) (xs : List X) → ((z : X) → Has xs z → P z) → All P xs
+pub all_had : {X : Type 0} (P : X → Type 0) (xs : List X) → ((z : X) → Has xs z → P z) → All P xs
 all_had P [] h = All-nil P
 all_had P (x ∷ xs) h = All-cons P x xs (h x (inl refl)) (all_had P xs (λ z there. h z (inr there)))
 
-had : {X : Type 0} (P : X → Type 0) (xs : List X) (z : X) → All P xs → Has xs z → P z
+pub had : {X : Type 0} (P : X → Type 0) (xs : List X) (z : X) → All P xs → Has xs z → P z
 had P [] z h there = absurd there
 had P (x ∷ xs) z h there = ⊎_elim (λ is. subst P is (All-head P x xs h)) (λ later. had P xs z (All-tail P x xs h) later) there
 
@@ -56,7 +57,7 @@ found_each f (y ∷ ys) made x e h =
     (λ later. let (n, there, given) = found_each f ys ms x others later in (n, subst (λ l. Has l n) is (inr there), given)) h
 
 -- and each of these is given by one
-each_found : {X : Type 0} (f : X → Option Datum) (xs : List X) (made : List Datum) (m : Datum) → all_found (map f xs) ≡ Some made → Has made m
+pub each_found : {X : Type 0} (f : X → Option Datum) (xs : List X) (made : List Datum) (m : Datum) → all_found (map f xs) ≡ Some made → Has made m
     → (x : X) × Has xs x × (f x ≡ Some m)
 each_found f [] [] m e h = absurd h
 each_found f [] (n ∷ made) m e h = absurd (cc)
@@ -84,7 +85,8 @@ module _ (names : List (List ℕ)) where
       (ap (λ l. is_key l k) (ap (key_of names) same ∙ e) ∙ same_itself k))
       (λ later. or_right (is_key (key_of names x) k) (list_any (λ other. is_key (key_of names other) k) by) (has_any by o k later e)) h
 
-  covered_by : (by rows : List Datum) → ((row : Datum) → Has rows row → (o : Datum) × Has by o × (key_of names o ≡ key_of names row)) → AreCovered names by rows
+  pub covered_by : (by rows : List Datum) → ((row : Datum) → Has rows row → (o : Datum) × Has by o × (key_of names o ≡ key_of names row))
+      → AreCovered names by rows
   covered_by by rows h =
       all_had (λ row. list_any (λ other. is_key (key_of names other) (key_of names row)) by ≡ true) rows
       (λ row there. let (o, among, is) = h row there in has_any by o (key_of names row) among is)
@@ -93,12 +95,12 @@ module _ (names : List (List ℕ)) where
   covers by rows h row there =
       any_has by (key_of names row) (had (λ row. list_any (λ other. is_key (key_of names other) (key_of names row)) by ≡ true) rows row h there)
 
-  covered_on : (a b c : List Datum) → AreCovered names a b → AreCovered names b c → AreCovered names a c
+  pub covered_on : (a b c : List Datum) → AreCovered names a b → AreCovered names b c → AreCovered names a c
   covered_on a b c h k =
       covered_by a c (λ row there.
       let (m, among, is) = covers b c k row there in let (o, first, same) = covers a b h m among in (o, first, same ∙ is))
 
-  covers_itself : (rows : List Datum) → AreCovered names rows rows
+  pub covers_itself : (rows : List Datum) → AreCovered names rows rows
   covers_itself rows = covered_by rows rows (λ row there. (row, there, refl))
 
 -- ---- ids
@@ -122,7 +124,7 @@ key_stays (c ∷ cells) row = key_stays cells (datum_with c.0 c.1 row)
 id_of : Key → Cell
 id_of key = Number (pos (key.id * million))
 
-still_reads : (cells : List (List ℕ × Cell)) (row : Datum) → ReadsItsId row → ReadsItsId (data_with_cells row cells)
+pub still_reads : (cells : List (List ℕ × Cell)) (row : Datum) → ReadsItsId row → ReadsItsId (data_with_cells row cells)
 still_reads cells row h = id_stays cells row ∙ h ∙ ap (λ (key : Key). Number (pos (key.id * million))) (sym (key_stays cells row))
 
 bare_reads : (key : Key) → ReadsItsId (bare_datum key)
@@ -181,7 +183,7 @@ module _ (names : List (List ℕ)) (g : GroupOf) (groups : GroupsBy names g) whe
   abbrev cells : Datum → CellAt
   cells row = row.cell
 
-  abbrev alike_rows : Datum → Datum → Bool
+  abbrev pub alike_rows : Datum → Datum → Bool
   alike_rows = alike cells g.groupby
 
   given_outside : (ops : List OpOf) (group : List Datum) (given : List (List ℕ × Cell)) → list_all (is_outside names) (map (λ (op : OpOf). op.out) ops) ≡ true
@@ -193,7 +195,8 @@ module _ (names : List (List ℕ)) (g : GroupOf) (groups : GroupsBy names g) whe
       let (x, xs, first, others, is) = drawn_both (op_cell cells group op) (op_cells cells ops group) given e in
       subst (Outside names) is (ap₂ (λ a b. a && b) (op_outside names _ op.out x both.0 first) (given_outside ops group xs both.1 others))
 
-  group_row_reads : (first m : Datum) (o : Option (List (List ℕ × Cell))) → ReadsItsId first → ((given : List (List ℕ × Cell)) → o ≡ Some given → Outside names given)
+  group_row_reads : (first m : Datum) (o : Option (List (List ℕ × Cell))) → ReadsItsId first
+      → ((given : List (List ℕ × Cell)) → o ≡ Some given → Outside names given)
       → option_map (data_group_row g first) o ≡ Some m → (key_of names m ≡ key_of names first) × ReadsItsId m
   group_row_reads first m None h outside e = absurd (cc)
   group_row_reads first m (Some given) h outside e =
@@ -246,7 +249,7 @@ module _ (names : List (List ℕ)) (g : GroupOf) (groups : GroupsBy names g) whe
       (λ found. let (f, among, is) = found in inr (f, here_or_behind x later f (seen before x) among, is))
       (first_like (before ++ x ∷ []) xs r there)) h
 
-  has_first : (before xs : List Datum) (z : Datum) → Has (firsts_behind alike_rows before xs) z → Has xs z
+  pub has_first : (before xs : List Datum) (z : Datum) → Has (firsts_behind alike_rows before xs) z → Has xs z
   has_first before [] z h = h
   has_first before (x ∷ xs) z h = by (seen before x) h (has_first (before ++ x ∷ []) xs z)
     where
@@ -256,17 +259,18 @@ module _ (names : List (List ℕ)) (g : GroupOf) (groups : GroupsBy names g) whe
       by false h later = ⊎_elim (λ is. inl is) (λ k. inr (later k)) h
 
   -- the names are among those by which the group is made
-  some_keys : (ns : List (List ℕ)) (x y : Datum) → list_all (is_one_of g.groupby) ns ≡ true → key_of g.groupby x ≡ key_of g.groupby y → key_of ns x ≡ key_of ns y
+  some_keys : (ns : List (List ℕ)) (x y : Datum) → list_all (is_one_of g.groupby) ns ≡ true → key_of g.groupby x ≡ key_of g.groupby y
+      → key_of ns x ≡ key_of ns y
   some_keys [] x y h e = refl
   some_keys (n ∷ ns) x y h e =
       let both = both_of (is_one_of g.groupby n) (list_all (is_one_of g.groupby) ns) h in
       ap₂ (λ a b. a ∷ b) (one_cell g.groupby n x.cell y.cell both.0 e) (some_keys ns x y both.1 e)
 
-  abbrev row_of : List Datum → Datum → Option Datum
+  abbrev pub row_of : List Datum → Datum → Option Datum
   row_of rows first = option_map (data_group_row g first) (op_cells cells g.ops (group_of cells g.groupby rows first))
 
   module _ (rows made : List Datum) (ids : All ReadsItsId rows) (e : data_aggregated g rows ≡ Some made) where
-    row_is : (first m : Datum) → Has rows first → row_of rows first ≡ Some m → (key_of names m ≡ key_of names first) × ReadsItsId m
+    pub row_is : (first m : Datum) → Has rows first → row_of rows first ≡ Some m → (key_of names m ≡ key_of names first) × ReadsItsId m
     row_is first m there given =
         group_row_reads first m (op_cells cells g.ops (group_of cells g.groupby rows first)) (had ReadsItsId rows first ids there)
         (λ cs is. given_outside g.ops (group_of cells g.groupby rows first) cs groups.outs is) given
@@ -283,7 +287,7 @@ module _ (names : List (List ℕ)) (g : GroupOf) (groups : GroupsBy names g) whe
         never : false ≡ true → ⊥
         never n = cc
 
-    groups_read : All ReadsItsId made
+    pub groups_read : All ReadsItsId made
     groups_read =
         all_had ReadsItsId made (λ m there.
         let (f, among, given) = each_found (row_of rows) (firsts alike_rows rows) made m e there in (row_is f m (has_first [] rows f among) given).1)
@@ -306,10 +310,14 @@ module _ (names : List (List ℕ)) (s : StackOf) (outs : list_all (is_outside na
     stack_covers : AreCovered names made rows
     stack_covers =
         covered_by names made rows (λ r there.
-        let (m, placed, given) = found_each stacked_row rows made r e there in
-        (m, placed, (row_with names (span_cells s) (λ span. outs) (row_span_with s (greatest_whole s rows) rows r) r m (had ReadsItsId rows r ids there) given).0))
+        let (m, placed, given) = found_each stacked_row rows made r e there in (
+          m,
+          placed,
+          (row_with names (span_cells s) (λ span. outs) (row_span_with s (greatest_whole s rows) rows r) r m (had ReadsItsId rows r ids there)
+              given).0,
+        ))
 
-    stack_reads : All ReadsItsId made
+    pub stack_reads : All ReadsItsId made
     stack_reads =
         all_had ReadsItsId made (λ m there.
         let (r, among, given) = each_found stacked_row rows made m e there in
@@ -338,7 +346,8 @@ module _ (values : Values) (sources : List Dataset) (names : List (List ℕ)) wh
   and_others s steps rows made (Some next) is h ids rest e =
       let both = one_covers s rows next h ids is in covered_on names made next rows (rest next both.1 e) both.0
 
-  all_cover : (steps : List Step) (rows made : List Datum) → All (KeepsCells names) steps → All ReadsItsId rows → all_stepped values sources steps rows ≡ Some made
+  all_cover : (steps : List Step) (rows made : List Datum) → All (KeepsCells names) steps → All ReadsItsId rows
+      → all_stepped values sources steps rows ≡ Some made
       → AreCovered names made rows
   all_cover [] rows made h ids e = let is : rows ≡ made = cc in subst (λ l. AreCovered names l rows) is (covers_itself names rows)
   all_cover (s ∷ steps) rows made h ids e =

@@ -34,9 +34,11 @@ use Rattle.vega_copies.specs.Facets.{crosses}
 use Rattle.chart_plan.specs.declared.grids.FacetField.{FacetField}
 use Rattle.chart_meaning.specs.Parts.{Copy, cells_below, occurs_in}
 use Rattle.vega_assemble.specs.Facets.{crossing}
-use Rattle.compiled_rows.specs.Parts.{is_one_of, CopiesAreChoices, HaveCellsOf, FirstCellsAreThese, DirectedCellsAreThese, AreCovered, PartsAreCovered, CoveredHaveCells}
+use Rattle.compiled_rows.specs.Parts.{is_one_of, CopiesAreChoices, HaveCellsOf, FirstCellsAreThese, DirectedCellsAreThese, AreCovered, PartsAreCovered}
+use Rattle.compiled_rows.specs.Parts.{CoveredHaveCells}
 use Rattle.compiled_rows.proofs.PartLemmas.{by_cases, or_left, or_right, or_either, any_left, map_joined}
-use Rattle.compiled_rows.proofs.RisingLemmas.{Has, Rises, has_left, has_right, has_either, rises_too, rises_on, from_ascending, to_ascending, ascending_rises, ascending_is}
+use Rattle.compiled_rows.proofs.RisingLemmas.{Has, Rises, has_left, has_right, has_either, rises_too, rises_on, from_ascending, to_ascending, ascending_rises}
+use Rattle.compiled_rows.proofs.RisingLemmas.{ascending_is}
 
 -- ---- keys of one cell
 
@@ -250,7 +252,9 @@ module _ (name : List ℕ) (rows : List Datum) (sort : Option (List SortBy)) whe
   divided crosses = record { fields = name ∷ []; sort = sort; crosses = crosses }
 
   cells_apart : Rises Other cells_there
-  cells_apart = apart_alone cells_there (all_apart (map alone cells_there) (subst (AllPairs (λ a b. a ≢ b)) (lone_choices cells_there) (copies_are_different (divided true) rows)))
+  cells_apart =
+      apart_alone cells_there (all_apart (map alone cells_there)
+      (subst (AllPairs (λ a b. a ≢ b)) (lone_choices cells_there) (copies_are_different (divided true) rows)))
 
   sorted_alone : ascending (by_places (cells_there ∷ [])) (map alone (cells_in name rows)) ≡ map alone cells_there
   sorted_alone =
@@ -323,7 +327,8 @@ pub first_cells_are_these : FirstCellsAreThese
 first_cells_are_these copy units name rows h =
     let below = cells_below copy units name in
     ap (firsts same_cells) h.begins ∙ firsts_joined [] below h.behind
-    ∙ ap (λ l. firsts same_cells below ++ l) (none_new below h.behind (All-weaker (λ z. occurs_in below z ≡ true) (λ z. seen below z ≡ true) (occurs_seen below) h.behind h.no_others))
+    ∙ ap (λ l. firsts same_cells below ++ l)
+    (none_new below h.behind (All-weaker (λ z. occurs_in below z ≡ true) (λ z. seen below z ≡ true) (occurs_seen below) h.behind h.no_others))
     ∙ append-nil (firsts same_cells below)
 
 -- ---- cells in a direction
@@ -345,7 +350,8 @@ has_reverse (x ∷ xs) z h =
 from_reverse : {X : Type 0} (xs : List X) (z : X) → Has (reverse xs) z → Has xs z
 from_reverse [] z h = h
 from_reverse (x ∷ xs) z h =
-    has_either (reverse xs) (x ∷ []) z (subst (λ l. Has l z) (reverse_first x xs) h) (λ k. inr (from_reverse xs z k)) (λ k. ⊎_elim (λ is. inl is) (λ none. absurd none) k)
+    has_either (reverse xs) (x ∷ []) z (subst (λ l. Has l z) (reverse_first x xs) h) (λ k. inr (from_reverse xs z k))
+    (λ k. ⊎_elim (λ is. inl is) (λ none. absurd none) k)
 
 reverse_rises : {X : Type 0} (A : X → X → Type 0) (xs : List X) → Rises A xs → Rises (λ a b. A b a) (reverse xs)
 reverse_rises A [] h = tt
@@ -361,7 +367,8 @@ module _ (name : List ℕ) where
       by_cases (same_cells (row.cell name) c)
       (λ e. ap (λ b. beside b) e ∙ (same_cells_tell (row.cell name) c).0 e)
       (λ e. ap (λ b. beside b) e
-      ∙ beside_itself rows c (⊎_elim (λ is. never_seen (same_cells (row.cell name) c) (subst (λ w. same_cells (row.cell name) w ≡ true) is (same_itself_cell (row.cell name))) e)
+      ∙ beside_itself rows c (⊎_elim (λ is. never_seen (same_cells (row.cell name) c)
+      (subst (λ w. same_cells (row.cell name) w ≡ true) is (same_itself_cell (row.cell name))) e)
       (λ later. later) h))
     where
       beside : Bool → Cell
@@ -467,7 +474,8 @@ module _ (outer inner : List (List ℕ)) (key : List Cell) where
       (λ e. subst (λ t. AreCovered inner (part_of outer key by) (cond t (row ∷ part_of outer key rows) (part_of outer key rows))) (sym e)
       (All-cons (λ r. list_any (is_like inner r) (part_of outer key by) ≡ true) row (part_of outer key rows)
       (covered_there by row e (All-head (λ r. list_any (is_like (outer ++ inner) r) by ≡ true) row rows h)) (parts_covered by rows rest)))
-      (λ e. subst (λ t. AreCovered inner (part_of outer key by) (cond t (row ∷ part_of outer key rows) (part_of outer key rows))) (sym e) (parts_covered by rows rest))
+      (λ e. subst (λ t. AreCovered inner (part_of outer key by) (cond t (row ∷ part_of outer key rows) (part_of outer key rows))) (sym e)
+      (parts_covered by rows rest))
     where
       rest : AreCovered (outer ++ inner) by rows
       rest = All-tail (λ r. list_any (λ o. is_key (key_of (outer ++ inner) o) (key_of (outer ++ inner) r)) by ≡ true) row rows h

@@ -58,7 +58,8 @@ listed : (o : Option GridPlan) → IfSome o Facets → All Facets (option_to_lis
 listed None h = All-nil Facets
 listed (Some grid) h = All-cons Facets grid [] h (All-nil Facets)
 
-one_grid : (units : List UnitAt) → CountsUp 0 units → AreFew units → (grids : List GridPlan) (v : ViewAt) → All Facets grids → All Facets (with_grid units grids v)
+one_grid : (units : List UnitAt) → CountsUp 0 units → AreFew units → (grids : List GridPlan) (v : ViewAt) → All Facets grids
+    → All Facets (with_grid units grids v)
 one_grid units up few grids v all = by (is_there v.number grids)
   where
     by : (b : Bool) → All Facets (if b then grids else grids ++ option_to_list (grid_in units v))

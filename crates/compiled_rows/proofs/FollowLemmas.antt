@@ -94,7 +94,8 @@ module _ (names : List (List ℕ)) where
 
   -- ---- formulas
 
-  calculated_follow : (o : Option Cell) (out : List ℕ) (row made : Datum) → is_one_of names out ≡ false → option_map (λ cell. datum_with out cell row) o ≡ Some made
+  calculated_follow : (o : Option Cell) (out : List ℕ) (row made : Datum) → is_one_of names out ≡ false
+      → option_map (λ cell. datum_with out cell row) o ≡ Some made
       → Same row made
   calculated_follow None out row made h e = absurd (cc)
   calculated_follow (Some cell) out row made h e = let is : datum_with out cell row ≡ made = cc in subst (Same row) is (put_outside names out cell row h)
@@ -131,7 +132,8 @@ module _ (names : List (List ℕ)) where
 
   -- ---- windows
 
-  pub op_outside : (o : Option Cell) (out : List ℕ) (c : List ℕ × Cell) → is_outside names out ≡ true → option_map (λ cell. (out, cell)) o ≡ Some c → is_outside names c.0 ≡ true
+  pub op_outside : (o : Option Cell) (out : List ℕ) (c : List ℕ × Cell) → is_outside names out ≡ true → option_map (λ cell. (out, cell)) o ≡ Some c
+      → is_outside names c.0 ≡ true
   op_outside None out c h e = absurd (cc)
   op_outside (Some cell) out c h e = let is : (out, cell) ≡ c = cc in subst (λ (d : List ℕ × Cell). is_outside names d.0 ≡ true) is h
 
@@ -170,7 +172,8 @@ module _ (names : List (List ℕ)) where
   made_is a b e = cc
 
   module _ (values : Values) (scope : Scope) where
-    transform_follows : (t : Transform) (rows made : List Datum) → leaves_cells names t ≡ true → transformed values scope t rows ≡ Some made → Follows names rows made
+    pub transform_follows : (t : Transform) (rows made : List Datum) → leaves_cells names t ≡ true → transformed values scope t rows ≡ Some made
+        → Follows names rows made
     transform_follows (vega.Filter f) rows made h e = absurd (cc)
     transform_follows (vega.Formula f) rows made h e = formula_follows values f.expr f.as_ rows made (one_out f.as_ h) e
     transform_follows (vega.Extent x) rows made h e = absurd (cc)
@@ -181,7 +184,8 @@ module _ (names : List (List ℕ)) where
     transform_follows (vega.Stack s) rows made h e = absurd (cc)
     transform_follows (vega.Window w) rows made h e = window_follows (window_settings w) rows made h e
     transform_follows (vega.Lookup l) rows made h e =
-        subst (Follows names rows) (made_is (data_looked_up (lookup_settings l) (scope l.from) rows) made e) (lookup_follows (lookup_settings l) (scope l.from) rows h)
+        subst (Follows names rows) (made_is (data_looked_up (lookup_settings l) (scope l.from) rows) made e)
+        (lookup_follows (lookup_settings l) (scope l.from) rows h)
     transform_follows (vega.Fold f) rows made h e = absurd (cc)
 
     one_step : (t : Transform) (ts : List Transform) (rows made : List Datum) (o : Option (List Datum)) → transformed values scope t rows ≡ o

@@ -104,7 +104,8 @@ module _ (whole : List ParamOf) where
       (ap (λ n. first_some breaks (enumerate_from n params)) (length-append before (p.name ∷ [])) ∙ both.1) in (
         ((λ z there. others.1 p.name z (has_right before (p.name ∷ []) p.name (inl refl)) there), others.0),
         λ x z there k is. ⊎_elim
-            (λ same. earlier before (p.name ∷ map (λ (q : ParamOf). q.name) params) p x all (All-head (λ (q : ParamOf). q.name ≢ []) p params full) none there (is ∙ sym same))
+            (λ same. earlier before (p.name ∷ map (λ (q : ParamOf). q.name) params) p x all (All-head (λ (q : ParamOf). q.name ≢ []) p params full) none there
+            (is ∙ sym same))
             (λ later. others.1 x z (has_left before (p.name ∷ []) x there) later is) k,
       )
 

@@ -1,5 +1,5 @@
 -- Why states of the chart have what the laws of the top ask: the names that parameters have are mentioned, so none is that of the null signal.
-use Rattle.std.proofs.Common.{◌≡◌, ◌≢◌, sym, ℕ, List, [], ◌∷◌, ◌++◌, All, map}
+use Rattle.std.proofs.Common.{◌≢◌, sym, ℕ, List, [], ◌∷◌, ◌++◌, All, map}
 use Rattle.std.specs.Prelude.{flat_map}
 use Rattle.std.proofs.lemmas.List.Elements.{All-nil, All-cons, All-head, All-tail, All-weaker}
 use Rattle.vl_spec.specs.declared.params.ParamOf.{ParamOf}
@@ -45,7 +45,7 @@ none_unlike s =
     let sources = map (λ (source : SourceOf). source.name) s.sources in
     let params = flat_map in_param s.params in
     let plan = in_plan (plan_of s) in
-    let all : All P (sources ++ params ++ plan) = made_names_are_new (mentioned s (plan_of s)) NoneName tt in
+    let all : All P (sources ++ params ++ plan) = made_names_are_new (mentioned s (plan_of s)) NoneName in
     All-weaker P (Unlike (stem_of s)) (turned (stem_of s)) (map name_of s.params)
     (param_names P s.params (back_of P sources params (front_of P (sources ++ params) plan all)))
 

@@ -50,7 +50,8 @@ sourced_at sources (first ∷ names) scope name =
     sourced_at sources names (with_list first (list_named sources first) scope) name ∙ by (has_name name names) (bytes_eq first name) refl
   where
     by : (a b : Bool) → bytes_eq first name ≡ b
-        → (if a then list_named sources name else (if b then list_named sources first else scope name)) ≡ (if b || a then list_named sources name else scope name)
+        → (if a then list_named sources name else (if b then list_named sources first else scope name))
+        ≡ (if b || a then list_named sources name else scope name)
     by true true e = refl
     by true false e = refl
     by false true e = ap (list_named sources) ((bytes_eq-Decides first name).0 e)
@@ -119,6 +120,7 @@ pub none_next : (values : Values) (sources : List Dataset) (stem : List ℕ) (ss
     → All (λ other. other ≢ none_name stem) (source_names sources)
     → lists_of values sources (list_named sources) (none_list stem ss ∷ others) ≡ lists_of values sources (list_named sources) others
 none_next values sources stem ss others apart =
-    ap (λ o. ((o >>= λ made. Some made) >>= λ rows. Some (with_list (none_name stem) rows (list_named sources))) >>= λ next. lists_of values sources next others)
+    ap (λ o. ((o >>= λ made. Some made) >>= λ rows. Some (with_list (none_name stem) rows (list_named sources))) >>= λ next. lists_of values sources next
+    others)
     (all_out values _)
     ∙ ap (λ next. lists_of values sources next others) (without_rows sources (none_name stem) apart)

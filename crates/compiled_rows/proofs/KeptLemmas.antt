@@ -106,7 +106,8 @@ module _ (values : Values) where
   abbrev computed_as : List ℕ → Option Expr → Settled
   computed_as name o = option_map_or (λ e. (name, value_of null_row values e) ∷ []) o []
 
-  pub skip_one : (n name : List ℕ) (o : Option Expr) (rest : Settled) → bytes_eq n name ≡ false → value_under (computed_as n o ++ rest) name ≡ value_under rest name
+  pub skip_one : (n name : List ℕ) (o : Option Expr) (rest : Settled) → bytes_eq n name ≡ false
+      → value_under (computed_as n o ++ rest) name ≡ value_under rest name
   skip_one n name None rest e = refl
   skip_one n name (Some x) rest e = ap (λ b. read (cond b (Some (n, value_of null_row values x)) (find (has_name name) rest))) e
 
@@ -223,7 +224,8 @@ module _ (params : List ParamOf) (st : State) where
     each_is_there =
         both_ways (list_all is_there params) (keeps_all whole)
         (λ h. given_kept st.params (all_computed last params)
-        ∙ computed_kept last params (λ p there e is. ap is_some (sym (computed_value_is p there e is)) ∙ sym (not_none (value_under whole p.name)) ∙ all_at is_there params p h there))
+        ∙ computed_kept last params
+        (λ p there e is. ap is_some (sym (computed_value_is p there e is)) ∙ sym (not_none (value_under whole p.name)) ∙ all_at is_there params p h there))
         (λ h. all_of is_there params (λ p there. not_none (value_under whole p.name) ∙ every_value whole p.name h))
 
     -- no store has the name of a parameter that is no selection
@@ -232,7 +234,8 @@ module _ (params : List ParamOf) (st : State) where
     no_store (s ∷ stores) name none =
         ap (λ b. cond b (Some s) (store_named stores name)) (differ s.name name (λ is. none (inl is))) ∙ no_store stores name (λ later. none (inr later))
 
-    selection_of : (name : List ℕ) → Has (map (λ (store : StoreOf). store.name) st.stores) name → (p : ParamOf) × Has params p × (selects p ≡ true) × (p.name ≡ name)
+    selection_of : (name : List ℕ) → Has (map (λ (store : StoreOf). store.name) st.stores) name
+        → (p : ParamOf) × Has params p × (selects p ≡ true) × (p.name ≡ name)
     selection_of name h = kept_named selects params name (subst (λ l. Has l name) of_state.stores h)
 
     given_apart : (name : List ℕ) → Has (map (λ (entry : List ℕ × Cell). entry.0) st.params) name → HasNoStore st.stores name

@@ -23,7 +23,8 @@ module _ (stem : List ℕ) (scales : List ScalePlan) (selections : List Selectio
   selected name place None = refl
   selected name place (Some s) = refl
 
-  one_written : (place : ℕ) (p : ParamOf) (k : ParamKind) → parameter_of (kind_at stem scales selections place p.name k) ≡ record { name = p.name; kind = kind_written k }
+  one_written : (place : ℕ) (p : ParamOf) (k : ParamKind)
+      → parameter_of (kind_at stem scales selections place p.name k) ≡ record { name = p.name; kind = kind_written k }
   one_written place p (kind.Value c) = refl
   one_written place p (kind.Expr e) = refl
   one_written place p (kind.Select s) = selected p.name place (slice_get selections place)
@@ -34,5 +35,6 @@ module _ (stem : List ℕ) (scales : List ScalePlan) (selections : List Selectio
 
 pub params_are_written : ParamsAreWritten
 params_are_written stem s p =
-    ap (λ (g : Group-F Group VgMark). map parameter_of (unwrap_or g.signals [])) (out-roll-Group (parts_of ((made stem s p).object) (rolled (made stem s p).marks)))
+    ap (λ (g : Group-F Group VgMark). map parameter_of (unwrap_or g.signals []))
+    (out-roll-Group (parts_of ((made stem s p).object) (rolled (made stem s p).marks)))
     ∙ ap (map parameter_of) (list_back (signals_of stem p.scales p.selections s.params)) ∙ all_written stem p.scales p.selections 0 s.params

@@ -17,6 +17,9 @@ mod LostLemmas
 mod StateLemmas
 mod GivenLemmas
 mod KindLemmas
+mod BareLemmas
+mod OriginLemmas
+mod InsideLemmas
 mod PartLemmas
 mod RisingLemmas
 mod ChoiceLemmas
@@ -24,9 +27,14 @@ mod PanelLemmas
 mod NestedLemmas
 mod FollowLemmas
 mod LeaveLemmas
+mod MentionLemmas
+mod AddLemmas
+mod IdLemmas
 mod StandingLemmas
 mod BegunLemmas
 mod ScaleNameLemmas
 mod FacetLemmas
+mod GridLemmas
+mod FewLemmas
 mod TopLemmas
 mod GroundLemmas

@@ -58,7 +58,8 @@ pub rows_are_linked : RowsAreLinked
 rows_are_linked s values sources same few null scope read copy is k u at =
     let known = copy_known values sources (plan_of s) copy is in
     let there = found_there (unit_rows values sources) (plan_of s).units known.rows known.rows_are k u at in
-    let left : unit_left values sources u ≡ Some (list_at known.rows k) = none_lost values sources u.source (u.before ++ u.after) (list_at known.rows k) there in
+    let left : unit_left values sources u ≡ Some (list_at known.rows k)
+    = none_lost values sources u.source (u.before ++ u.after) (list_at known.rows k) there in
     same_value (scope (unit_name (stem_of s) k)) (list_at known.rows k) (sym (units_stand s values sources same few null scope read k u at) ∙ left)
     ∙ ap (λ (c : Copy). c.rows k) known.is
 

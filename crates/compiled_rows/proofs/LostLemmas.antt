@@ -75,7 +75,8 @@ module _ (p : List ℕ → Bool) where
     all_same [] h = refl
     all_same (x ∷ xs) h =
         let none = either_false (any (stores x)) (any (joined stores xs)) (sym (list_any-append p (stores x) (joined stores xs)) ∙ h) in
-        list_any-append p (all x) (joined all xs) ∙ ap₂ (λ a b. a || b) (same x none.0) (all_same xs none.1) ∙ sym (list_any-append p (params x) (joined params xs))
+        list_any-append p (all x) (joined all xs) ∙ ap₂ (λ a b. a || b) (same x none.0) (all_same xs none.1)
+        ∙ sym (list_any-append p (params x) (joined params xs))
 
     through : (names : Expr → List (List ℕ)) (xs : List X) → flat_map (λ arg. arg) (map names (map part xs)) ≡ joined (λ x. names (part x)) xs
     through names [] = refl
@@ -83,14 +84,20 @@ module _ (p : List ℕ → Bool) where
 
     step_same : (y : Expr-F X) → Same (roll-Expr (map-Expr X Expr part y))
     step_same form.Null = let z : Expr-F Expr = form.Null in formed z [] [] [] (fold-roll-Expr _ _ z) (fold-roll-Expr _ _ z) (fold-roll-Expr _ _ z) (λ h. refl)
-    step_same (form.Flag f) = let z : Expr-F Expr = form.Flag f in formed z [] [] [] (fold-roll-Expr _ _ z) (fold-roll-Expr _ _ z) (fold-roll-Expr _ _ z) (λ h. refl)
-    step_same (form.Number n) = let z : Expr-F Expr = form.Number n in formed z [] [] [] (fold-roll-Expr _ _ z) (fold-roll-Expr _ _ z) (fold-roll-Expr _ _ z) (λ h. refl)
-    step_same (form.Text t) = let z : Expr-F Expr = form.Text t in formed z [] [] [] (fold-roll-Expr _ _ z) (fold-roll-Expr _ _ z) (fold-roll-Expr _ _ z) (λ h. refl)
-    step_same (form.Field name) = let z : Expr-F Expr = form.Field name in formed z [] [] [] (fold-roll-Expr _ _ z) (fold-roll-Expr _ _ z) (fold-roll-Expr _ _ z) (λ h. refl)
+    step_same (form.Flag f) =
+        let z : Expr-F Expr = form.Flag f in formed z [] [] [] (fold-roll-Expr _ _ z) (fold-roll-Expr _ _ z) (fold-roll-Expr _ _ z) (λ h. refl)
+    step_same (form.Number n) =
+        let z : Expr-F Expr = form.Number n in formed z [] [] [] (fold-roll-Expr _ _ z) (fold-roll-Expr _ _ z) (fold-roll-Expr _ _ z) (λ h. refl)
+    step_same (form.Text t) =
+        let z : Expr-F Expr = form.Text t in formed z [] [] [] (fold-roll-Expr _ _ z) (fold-roll-Expr _ _ z) (fold-roll-Expr _ _ z) (λ h. refl)
+    step_same (form.Field name) =
+        let z : Expr-F Expr = form.Field name in formed z [] [] [] (fold-roll-Expr _ _ z) (fold-roll-Expr _ _ z) (fold-roll-Expr _ _ z) (λ h. refl)
     step_same (form.Param name) =
-        let z : Expr-F Expr = form.Param name in formed z (name ∷ []) (name ∷ []) [] (fold-roll-Expr _ _ z) (fold-roll-Expr _ _ z) (fold-roll-Expr _ _ z) (λ h. refl)
+        let z : Expr-F Expr = form.Param name in
+        formed z (name ∷ []) (name ∷ []) [] (fold-roll-Expr _ _ z) (fold-roll-Expr _ _ z) (fold-roll-Expr _ _ z) (λ h. refl)
     step_same (form.Member name field) =
-        let z : Expr-F Expr = form.Member name field in formed z (name ∷ []) (name ∷ []) [] (fold-roll-Expr _ _ z) (fold-roll-Expr _ _ z) (fold-roll-Expr _ _ z) (λ h. refl)
+        let z : Expr-F Expr = form.Member name field in
+        formed z (name ∷ []) (name ∷ []) [] (fold-roll-Expr _ _ z) (fold-roll-Expr _ _ z) (fold-roll-Expr _ _ z) (λ h. refl)
     step_same (form.Not x) =
         let z = form.Not (part x) in formed z (all x) (params x) (stores x) (fold-roll-Expr _ _ z) (fold-roll-Expr _ _ z) (fold-roll-Expr _ _ z) (same x)
     step_same (form.Minus x) =
@@ -99,17 +106,20 @@ module _ (p : List ℕ → Bool) where
         let z = form.Plus (part x) in formed z (all x) (params x) (stores x) (fold-roll-Expr _ _ z) (fold-roll-Expr _ _ z) (fold-roll-Expr _ _ z) (same x)
     step_same (form.Binary op x y) =
         let z = form.Binary op (part x) (part y) in
-        formed z (all x ++ all y) (params x ++ params y) (stores x ++ stores y) (fold-roll-Expr _ _ z) (fold-roll-Expr _ _ z) (fold-roll-Expr _ _ z) (two_same x y)
+        formed z (all x ++ all y) (params x ++ params y) (stores x ++ stores y) (fold-roll-Expr _ _ z) (fold-roll-Expr _ _ z) (fold-roll-Expr _ _ z)
+        (two_same x y)
     step_same (form.Choose x y w) =
         let z = form.Choose (part x) (part y) (part w) in
         formed z (all x ++ all y ++ all w) (params x ++ params y ++ params w) (stores x ++ stores y ++ stores w) (fold-roll-Expr _ _ z) (fold-roll-Expr _ _ z)
         (fold-roll-Expr _ _ z) (three_same x y w)
     step_same (form.Pair x y) =
         let z = form.Pair (part x) (part y) in
-        formed z (all x ++ all y) (params x ++ params y) (stores x ++ stores y) (fold-roll-Expr _ _ z) (fold-roll-Expr _ _ z) (fold-roll-Expr _ _ z) (two_same x y)
+        formed z (all x ++ all y) (params x ++ params y) (stores x ++ stores y) (fold-roll-Expr _ _ z) (fold-roll-Expr _ _ z) (fold-roll-Expr _ _ z)
+        (two_same x y)
     step_same (form.Call code xs) =
         let z = form.Call code (map part xs) in
-        formed z (joined all xs) (joined params xs) (joined stores xs) (fold-roll-Expr _ _ z ∙ through names_in xs) (fold-roll-Expr _ _ z ∙ through parameters_in xs)
+        formed z (joined all xs) (joined params xs) (joined stores xs) (fold-roll-Expr _ _ z ∙ through names_in xs)
+        (fold-roll-Expr _ _ z ∙ through parameters_in xs)
         (fold-roll-Expr _ _ z ∙ through selections_in xs) (all_same xs)
     step_same (form.Selected store) =
         let z : Expr-F Expr = form.Selected store in
@@ -142,7 +152,8 @@ module _ (stem : List ℕ) (values : Values) (null : values.value (none_name ste
   one_lacks (step.Lookup source l) h = refl
   one_lacks (step.Fold f) h = refl
 
-  steps_lack : (steps : List Step) → All (StepTestsNoLost values) steps → list_any (transform_lacks values) (steps_written stem steps) ≡ mention_lost values steps
+  steps_lack : (steps : List Step) → All (StepTestsNoLost values) steps
+      → list_any (transform_lacks values) (steps_written stem steps) ≡ mention_lost values steps
   steps_lack [] h = refl
   steps_lack (s ∷ steps) h =
       ap₂ (λ a b. a || b) (one_lacks s (All-head (StepTestsNoLost values) s steps h)) (steps_lack steps (All-tail (StepTestsNoLost values) s steps h))
@@ -171,7 +182,8 @@ none_computed values (p ∷ params) name none =
 
 none_at : (names : List (List ℕ)) (name : List ℕ) → All (λ n. n ≢ name) names → Has names name → ⊥
 none_at [] name h there = there
-none_at (n ∷ names) name h there = ⊎_elim (λ is. All-head (λ n. n ≢ name) n names h is) (λ later. none_at names name (All-tail (λ n. n ≢ name) n names h) later) there
+none_at (n ∷ names) name h there =
+    ⊎_elim (λ is. All-head (λ n. n ≢ name) n names h is) (λ later. none_at names name (All-tail (λ n. n ≢ name) n names h) later) there
 
 pub null_signal_is_null : NullSignalIsNull
 null_signal_is_null stem params st others of_state =

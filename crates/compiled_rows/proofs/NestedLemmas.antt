@@ -15,8 +15,8 @@ use Rattle.vega_assemble.specs.Views.{facet_of}
 use Rattle.compiled_rows.specs.Panels.{names_behind}
 use Rattle.compiled_rows.specs.Parts.{is_one_of, scope_in, names_parted, AreCovered}
 use Rattle.compiled_rows.specs.Nested.{PanelsStayCovered}
-use Rattle.compiled_rows.proofs.PartLemmas.{or_left, or_right, any_either, lists_are_parted, inner_lists_are_parted, of_begun, of_scales, of_inner_keys, of_drags}
-use Rattle.compiled_rows.proofs.PartLemmas.{from_begun, from_scales, from_inner_keys, from_drags}
+use Rattle.compiled_rows.proofs.PartLemmas.{or_left, or_right, any_either, lists_are_parted, inner_lists_are_parted, of_scales, of_inner_keys, of_drags}
+use Rattle.compiled_rows.proofs.PartLemmas.{from_scales, from_inner_keys, from_drags}
 use Rattle.compiled_rows.proofs.ChoiceLemmas.{parts_are_covered}
 
 -- the parts of lists, one after the other, are the part of all of them
@@ -41,10 +41,9 @@ module _ (stem : List ℕ) (p : Plan) (grid : GridPlan) (f : FacetPlan) (name : 
   -- what is behind the units is parted
   behind_parted : is_one_of (names_behind stem p grid f) name ≡ true → is_one_of (names_parted stem p grid f) name ≡ true
   behind_parted e =
-      any_either test (of_begun stem p grid f ++ of_scales stem p grid f ++ of_inner_keys stem p grid f) (of_drags stem p grid f) e
-      (λ e. any_either test (of_begun stem p grid f ++ of_scales stem p grid f) (of_inner_keys stem p grid f) e
-      (λ e. any_either test (of_begun stem p grid f) (of_scales stem p grid f) e (from_begun stem p grid f name) (from_scales stem p grid f name))
-      (from_inner_keys stem p grid f name)) (from_drags stem p grid f name)
+      any_either test (of_scales stem p grid f ++ of_inner_keys stem p grid f) (of_drags stem p grid f) e
+      (λ e. any_either test (of_scales stem p grid f) (of_inner_keys stem p grid f) e (from_scales stem p grid f name) (from_inner_keys stem p grid f name))
+      (from_drags stem p grid f name)
 
 pub panels_stay_covered : PanelsStayCovered
 panels_stay_covered stem p grid inner f g place copy spot key outer names at facet within deeper units h =

@@ -1,26 +1,36 @@
 -- Names that are made differ from those for which their stem was chosen: they look like made ones, or they are longer.
-use Rattle.std.proofs.Common.{◌≡◌, refl, sym, ap, ◌∙◌, ℕ, zero, suc, ◌<◌, ◌≤◌, ◌≢◌, Bool, true, false, ◌&&◌, List, [], ◌∷◌, ◌++◌, length, All}
+use Rattle.std.proofs.Common.{◌≡◌, refl, sym, ap, ◌∙◌, ℕ, zero, suc, ◌<◌, ◌≤◌, ◌≢◌, Bool, true, false, ◌&&◌, ◌/◌, ◌%◌, ◌==◌, List, [], ◌∷◌, ◌++◌, length, All}
 use Rattle.std.proofs.Common.{if◌then◌else◌, arith, codes, decimal, get_or, true≢false, length-append, lit<, le_refl, fold}
 use Rattle.std.specs.List.{list_any, list_all}
-use Rattle.std.specs.Str.Parse.{AllDigits}
+use Rattle.std.specs.Fmt.{digit_glyph, digits, digits_onto}
 use Rattle.std.proofs.lemmas.Bool.Decides.{nat_tests}
-use Rattle.std.proofs.lemmas.Fmt.{decimal_is_IsNumeral}
 use Rattle.std.proofs.lemmas.List.{length-replicate}
 use Rattle.std.proofs.lemmas.List.Folds.{list_any_at}
-use Rattle.std.proofs.lemmas.Str.Parse.{digit_from_value}
 use Rattle.vega_assemble.specs.Names.{words, is_tail, looks_like, looks_made, longer, longest, underscores}
 use Rattle.compiled_rows.specs.Names.{MadeName, NoneName, UnitName, BegunName, CellsName, RanksName, CodesName, OuterName, OrdersName, KeysName, CellColumn}
-use Rattle.compiled_rows.specs.Names.{RankColumn, KeyColumn, MarkName, made_name, IsPlace, HasPlaces, MadeNamesAreNew}
+use Rattle.compiled_rows.specs.Names.{RankColumn, KeyColumn, MarkName, made_name, MadeNamesAreNew}
 use Rattle.compiled_rows.proofs.NameLemmas.{one, two, stem_first}
 
 -- ---- what stands behind words
 
-tail_digit : (c : ℕ) (ds : List ℕ) → AllDigits 10 (c ∷ ds) → is_tail c ≡ true
-tail_digit c ds d = let k = digit_from_value c d.0 in grind (arith, nat_tests)
+tail_glyph : (d : ℕ) → d < 10 → is_tail (digit_glyph false d) ≡ true
+tail_glyph d h = grind (arith, nat_tests)
 
-tails : (ds : List ℕ) → AllDigits 10 ds → list_all is_tail ds ≡ true
-tails [] d = refl
-tails (c ∷ ds) d = ap (λ b. b && list_all is_tail ds) (tail_digit c ds d) ∙ tails ds d.1
+tails_onto : (k n : ℕ) (acc : List ℕ) → list_all is_tail acc ≡ true → list_all is_tail (digits_onto k 10 false n acc) ≡ true
+tails_onto zero n acc h = h
+tails_onto (suc k) n acc h =
+    let more : list_all is_tail (digit_glyph false (n % 10) ∷ acc) ≡ true
+    = ap (λ b. b && list_all is_tail acc) (tail_glyph (n % 10) (omega arith)) ∙ h in
+    either (n / 10 == 0) (digit_glyph false (n % 10) ∷ acc) (digits_onto k 10 false (n / 10) (digit_glyph false (n % 10) ∷ acc)) more
+    (tails_onto k (n / 10) (digit_glyph false (n % 10) ∷ acc) more)
+  where
+    either : (b : Bool) (xs ys : List ℕ) → list_all is_tail xs ≡ true → list_all is_tail ys ≡ true → list_all is_tail (if b then xs else ys) ≡ true
+    either true xs ys p q = p
+    either false xs ys p q = q
+
+tails : (n : ℕ) → list_all is_tail (decimal n) ≡ true
+unfolding digits
+tails n = tails_onto 64 n [] refl
 
 all_behind : (xs ys : List ℕ) → list_all is_tail xs ≡ true → list_all is_tail ys ≡ true → list_all is_tail (xs ++ ys) ≡ true
 all_behind [] ys a b = b
@@ -30,28 +40,28 @@ all_behind (x ∷ xs) ys a b = by (is_tail x) refl (λ h. all_behind xs ys h b)
     by true e rest = ap (λ t. t && list_all is_tail (xs ++ ys)) e ∙ rest (ap (λ t. t && list_all is_tail xs) (sym e) ∙ a)
     by false e rest = absurd (true≢false (sym a ∙ ap (λ t. t && list_all is_tail xs) e))
 
-tail_one : (n : ℕ) → IsPlace n → list_all is_tail (one n) ≡ true
-tail_one n h = tails (decimal n) (decimal_is_IsNumeral n h).0.1
+tail_one : (n : ℕ) → list_all is_tail (one n) ≡ true
+tail_one n = tails n
 
-tail_two : (n m : ℕ) → IsPlace n → IsPlace m → list_all is_tail (two n m) ≡ true
-tail_two n m h k = all_behind (decimal n ++ codes "_") (decimal m) (all_behind (decimal n) (codes "_") (tail_one n h) refl) (tail_one m k)
+tail_two : (n m : ℕ) → list_all is_tail (two n m) ≡ true
+tail_two n m = all_behind (decimal n ++ codes "_") (decimal m) (all_behind (decimal n) (codes "_") (tail_one n) refl) (tail_one m)
 
 -- ---- names look like made ones
 
-looks : (a : MadeName) → HasPlaces a → looks_made (made_name [] a) ≡ true
-looks NoneName h = refl
-looks (UnitName n) h = list_any_at (looks_like (made_name [] (UnitName n))) words 1 [] (lit< tt) (tail_one n h)
-looks (BegunName n) h = list_any_at (looks_like (made_name [] (BegunName n))) words 2 [] (lit< tt) (tail_one n h)
-looks (CellsName n m) h = list_any_at (looks_like (made_name [] (CellsName n m))) words 3 [] (lit< tt) (tail_two n m h.0 h.1)
-looks (RanksName n) h = list_any_at (looks_like (made_name [] (RanksName n))) words 4 [] (lit< tt) (tail_one n h)
-looks (CodesName n m) h = list_any_at (looks_like (made_name [] (CodesName n m))) words 5 [] (lit< tt) (tail_two n m h.0 h.1)
-looks (OuterName n m) h = list_any_at (looks_like (made_name [] (OuterName n m))) words 6 [] (lit< tt) (tail_two n m h.0 h.1)
-looks (OrdersName n m) h = list_any_at (looks_like (made_name [] (OrdersName n m))) words 7 [] (lit< tt) (tail_two n m h.0 h.1)
-looks (KeysName n m) h = list_any_at (looks_like (made_name [] (KeysName n m))) words 8 [] (lit< tt) (tail_two n m h.0 h.1)
-looks CellColumn h = refl
-looks RankColumn h = refl
-looks (KeyColumn n) h = list_any_at (looks_like (made_name [] (KeyColumn n))) words 11 [] (lit< tt) (tail_one n h)
-looks (MarkName n) h = list_any_at (looks_like (made_name [] (MarkName n))) words 12 [] (lit< tt) (tail_one n h)
+looks : (a : MadeName) → looks_made (made_name [] a) ≡ true
+looks NoneName = refl
+looks (UnitName n) = list_any_at (looks_like (made_name [] (UnitName n))) words 1 [] (lit< tt) (tail_one n)
+looks (BegunName n) = list_any_at (looks_like (made_name [] (BegunName n))) words 2 [] (lit< tt) (tail_one n)
+looks (CellsName n m) = list_any_at (looks_like (made_name [] (CellsName n m))) words 3 [] (lit< tt) (tail_two n m)
+looks (RanksName n) = list_any_at (looks_like (made_name [] (RanksName n))) words 4 [] (lit< tt) (tail_one n)
+looks (CodesName n m) = list_any_at (looks_like (made_name [] (CodesName n m))) words 5 [] (lit< tt) (tail_two n m)
+looks (OuterName n m) = list_any_at (looks_like (made_name [] (OuterName n m))) words 6 [] (lit< tt) (tail_two n m)
+looks (OrdersName n m) = list_any_at (looks_like (made_name [] (OrdersName n m))) words 7 [] (lit< tt) (tail_two n m)
+looks (KeysName n m) = list_any_at (looks_like (made_name [] (KeysName n m))) words 8 [] (lit< tt) (tail_two n m)
+looks CellColumn = refl
+looks RankColumn = refl
+looks (KeyColumn n) = list_any_at (looks_like (made_name [] (KeyColumn n))) words 11 [] (lit< tt) (tail_one n)
+looks (MarkName n) = list_any_at (looks_like (made_name [] (MarkName n))) words 12 [] (lit< tt) (tail_one n)
 
 -- none of those that don't
 none_passes : {X : Type 0} (test : X → Bool) (xs : List X) → list_any test xs ≡ false → (k : ℕ) (d : X) → k < length xs
@@ -87,18 +97,18 @@ long mentioned a k d below same =
       length-replicate {A = ℕ} (suc (longest mentioned)) 95,
     )
 
-short : (mentioned : List (List ℕ)) (a : MadeName) → HasPlaces a → list_any looks_made mentioned ≡ false → (k : ℕ) (d : List ℕ) → k < length mentioned
+short : (mentioned : List (List ℕ)) (a : MadeName) → list_any looks_made mentioned ≡ false → (k : ℕ) (d : List ℕ) → k < length mentioned
     → made_name [] a ≡ get_or mentioned k d → ⊥
-short mentioned a p e k d below same =
-    true≢false (sym (looks a p) ∙ ap looks_made same ∙ none_passes looks_made mentioned e k d below)
+short mentioned a e k d below same =
+    true≢false (sym (looks a) ∙ ap looks_made same ∙ none_passes looks_made mentioned e k d below)
 
 abbrev stem_by : Bool → List (List ℕ) → List ℕ
 stem_by b mentioned = if b then underscores (suc (longest mentioned)) else []
 
-new_by : (mentioned : List (List ℕ)) (a : MadeName) → HasPlaces a → (b : Bool) → list_any looks_made mentioned ≡ b
+new_by : (mentioned : List (List ℕ)) (a : MadeName) → (b : Bool) → list_any looks_made mentioned ≡ b
     → All (λ name. made_name (stem_by b mentioned) a ≢ name) mentioned
-new_by mentioned a p true e = λ k d below same. long mentioned a k d below same
-new_by mentioned a p false e = λ k d below same. short mentioned a p e k d below same
+new_by mentioned a true e = λ k d below same. long mentioned a k d below same
+new_by mentioned a false e = λ k d below same. short mentioned a e k d below same
 
 pub made_names_are_new : MadeNamesAreNew
-made_names_are_new mentioned a p = new_by mentioned a p (list_any looks_made mentioned) refl
+made_names_are_new mentioned a = new_by mentioned a (list_any looks_made mentioned) refl

@@ -28,7 +28,7 @@ use Rattle.chart_plan.specs.declared.orders.CellOrder.TheVariants as stands
 use Rattle.chart_plan.specs.declared.plan.Plan.{Plan}
 use Rattle.chart_meaning.specs.Parts.{Copy, cells_below, facet_rank, cells_in_order, field_cells, names_of}
 use Rattle.vega_assemble.specs.Drags.{outer_names}
-use Rattle.vega_assemble.specs.Facets.{scale_names, begun_names, keys_inside, deeper, grids_inside}
+use Rattle.vega_assemble.specs.Facets.{scale_names, keys_inside, deeper, grids_inside}
 use Rattle.vega_assemble.specs.Keys.{is_first, ordered, and_before, stands_by, entry_of, sort_of, wants_key, has_keys, placed}
 use Rattle.vega_assemble.specs.Names.{unit_name, keys_name, key_column}
 use Rattle.vega_assemble.specs.Steps.{direction, directed, sort_written}
@@ -49,7 +49,8 @@ direction_back : (d : Bool) → is_descending (direction d) ≡ d
 direction_back true = refl
 direction_back false = refl
 
-one_back : (before : List SortBy) (b : SortBy) (bys : List SortBy) → sort_by (Some (orders.Several (map directed (before ++ b ∷ bys)))) (length before, b.field) ≡ b
+one_back : (before : List SortBy) (b : SortBy) (bys : List SortBy)
+    → sort_by (Some (orders.Several (map directed (before ++ b ∷ bys)))) (length before, b.field) ≡ b
 one_back before b bys = λ i. record {
   field = b.field;
   descending = (ap (λ o. is_descending (unwrap_or o Ascending)) (at_length directed before b bys) ∙ direction_back b.descending) i;
@@ -166,7 +167,8 @@ module _ (stem : List ℕ) (copy : Copy) (units : List ℕ) (rows : List Datum) 
   -- where no field behind one has an order
   last_one : (before : List SortBy) (field : FacetField) (fields : List FacetField) (b : Bool) → is_first field.order ≡ b → ordered fields ≡ []
       → list_any wants (cond b [] (field ∷ [])) ≡ false → Have (field ∷ fields)
-      → all_found (map (field_cells copy units) (field ∷ fields)) ≡ Some (along (before ++ entries (length before) (cond b [] (field ∷ []))) (length before) (field ∷ fields))
+      → all_found (map (field_cells copy units) (field ∷ fields))
+      ≡ Some (along (before ++ entries (length before) (cond b [] (field ∷ []))) (length before) (field ∷ fields))
   last_one before field fields true is none e h =
       unordered (before ++ []) (length before) (past_all before) (field ∷ fields)
       (ap (and_before field) none ∙ ap (λ b. cond b [] (field ∷ [])) is) h
@@ -177,7 +179,8 @@ module _ (stem : List ℕ) (copy : Copy) (units : List ℕ) (rows : List Datum) 
 
   one_more : (before : List SortBy) (field : FacetField) (fields os : List FacetField) → ordered fields ≡ os → list_any wants (and_before field os) ≡ false
       → Have (field ∷ fields) → (list_any wants (ordered fields) ≡ false → Later (before ++ entry_of stem (length before, field) ∷ []) fields)
-      → all_found (map (field_cells copy units) (field ∷ fields)) ≡ Some (along (before ++ entries (length before) (and_before field os)) (length before) (field ∷ fields))
+      → all_found (map (field_cells copy units) (field ∷ fields))
+      ≡ Some (along (before ++ entries (length before) (and_before field os)) (length before) (field ∷ fields))
   one_more before field fields [] is e h rest = last_one before field fields (is_first field.order) refl is e h
   one_more before field fields (next ∷ os) is e h rest =
       let entry = entry_of stem (length before, field) in
@@ -220,9 +223,6 @@ module _ (stem : List ℕ) (p : Plan) (grid : GridPlan) (f : FacetPlan) (none : 
   abbrev units : List (List ℕ)
   units = map (unit_name stem) f.units
 
-  abbrev begun : List (List ℕ)
-  begun = begun_names stem (scales_held p grid f) f.units
-
   abbrev scales : List (List ℕ)
   scales = scale_names stem p.grids (scales_held p grid f)
 
@@ -234,9 +234,8 @@ module _ (stem : List ℕ) (p : Plan) (grid : GridPlan) (f : FacetPlan) (none : 
 
   names_are : names_parted stem p grid f ≡ units ++ names_behind stem p grid f
   names_are =
-      ap (λ b. (cond b (map (keys_name stem grid.number) f.units) [] ++ units ++ begun ++ scales ++ keys) ++ drags) none
-      ∙ ap (λ l. l ++ drags) (ap (λ l. l ++ keys) (append_assoc units begun scales) ∙ append_assoc units (begun ++ scales) keys)
-      ∙ append_assoc units (begun ++ scales ++ keys) drags
+      ap (λ b. (cond b (map (keys_name stem grid.number) f.units) [] ++ units ++ scales ++ keys) ++ drags) none
+      ∙ ap (λ l. l ++ drags) (append_assoc units scales keys) ∙ append_assoc units (scales ++ keys) drags
 
   units_read : (copy : Copy) (us : List ℕ) → All (λ unit. outer (unit_name stem unit) ≡ copy.rows unit) us
       → flat_map outer (map (unit_name stem) us) ≡ flat_map copy.rows us

@@ -1,5 +1,6 @@
 -- Why the lists in copies are the parts of panels.
-use Rattle.std.proofs.Common.{◌≡◌, ℕ, zero, suc, ◌≤◌, ◌==◌, ◌||◌, ◌&&◌, not, Bool, true, false, cond, Option, Some, None, List, [], ◌∷◌, ◌++◌, map, filter, flat_map}
+use Rattle.std.proofs.Common.{◌≡◌, ℕ, zero, suc, ◌≤◌, ◌==◌, ◌||◌, ◌&&◌, not, Bool, true, false, cond, Option, Some, None, List, [], ◌∷◌, ◌++◌, map, filter}
+use Rattle.std.proofs.Common.{flat_map}
 use Rattle.std.proofs.Common.{All, refl, sym, ap, ◌∙◌, subst, arith}
 use Rattle.std.specs.Prelude.{zip, slice_get, nat_le}
 use Rattle.std.specs.List.{list_any, enumerate_from}
@@ -26,10 +27,10 @@ use Rattle.chart_plan.specs.Shown.{is_among}
 use Rattle.chart_meaning.specs.Parts.{names_of}
 use Rattle.vega_assemble.specs.Drags.{outer_lists, outer_names, name_of_set}
 use Rattle.vega_assemble.specs.Facets.{facet_over, names_of_keys, first_of, is_inside, is_grid_inside, grids_inside, is_number, holds, is_held}
-use Rattle.vega_assemble.specs.Facets.{scale_names, refers, begun_names, keys_inside, is_deeper, deeper, parts_by}
-use Rattle.vega_assemble.specs.Lists.{lists_of_scale, domain_refers}
-use Rattle.vega_assemble.specs.Names.{unit_name, begun_name}
-use Rattle.compiled_rows.specs.Parts.{is_one_of, names_parted, scales_held, ListsAreParted, UnitsAreParted, BegunAreParted, InnerListsAreParted}
+use Rattle.vega_assemble.specs.Facets.{names_of_sets, scale_names, keys_inside, is_deeper, deeper, parts_by}
+use Rattle.vega_assemble.specs.Lists.{lists_of_scale}
+use Rattle.vega_assemble.specs.Names.{unit_name}
+use Rattle.compiled_rows.specs.Parts.{is_one_of, names_parted, scales_held, ListsAreParted, UnitsAreParted, ScaleListsAreParted, InnerListsAreParted}
 
 -- ---- tests
 
@@ -159,21 +160,6 @@ module _ (stem : List ℕ) where
       (λ here. or_left (bytes_eq (unit_name stem n) (unit_name stem unit)) _ ((bytes_eq-Decides _ _).1 (ap (unit_name stem) (eqb-true n unit here))))
       (λ later. or_right (bytes_eq (unit_name stem n) (unit_name stem unit)) _ (unit_among units unit later))
 
-  begun_among : (test : ℕ → Bool) (units : List ℕ) (unit : ℕ) → is_among units unit ≡ true → test unit ≡ true
-      → is_one_of (map (begun_name stem) (filter test units)) (begun_name stem unit) ≡ true
-  begun_among test [] unit e h = e
-  begun_among test (n ∷ units) unit e h =
-      or_either (n == unit) (is_among units unit) e
-      (λ here. let is : n ≡ unit = eqb-true n unit here in
-      ap (λ t. is_one_of (map (begun_name stem) (cond t (n ∷ filter test units) (filter test units))) (begun_name stem unit)) (ap test is ∙ h)
-      ∙ or_left (bytes_eq (begun_name stem n) (begun_name stem unit)) _ ((bytes_eq-Decides _ _).1 (ap (begun_name stem) is)))
-      (λ later. kept (test n) (begun_among test units unit later h))
-    where
-      kept : (t : Bool) → is_one_of (map (begun_name stem) (filter test units)) (begun_name stem unit) ≡ true
-          → is_one_of (map (begun_name stem) (cond t (n ∷ filter test units) (filter test units))) (begun_name stem unit) ≡ true
-      kept true k = or_right (bytes_eq (begun_name stem n) (begun_name stem unit)) _ k
-      kept false k = k
-
   module _ (p : Plan) (grid : GridPlan) (f : FacetPlan) where
     abbrev inside : List GridPlan
     inside = grids_inside p.grids grid f
@@ -186,9 +172,6 @@ module _ (stem : List ℕ) where
 
     abbrev of_units : List (List ℕ)
     of_units = map (unit_name stem) f.units
-
-    abbrev pub of_begun : List (List ℕ)
-    of_begun = begun_names stem held f.units
 
     abbrev pub of_scales : List (List ℕ)
     of_scales = scale_names stem p.grids held
@@ -213,30 +196,25 @@ module _ (stem : List ℕ) where
       from_parts e = any_left test (parts_by stem p.grids inside held grid.number f) of_drags e
 
       pub from_inner_keys : is_one_of of_inner_keys name ≡ true → Parted
-      from_inner_keys e = from_parts (any_right test (own_keys ++ of_units ++ of_begun ++ of_scales) of_inner_keys e)
+      from_inner_keys e = from_parts (any_right test (own_keys ++ of_units ++ of_scales) of_inner_keys e)
 
       pub from_scales : is_one_of of_scales name ≡ true → Parted
       from_scales e =
-          from_parts (any_left test (own_keys ++ of_units ++ of_begun ++ of_scales) of_inner_keys (any_right test (own_keys ++ of_units ++ of_begun) of_scales e))
-
-      pub from_begun : is_one_of of_begun name ≡ true → Parted
-      from_begun e =
-          from_parts (any_left test (own_keys ++ of_units ++ of_begun ++ of_scales) of_inner_keys
-          (any_left test (own_keys ++ of_units ++ of_begun) of_scales (any_right test (own_keys ++ of_units) of_begun e)))
+          from_parts (any_left test (own_keys ++ of_units ++ of_scales) of_inner_keys
+          (any_right test (own_keys ++ of_units) of_scales e))
 
       from_units : is_one_of of_units name ≡ true → Parted
       from_units e =
-          from_parts (any_left test (own_keys ++ of_units ++ of_begun ++ of_scales) of_inner_keys
-          (any_left test (own_keys ++ of_units ++ of_begun) of_scales (any_left test (own_keys ++ of_units) of_begun (any_right test own_keys of_units e))))
+          from_parts (any_left test (own_keys ++ of_units ++ of_scales) of_inner_keys
+          (any_left test (own_keys ++ of_units) of_scales (any_right test own_keys of_units e)))
 
       -- what holds of each kind holds of all that is parted
-      of_each_kind : {P : Type 0} → Parted → (is_one_of own_keys name ≡ true → P) → (is_one_of of_units name ≡ true → P) → (is_one_of of_begun name ≡ true → P)
+      of_each_kind : {P : Type 0} → Parted → (is_one_of own_keys name ≡ true → P) → (is_one_of of_units name ≡ true → P)
           → (is_one_of of_scales name ≡ true → P) → (is_one_of of_inner_keys name ≡ true → P) → (is_one_of of_drags name ≡ true → P) → P
-      of_each_kind e keys units begun scales inner drags =
+      of_each_kind e keys units scales inner drags =
           any_either test (parts_by stem p.grids inside held grid.number f) of_drags e
-          (λ e. any_either test (own_keys ++ of_units ++ of_begun ++ of_scales) of_inner_keys e
-          (λ e. any_either test (own_keys ++ of_units ++ of_begun) of_scales e
-          (λ e. any_either test (own_keys ++ of_units) of_begun e (λ e. any_either test own_keys of_units e keys units) begun) scales) inner) drags
+          (λ e. any_either test (own_keys ++ of_units ++ of_scales) of_inner_keys e
+          (λ e. any_either test (own_keys ++ of_units) of_scales e (λ e. any_either test own_keys of_units e keys units) scales) inner) drags
 
 pub units_are_parted : UnitsAreParted
 units_are_parted stem p grid f copy spot key outer unit among e =
@@ -245,12 +223,35 @@ units_are_parted stem p grid f copy spot key outer unit among e =
     (from_units stem p grid f (unit_name stem unit) (unit_among stem f.units unit among))
     ∙ ap (part_of (names_of f) key) e
 
-pub begun_are_parted : BegunAreParted
-begun_are_parted stem p grid f copy spot key outer unit among referred e =
-    lists_are_parted (names_parted stem p grid f) f key outer (begun_name stem unit)
-    ∙ ap (λ b. cond b (part_of (names_of f) key (outer (begun_name stem unit))) (outer (begun_name stem unit)))
-    (from_begun stem p grid f (begun_name stem unit) (begun_among stem (refers (scales_held p grid f)) f.units unit among referred))
-    ∙ ap (part_of (names_of f) key) e
+-- a list of one of some scales is among theirs
+none_there : {X : Type 0} (x : X) → None ≡ Some x → ⊥
+none_there x e = cc
+
+there_among : (sets : List DataSet) (j : ℕ) (set : DataSet) → slice_get sets j ≡ Some set → is_one_of (names_of_sets sets) set.name ≡ true
+there_among [] j set at = absurd (none_there set at)
+there_among (x ∷ sets) zero set at =
+    or_left (bytes_eq x.name set.name) (is_one_of (names_of_sets sets) set.name)
+    ((bytes_eq-Decides x.name set.name).1 (ap (λ (o : Option DataSet). option_map_or name_of_set o []) at))
+there_among (x ∷ sets) (suc j) set at =
+    or_right (bytes_eq x.name set.name) (is_one_of (names_of_sets sets) set.name) (there_among sets j set at)
+
+list_among : (lists : ℕ × ScalePlan → List DataSet) (held : List (ℕ × ScalePlan)) (k : ℕ) (s : ℕ × ScalePlan) (name : List ℕ)
+    → slice_get held k ≡ Some s → is_one_of (names_of_sets (lists s)) name ≡ true → is_one_of (names_of_sets (flat_map lists held)) name ≡ true
+list_among lists [] k s name at e = absurd (none_there s at)
+list_among lists (x ∷ held) zero s name at e =
+    ap (λ l. is_one_of l name) (map-append name_of_set (lists x) (flat_map lists held))
+    ∙ any_left (λ other. bytes_eq other name) (names_of_sets (lists x)) (names_of_sets (flat_map lists held))
+    (ap (λ (o : Option (ℕ × ScalePlan)). is_one_of (names_of_sets (option_map_or lists o [])) name) at ∙ e)
+list_among lists (x ∷ held) (suc k) s name at e =
+    ap (λ l. is_one_of l name) (map-append name_of_set (lists x) (flat_map lists held))
+    ∙ any_right (λ other. bytes_eq other name) (names_of_sets (lists x)) (names_of_sets (flat_map lists held)) (list_among lists held k s name at e)
+
+pub scale_lists_are_parted : ScaleListsAreParted
+scale_lists_are_parted stem p grid f key outer k j s set at there =
+    lists_are_parted (names_parted stem p grid f) f key outer set.name
+    ∙ ap (λ b. cond b (part_of (names_of f) key (outer set.name)) (outer set.name))
+    (from_scales stem p grid f set.name
+    (list_among (lists_of_scale stem p.grids) (scales_held p grid f) k s set.name at (there_among (lists_of_scale stem p.grids s) j set there)))
 
 -- ---- facets in facets
 
@@ -322,14 +323,10 @@ module _ (stem : List ℕ) (p : Plan) (outer inner : GridPlan) (f g : FacetPlan)
   held_too : (s : ℕ × ScalePlan) → is_held (grids_inside p.grids inner g) s ≡ true → is_held (grids_inside p.grids outer f) s ≡ true
   held_too s e = by s.1.holder e
     where
-      by : (o : Option ℕ) → option_map_or (holds (grids_inside p.grids inner g)) o false ≡ true → option_map_or (holds (grids_inside p.grids outer f)) o false ≡ true
+      by : (o : Option ℕ) → option_map_or (holds (grids_inside p.grids inner g)) o false ≡ true
+          → option_map_or (holds (grids_inside p.grids outer f)) o false ≡ true
       by None e = e
       by (Some number) e = any_kept_more (is_number number) (is_grid_inside inner g) (is_grid_inside outer f) inside_too p.grids e
-
-  refers_too : (unit : ℕ) → refers (scales_held p inner g) unit ≡ true → refers (scales_held p outer f) unit ≡ true
-  refers_too unit e =
-      any_kept_more (λ (s : ℕ × ScalePlan). domain_refers unit s.1.domain) (is_held (grids_inside p.grids inner g)) (is_held (grids_inside p.grids outer f))
-      held_too (enumerate_from 0 p.scales) e
 
   module _ (name : List ℕ) where
     abbrev named : List ℕ → Bool
@@ -345,23 +342,6 @@ module _ (stem : List ℕ) (p : Plan) (outer inner : GridPlan) (f g : FacetPlan)
         (λ here. from_units stem p outer f name (subst (λ n. is_one_of (map (unit_name stem) f.units) n ≡ true) ((bytes_eq-Decides _ _).0 here)
         (unit_among stem f.units u (All-head (λ unit. is_among f.units unit ≡ true) u us h))))
         (λ later. units_out us (All-tail (λ unit. is_among f.units unit ≡ true) u us h) later)
-
-    begun_out : (us : List ℕ) → All (λ unit. is_among f.units unit ≡ true) us
-        → is_one_of (map (begun_name stem) (filter (refers (scales_held p inner g)) us)) name ≡ true → Out
-    begun_out [] h e = absurd (cc)
-    begun_out (u ∷ us) h e =
-        by_cases (refers (scales_held p inner g) u)
-        (λ is. or_either (bytes_eq (begun_name stem u) name) (is_one_of (map (begun_name stem) (filter (refers (scales_held p inner g)) us)) name)
-        (sym (ap (λ t. is_one_of (map (begun_name stem) (cond t (u ∷ kept) kept)) name) is) ∙ e)
-        (λ here. from_begun stem p outer f name
-        (subst (λ n. is_one_of (begun_names stem (scales_held p outer f) f.units) n ≡ true) ((bytes_eq-Decides _ _).0 here)
-        (begun_among stem (refers (scales_held p outer f)) f.units u (All-head (λ unit. is_among f.units unit ≡ true) u us h) (refers_too u is))))
-        (λ later. begun_out us (All-tail (λ unit. is_among f.units unit ≡ true) u us h) later))
-        (λ no_more. begun_out us (All-tail (λ unit. is_among f.units unit ≡ true) u us h)
-        (sym (ap (λ t. is_one_of (map (begun_name stem) (cond t (u ∷ kept) kept)) name) no_more) ∙ e))
-      where
-        kept : List ℕ
-        kept = filter (refers (scales_held p inner g)) us
 
     keys_out : (place : ℕ) → slice_get p.grids place ≡ Some inner → is_one_of (names_of_keys stem inner.number g) name ≡ true → Out
     keys_out place at e =
@@ -388,7 +368,7 @@ module _ (stem : List ℕ) (p : Plan) (outer inner : GridPlan) (f g : FacetPlan)
 
     out : (place : ℕ) → slice_get p.grids place ≡ Some inner → is_one_of (names_parted stem p inner g) name ≡ true → Out
     out place at e =
-        of_each_kind stem p inner g name e (keys_out place at) (units_out g.units units) (begun_out g.units units)
+        of_each_kind stem p inner g name e (keys_out place at) (units_out g.units units)
         (λ here. from_scales stem p outer f name (lists_out (lists_of_scale stem p.grids) here)) inner_keys_out
         (λ here. from_drags stem p outer f name (lists_out (outer_lists stem p.selections) here))
 

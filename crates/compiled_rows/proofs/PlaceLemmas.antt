@@ -4,8 +4,10 @@ use Rattle.std.proofs.Common.{map, All, arith, le_refl, length, length-append, d
 use Rattle.std.specs.List.{cons_option, enumerate_from}
 use Rattle.std.specs.Option.{option_map_or}
 use Rattle.std.proofs.lemmas.List.Elements.{All-nil, All-cons, All-head, All-tail, All-append}
+use Rattle.cell_value.specs.declared.cell.Cell.TheVariants as cell
 use Rattle.vega_spec.specs.declared.data.DataSet.{DataSet}
 use Rattle.vega_spec.specs.declared.domains.Reference.{Reference}
+use Rattle.vega_spec.specs.declared.groupings.Lookup.{Lookup}
 use Rattle.vega_spec.specs.declared.transforms.Transform.{Transform}
 use Rattle.vega_spec.specs.declared.transforms.Transform.TheVariants as vega
 use Rattle.expr_syntax.specs.declared.expr.Expr.TheVariants as expr
@@ -23,14 +25,21 @@ use Rattle.chart_plan.specs.declared.orders.RowsOrder.{RowsOrder}
 use Rattle.chart_plan.specs.declared.plan.Plan.{Plan}
 use Rattle.chart_plan.specs.declared.scales.ScalePlan.{ScalePlan}
 use Rattle.chart_plan.specs.declared.selections.SelectionPlan.{SelectionPlan}
-use Rattle.vega_assemble.specs.Domains.{column_referred, is_lone, own_referred, plainly_referred, reference, referred}
+use Rattle.vega_assemble.specs.Cells.{field_expr}
+use Rattle.vega_assemble.specs.Domains.{all_own, column_referred, own_referred, plainly_referred, ranks_referred, referred}
 use Rattle.vega_assemble.specs.Drags.{is_copied, references_of, outer_list, outer_lists}
-use Rattle.vega_assemble.specs.Keys.{and_before, given_by, has_keys, looked_up, place_of_row, is_first, key_steps, keys_list, lists_with_keys, lists_of_facet, lists_of_grid, ordered, orders_for, orders_if, orders_list, placed, steps_for}
-use Rattle.vega_assemble.specs.Lists.{beside_domain, beside_order, column_list, list_if_wanted, lists_for_scale, lists_in_order, lists_of_domain}
-use Rattle.vega_assemble.specs.Lists.{names_held, plain_list, plain_lists, rank_formula}
-use Rattle.vega_assemble.specs.Ranks.{listed_rank, over_none}
-use Rattle.vega_assemble.specs.Names.{unit_name, begun_name, cells_name, codes_name, ranks_name, orders_name, keys_name, outer_name, cell_column, key_column, rank_column}
-use Rattle.vega_assemble.specs.Ranked.{are_some, cell_formula, cells_alone, codes_list, codes_lists, formula, found_in, given_in, key_name, lists_beside, number_found, numbers_rows, numbers_text, rank_steps, ranks_list, steps_to_key, told_by}
+use Rattle.vega_assemble.specs.Keys.{and_before, field_keys, found_somewhere, given_by, has_keys, is_first, keys_list, lists_of_facet, lists_of_grid}
+use Rattle.vega_assemble.specs.Keys.{lists_with_keys, looked_twice, looked_up, ordered, orders_for, orders_if, orders_list, orders_steps, place_of_row, placed}
+use Rattle.vega_assemble.specs.Keys.{steps_for}
+use Rattle.vega_assemble.specs.Lists.{beside_domain, beside_order, column_list, column_lists, list_if_wanted, lists_for_scale, lists_in_order, lists_of_domain}
+use Rattle.vega_assemble.specs.Lists.{name_of_column, names_held, names_of_columns, plain_list, plain_lists, ranked_lists}
+use Rattle.vega_assemble.specs.Ranks.{counts, listed_rank, over_none}
+use Rattle.vega_assemble.specs.Names.{unit_name, begun_name, cells_name, codes_name, ranks_name, orders_name, keys_name, outer_name, cell_column, key_column}
+use Rattle.vega_assemble.specs.Names.{rank_column}
+use Rattle.vega_assemble.specs.Ranked.{are_some, cell_formula, cells_alone, codes_list, codes_lists, column_steps, formula, found_in, given_in, kept_in}
+use Rattle.vega_assemble.specs.Ranked.{key_name}
+use Rattle.vega_assemble.specs.Ranked.{lacks_key, not_all, number_found, numbers_rows, numbers_text, rank_formula, rank_step, ranks_list, ranks_steps}
+use Rattle.vega_assemble.specs.Ranked.{steps_to_key, told_by}
 use Rattle.vega_assemble.specs.Ranked.{key_steps as rank_key_steps}
 use Rattle.compiled_rows.specs.Names.{CellsName, RanksName, CodesName, OuterName, OrdersName, KeysName, IsPlace}
 use Rattle.compiled_rows.specs.Lists.{scale_lists, grid_lists, drag_lists, other_lists, telling, IsSmallDomain, IsSmallScale, Rises, IsSmallFacet}
@@ -55,11 +64,11 @@ of_begun stem at unit = inl (record { byte = 98; rest = drop 1 (begun_name [] un
 of_codes : (stem : List ℕ) (at n m : ℕ) → IsPlace n → IsPlace m → (n * 4 + 1) * W < at → MayRead stem at (codes_name stem n m)
 of_codes stem at n m p q less = inr (record { named = CodesName n m; fits = (p, q); is = refl; less = omega (arith, q, less) })
 
-of_ranks : (stem : List ℕ) (at n : ℕ) → IsPlace n → (n * 4 + 2) * W < at → MayRead stem at (ranks_name stem n)
-of_ranks stem at n p less = inr (record { named = RanksName n; fits = p; is = refl; less = omega (arith, less) })
+of_cells : (stem : List ℕ) (at n m : ℕ) → IsPlace n → IsPlace m → (n * 4 + 2) * W < at → MayRead stem at (cells_name stem n m)
+of_cells stem at n m p q less = inr (record { named = CellsName n m; fits = (p, q); is = refl; less = omega (arith, q, less) })
 
-of_cells : (stem : List ℕ) (at n m : ℕ) → IsPlace n → IsPlace m → W * 8 * W < at → MayRead stem at (cells_name stem n m)
-of_cells stem at n m p q less = inr (record { named = CellsName n m; fits = (p, q); is = refl; less = omega (arith, p, q, less) })
+of_ranks : (stem : List ℕ) (at n : ℕ) → IsPlace n → (n * 4 + 3) * W < at → MayRead stem at (ranks_name stem n)
+of_ranks stem at n p less = inr (record { named = RanksName n; fits = p; is = refl; less = omega (arith, less) })
 
 of_orders : (stem : List ℕ) (at n m : ℕ) → IsPlace n → IsPlace m → (W * 4 + n * 4 + 1) * W < at → MayRead stem at (orders_name stem n m)
 of_orders stem at n m p q less = inr (record { named = OrdersName n m; fits = (p, q); is = refl; less = omega (arith, q, less) })
@@ -128,12 +137,14 @@ rise_mapped : {X : Type 0} (stem : List ℕ) (set_of : ℕ × X → DataSet) (ba
     → (n : ℕ) (xs : List X) → n + length xs ≤ W → Rise stem (base + n) (base + (n + length xs)) (map set_of (enumerate_from n xs))
 rise_mapped stem set_of base each n [] few = omega arith
 rise_mapped stem set_of base each n (x ∷ xs) few =
-    then_rise stem (base + n) (base + n) (base + (n + length (x ∷ xs))) (set_of (n, x)) (map set_of (enumerate_from (n + 1) xs)) (each n x (omega (arith, few))) (le_refl _)
+    then_rise stem (base + n) (base + n) (base + (n + length (x ∷ xs))) (set_of (n, x)) (map set_of (enumerate_from (n + 1) xs)) (each n x (omega (arith, few)))
+    (le_refl _)
     (lower stem (suc (base + n)) (base + (n + 1)) (base + (n + length (x ∷ xs))) (map set_of (enumerate_from (n + 1) xs)) (omega arith)
     (upper stem (base + (n + 1)) (base + ((n + 1) + length xs)) (base + (n + length (x ∷ xs))) (map set_of (enumerate_from (n + 1) xs)) (omega arith)
     (rise_mapped stem set_of base each (n + 1) xs (omega (arith, few)))))
 
-rise_wanted : {X : Type 0} (stem : List ℕ) (set_of : ℕ × X → Option DataSet) (base : ℕ) → ((n : ℕ) (x : X) → IsPlace n → IfSome (set_of (n, x)) (At stem (base + n)))
+rise_wanted : {X : Type 0} (stem : List ℕ) (set_of : ℕ × X → Option DataSet) (base : ℕ)
+    → ((n : ℕ) (x : X) → IsPlace n → IfSome (set_of (n, x)) (At stem (base + n)))
     → (n : ℕ) (xs : List X) → n + length xs ≤ W → Rise stem (base + n) (base + (n + length xs)) (filter_map set_of (enumerate_from n xs))
 rise_wanted stem set_of base each n [] few = omega arith
 rise_wanted stem set_of base each n (x ∷ xs) few =
@@ -153,22 +164,17 @@ rise_if : (stem : List ℕ) (low high : ℕ) (b : Bool) (sets : List DataSet) �
 rise_if stem low high true sets less rise = rise
 rise_if stem low high false sets less rise = less
 
-rise_unless : (stem : List ℕ) (low high : ℕ) (b : Bool) (sets : List DataSet) → low ≤ high → Rise stem low high sets
-    → Rise stem low high (if b then [] else sets)
-rise_unless stem low high true sets less rise = less
-rise_unless stem low high false sets less rise = rise
-
 -- ---- the lists of a scale
 
--- where those of a scale begin: its codes, its ranks, its cells
+-- where those of a scale begin: its codes, its cells, its ranks
 abbrev codes_from : ℕ → ℕ
 codes_from n = (n * 4) * W + 1
 
-abbrev ranks_from : ℕ → ℕ
-ranks_from n = (n * 4 + 1) * W + 1
-
 abbrev cells_from : ℕ → ℕ
-cells_from n = (n * 4 + 2) * W + 1
+cells_from n = (n * 4 + 1) * W + 1
+
+abbrev ranks_from : ℕ → ℕ
+ranks_from n = (n * 4 + 2) * W + 1
 
 codes_at : (stem : List ℕ) (scale : ℕ) (by : RowsOrder) → IsPlace scale → (n : ℕ) (field : List ℕ) → IsPlace n
     → At stem (codes_from scale + n) (codes_list stem scale by (n, field))
@@ -214,25 +220,6 @@ key_read stem scale at facets p less few = by (are_some facets)
     by true = steps
     by false = no_reads stem at
 
-ranks_at : (stem : List ℕ) (scale : ℕ) (facets : List (List ℕ)) (by : RowsOrder) → IsPlace scale → length facets + 1 < W
-    → At stem (ranks_from scale) (ranks_list stem scale facets by)
-ranks_at stem scale facets by p few = (
-  record {
-    named = RanksName scale;
-    fits = p;
-    is = refl;
-    other = other_is stem 114 (drop 1 (ranks_name [] scale)) refl;
-    source = begun_name stem by.unit;
-    begins = refl;
-    reads_source = of_begun stem (place (RanksName scale)) by.unit;
-    reads = silent stem (place (RanksName scale)) (cell_formula stem (shows.Field by.cell))
-        (vega.Aggregate (given_in (told_by stem facets) by (rank_column stem)) ∷ rank_key_steps stem scale facets) refl
-        (silent stem (place (RanksName scale)) (vega.Aggregate (given_in (told_by stem facets) by (rank_column stem))) (rank_key_steps stem scale facets) refl
-        (key_read stem scale (place (RanksName scale)) facets p (omega arith) few));
-  },
-  refl,
-)
-
 cells_at : (stem : List ℕ) (scale : ℕ) (more : List Transform) (n : ℕ) (column : Column) → IsPlace scale → IsPlace n
     → Reads stem (cells_from scale) more → At stem (cells_from scale + n) (column_list stem scale more (n, column))
 cells_at stem scale more n column p q reads = (
@@ -253,14 +240,16 @@ cells_at stem scale more n column p q reads = (
 -- the columns of a domain
 columns_rise : (stem : List ℕ) (scale : ℕ) (more : List Transform) (columns : List Column) → IsPlace scale → length columns < W
     → Reads stem (cells_from scale) more
-    → Rise stem (cells_from scale) (codes_from (scale + 1)) (map (column_list stem scale more) (enumerate_from 0 columns))
+    → Rise stem (cells_from scale) (ranks_from scale) (map (column_list stem scale more) (enumerate_from 0 columns))
 columns_rise stem scale more columns p few reads =
-    lower stem (cells_from scale) (cells_from scale + 0) (codes_from (scale + 1)) (map (column_list stem scale more) (enumerate_from 0 columns)) (omega arith)
-    (upper stem (cells_from scale + 0) (cells_from scale + (0 + length columns)) (codes_from (scale + 1)) (map (column_list stem scale more) (enumerate_from 0 columns))
-    (omega (arith, few))
-    (rise_mapped stem (column_list stem scale more) (cells_from scale) (λ n column q. cells_at stem scale more n column p q reads) 0 columns (omega (arith, few))))
+    let lists = map (column_list stem scale more) (enumerate_from 0 columns) in
+    lower stem (cells_from scale) (cells_from scale + 0) (ranks_from scale) lists (omega arith)
+    (upper stem (cells_from scale + 0) (cells_from scale + (0 + length columns)) (ranks_from scale) lists (omega (arith, few))
+    (rise_mapped stem (column_list stem scale more) (cells_from scale) (λ n column q. cells_at stem scale more n column p q reads) 0 columns
+    (omega (arith, few))))
 
-plain_at : (stem : List ℕ) (scale n unit : ℕ) (c : CellOf) → IsPlace scale → IsPlace n → IfSome (plain_list stem scale n unit c) (At stem (cells_from scale + n))
+plain_at : (stem : List ℕ) (scale n unit : ℕ) (c : CellOf) → IsPlace scale → IsPlace n
+    → IfSome (plain_list stem scale n unit c) (At stem (cells_from scale + n))
 plain_at stem scale n unit (shows.Field name) p q = tt
 plain_at stem scale n unit (shows.Written c) p q =
     cells_at stem scale [] n (record { unit = unit; cell = shows.Written c }) p q (no_reads stem (cells_from scale))
@@ -272,16 +261,79 @@ plain_rise : (stem : List ℕ) (scale : ℕ) (columns : List Column) → IsPlace
 plain_rise stem scale columns p few =
     lower stem (cells_from scale) (cells_from scale + 0) (codes_from (scale + 1)) (plain_lists stem scale columns) (omega arith)
     (upper stem (cells_from scale + 0) (cells_from scale + (0 + length columns)) (codes_from (scale + 1)) (plain_lists stem scale columns) (omega (arith, few))
-    (rise_wanted stem (list_if_wanted stem scale) (cells_from scale) (λ n column q. plain_at stem scale n column.unit column.cell p q) 0 columns (omega (arith, few))))
+    (rise_wanted stem (list_if_wanted stem scale) (cells_from scale) (λ n column q. plain_at stem scale n column.unit column.cell p q) 0 columns
+    (omega (arith, few))))
 
-rank_read : (stem : List ℕ) (scale : ℕ) (facets : List (List ℕ)) (by : RowsOrder) → IsPlace scale → length facets + 1 < W
-    → Reads stem (cells_from scale) (rank_steps stem scale facets by)
-rank_read stem scale facets by p few =
-    let found_there = vega.Lookup (found_in (ranks_name stem scale) (key_name stem facets) (rank_column stem) (over_none by.op)) in
-    both_read stem (cells_from scale) (rank_key_steps stem scale facets) (found_there ∷ [])
-    (key_read stem scale (cells_from scale) facets p (omega arith) few)
-    (and_reads stem (cells_from scale) found_there []
-    (one_read stem (cells_from scale) (ranks_name stem scale) (of_ranks stem (cells_from scale) scale p (omega arith))) (no_reads stem (cells_from scale)))
+-- ---- the rows of an order
+
+-- a list that puts its name into rows reads just itself
+lacks_read : (stem : List ℕ) (at : ℕ) (key : List ℕ) (sets : List (List ℕ)) → All (MayRead stem at) sets
+    → Reads stem at (map (lacks_key stem key) sets)
+lacks_read stem at key [] may = no_reads stem at
+lacks_read stem at key (set ∷ sets) may =
+    and_reads stem at (lacks_key stem key set) (map (lacks_key stem key) sets) (one_read stem at set (All-head (MayRead stem at) set sets may))
+    (lacks_read stem at key sets (All-tail (MayRead stem at) set sets may))
+
+kept_read : (stem : List ℕ) (at : ℕ) (key : List ℕ) (sets : List (List ℕ)) → All (MayRead stem at) sets → Reads stem at (kept_in stem key sets)
+kept_read stem at key sets may =
+    let filter = vega.Filter (record { expr = not_all sets }) in
+    both_read stem at (map (lacks_key stem key) sets) (filter ∷ []) (lacks_read stem at key sets may) (silent stem at filter [] refl (no_reads stem at))
+
+names_read : (stem : List ℕ) (at scale : ℕ) → IsPlace scale → (scale * 4 + 2) * W < at → (n : ℕ) (columns : List Column) → n + length columns ≤ W
+    → All (MayRead stem at) (map (name_of_column stem scale) (enumerate_from n columns))
+names_read stem at scale p less n [] few = nothing stem at
+names_read stem at scale p less n (column ∷ columns) few =
+    All-cons (MayRead stem at) (cells_name stem scale n) (map (name_of_column stem scale) (enumerate_from (n + 1) columns))
+    (of_cells stem at scale n p (omega (arith, few)) less) (names_read stem at scale p less (n + 1) columns (omega (arith, few)))
+
+rank_read : (stem : List ℕ) (at : ℕ) (facets : List (List ℕ)) (by : RowsOrder) → Reads stem at (rank_step stem facets by ∷ [])
+rank_read stem at facets by = silent stem at (rank_step stem facets by) [] (no_list (counts by.op)) (no_reads stem at)
+  where
+    no_list : (b : Bool)
+        → looked (if b then vega.Aggregate (given_in (told_by stem facets) by (rank_column stem))
+        else rank_formula stem (field_expr by.field)) ≡ []
+    no_list true = refl
+    no_list false = refl
+
+ranks_read : (stem : List ℕ) (at scale : ℕ) (facets sets : List (List ℕ)) (by : RowsOrder) → Reads stem at (rank_key_steps stem scale facets)
+    → All (MayRead stem at) sets → Reads stem at (ranks_steps stem scale facets sets by)
+ranks_read stem at scale facets sets by keys may =
+    let kept = kept_in stem (key_name stem facets) sets in
+    silent stem at (cell_formula stem (shows.Field by.cell)) (rank_key_steps stem scale facets ++ kept ++ rank_step stem facets by ∷ []) refl
+    (both_read stem at (rank_key_steps stem scale facets ++ kept) (rank_step stem facets by ∷ [])
+    (both_read stem at (rank_key_steps stem scale facets) kept keys (kept_read stem at (key_name stem facets) sets may)) (rank_read stem at facets by))
+
+ranks_at : (stem : List ℕ) (scale : ℕ) (facets : List (List ℕ)) (columns : List Column) (by : RowsOrder) → IsPlace scale → length facets + 1 < W
+    → length columns < W → At stem (ranks_from scale) (ranks_list stem scale facets (names_of_columns stem scale columns) by)
+ranks_at stem scale facets columns by p few short = (
+  record {
+    named = RanksName scale;
+    fits = p;
+    is = refl;
+    other = other_is stem 114 (drop 1 (ranks_name [] scale)) refl;
+    source = begun_name stem by.unit;
+    begins = refl;
+    reads_source = of_begun stem (place (RanksName scale)) by.unit;
+    reads = ranks_read stem (place (RanksName scale)) scale facets (names_of_columns stem scale columns) by
+        (key_read stem scale (place (RanksName scale)) facets p (omega arith) few)
+        (names_read stem (place (RanksName scale)) scale p (omega arith) 0 columns (omega (arith, short)));
+  },
+  refl,
+)
+
+ranked_rise : (stem : List ℕ) (scale : ℕ) (facets : List (List ℕ)) (by : RowsOrder) (columns : List Column) → IsPlace scale → length columns < W
+    → length facets + 1 < W → Rise stem (cells_from scale) (codes_from (scale + 1)) (ranked_lists stem scale facets by columns)
+ranked_rise stem scale facets by columns p few told =
+    let more = column_steps stem scale facets by in
+    let first = rank_formula stem (over_none by.op) in
+    let rows = ranks_list stem scale facets (names_of_columns stem scale columns) by in
+    join stem (cells_from scale) (ranks_from scale) (codes_from (scale + 1)) (column_lists stem scale facets by columns) (rows ∷ [])
+    (columns_rise stem scale more columns p few
+    (silent stem (cells_from scale) first (rank_key_steps stem scale facets) refl (key_read stem scale (cells_from scale) facets p (omega arith) told)))
+    (then_rise stem (ranks_from scale) (ranks_from scale) (codes_from (scale + 1)) rows [] (ranks_at stem scale facets columns by p told few) (le_refl _)
+    (omega arith))
+
+-- ---- all lists of a scale
 
 ordered_rise : (stem : List ℕ) (p : Plan) (scale : ℕ) (holder : Option ℕ) (order : CellOrder) (columns : List Column) → IsPlace scale → length columns < W
     → telling p holder order < W → Rise stem (cells_from scale) (codes_from (scale + 1)) (lists_in_order stem p.grids scale holder order columns)
@@ -290,41 +342,35 @@ ordered_rise stem p scale holder stands.Up columns q few told = plain_rise stem 
 ordered_rise stem p scale holder stands.Down columns q few told = plain_rise stem scale columns q few
 ordered_rise stem p scale holder (stands.Listed cells) columns q few told =
     let rank = rank_formula stem (listed_rank (expr.Field (cell_column stem)) cells) in
-    columns_rise stem scale (rank ∷ []) columns q few (silent stem (cells_from scale) rank [] refl (no_reads stem (cells_from scale)))
-ordered_rise stem p scale holder (stands.ByRows by) columns q few told =
-    let more = rank_steps stem scale (names_held p.grids by.unit holder) by in
-    rise_unless stem (cells_from scale) (codes_from (scale + 1)) (is_lone by columns) (map (column_list stem scale more) (enumerate_from 0 columns)) (omega arith)
-    (columns_rise stem scale more columns q few (rank_read stem scale (names_held p.grids by.unit holder) by q told))
+    upper stem (cells_from scale) (ranks_from scale) (codes_from (scale + 1)) (map (column_list stem scale (rank ∷ [])) (enumerate_from 0 columns))
+    (omega arith)
+    (columns_rise stem scale (rank ∷ []) columns q few (silent stem (cells_from scale) rank [] refl (no_reads stem (cells_from scale))))
+ordered_rise stem p scale holder (stands.ByRows by) columns q few told = ranked_rise stem scale (names_held p.grids by.unit holder) by columns q few told
 
-beside_rise : (stem : List ℕ) (scale : ℕ) (facets : List (List ℕ)) (by : RowsOrder) → IsPlace scale → length facets + 1 < W
-    → Rise stem (codes_from scale) (cells_from scale) (lists_beside stem scale facets by)
-beside_rise stem scale facets by p few =
+codes_rise : (stem : List ℕ) (scale : ℕ) (facets : List (List ℕ)) (by : RowsOrder) → IsPlace scale → length facets + 1 < W
+    → Rise stem (codes_from scale) (cells_from scale) (codes_lists stem scale facets by)
+codes_rise stem scale facets by p few =
     let codes = map (codes_list stem scale by) (enumerate_from 0 (told_by stem facets)) in
-    join stem (codes_from scale) (ranks_from scale) (cells_from scale) (codes_lists stem scale facets by) (ranks_list stem scale facets by ∷ [])
-    (rise_if stem (codes_from scale) (ranks_from scale) (are_some facets) codes (omega arith)
-    (lower stem (codes_from scale) (codes_from scale + 0) (ranks_from scale) codes (omega arith)
-    (upper stem (codes_from scale + 0) (codes_from scale + (0 + length (told_by stem facets))) (ranks_from scale) codes
+    rise_if stem (codes_from scale) (cells_from scale) (are_some facets) codes (omega arith)
+    (lower stem (codes_from scale) (codes_from scale + 0) (cells_from scale) codes (omega arith)
+    (upper stem (codes_from scale + 0) (codes_from scale + (0 + length (told_by stem facets))) (cells_from scale) codes
     (omega (arith, told_short stem facets few))
-    (rise_mapped stem (codes_list stem scale by) (codes_from scale) (codes_at stem scale by p) 0 (told_by stem facets) (told_short stem facets few)))))
-    (then_rise stem (ranks_from scale) (ranks_from scale) (cells_from scale) (ranks_list stem scale facets by) [] (ranks_at stem scale facets by p few) (le_refl _)
-    (omega arith))
+    (rise_mapped stem (codes_list stem scale by) (codes_from scale) (codes_at stem scale by p) 0 (told_by stem facets) (told_short stem facets few))))
 
-through_rise : (stem : List ℕ) (p : Plan) (scale : ℕ) (holder : Option ℕ) (order : CellOrder) (columns : List Column) → IsPlace scale
-    → telling p holder order < W → Rise stem (codes_from scale) (cells_from scale) (beside_order stem p.grids scale holder order columns)
-through_rise stem p scale holder stands.First columns q told = omega arith
-through_rise stem p scale holder stands.Up columns q told = omega arith
-through_rise stem p scale holder stands.Down columns q told = omega arith
-through_rise stem p scale holder (stands.Listed cells) columns q told = omega arith
-through_rise stem p scale holder (stands.ByRows by) columns q told =
-    rise_unless stem (codes_from scale) (cells_from scale) (is_lone by columns) (lists_beside stem scale (names_held p.grids by.unit holder) by) (omega arith)
-    (beside_rise stem scale (names_held p.grids by.unit holder) by q told)
+beside_rise : (stem : List ℕ) (p : Plan) (scale : ℕ) (holder : Option ℕ) (order : CellOrder) → IsPlace scale
+    → telling p holder order < W → Rise stem (codes_from scale) (cells_from scale) (beside_order stem p.grids scale holder order)
+beside_rise stem p scale holder stands.First q told = omega arith
+beside_rise stem p scale holder stands.Up q told = omega arith
+beside_rise stem p scale holder stands.Down q told = omega arith
+beside_rise stem p scale holder (stands.Listed cells) q told = omega arith
+beside_rise stem p scale holder (stands.ByRows by) q told = codes_rise stem scale (names_held p.grids by.unit holder) by q told
 
 domain_rise : (stem : List ℕ) (p : Plan) (scale : ℕ) (holder : Option ℕ) (domain : DomainPlan) → IsPlace scale → IsSmallDomain p holder domain
     → Rise stem (codes_from scale) (codes_from (scale + 1)) (beside_domain stem p.grids scale holder domain ++ lists_of_domain stem p.grids scale holder domain)
 domain_rise stem p scale holder (plan.Cells cells) q small = omega arith
 domain_rise stem p scale holder (plan.Columns of) q small =
-    join stem (codes_from scale) (cells_from scale) (codes_from (scale + 1)) (beside_order stem p.grids scale holder of.order of.columns)
-    (lists_in_order stem p.grids scale holder of.order of.columns) (through_rise stem p scale holder of.order of.columns q small.told)
+    join stem (codes_from scale) (cells_from scale) (codes_from (scale + 1)) (beside_order stem p.grids scale holder of.order)
+    (lists_in_order stem p.grids scale holder of.order of.columns) (beside_rise stem p scale holder of.order q small.told)
     (ordered_rise stem p scale holder of.order of.columns q small.columns small.told)
 
 scales_rise : (stem : List ℕ) (p : Plan) (n : ℕ) (scales : List ScalePlan) → n + length scales ≤ W → All (IsSmallScale p) scales
@@ -346,8 +392,29 @@ orders_from g = (W * 4 + g * 4) * W + 1
 abbrev keys_from : ℕ → ℕ
 keys_from g = (W * 4 + g * 4 + 1) * W + 1
 
-orders_at : (stem : List ℕ) (g n : ℕ) (by : RowsOrder) → IsPlace g → IsPlace n → At stem (orders_from g + n) (orders_list stem g n by)
-orders_at stem g n by p q = (
+units_read : (stem : List ℕ) (at facet : ℕ) (name here : List ℕ) (units : List ℕ) → Reads stem at (flat_map (looked_twice stem facet name here) units)
+units_read stem at facet name here [] = no_reads stem at
+units_read stem at facet name here (unit ∷ units) =
+    both_read stem at (looked_twice stem facet name here unit) (flat_map (looked_twice stem facet name here) units)
+    (twice (found_in (unit_name stem unit) name here name (unit_name stem unit) cell.Null)
+    (found_in (unit_name stem unit) name here name (keys_name stem facet unit) (cell.Flag true)) refl refl)
+    (units_read stem at facet name here units)
+  where
+    twice : (a b : Lookup) → a.from ≡ unit_name stem unit → b.from ≡ unit_name stem unit → Reads stem at (vega.Lookup a ∷ vega.Lookup b ∷ [])
+    twice a b first second =
+        and_reads stem at (vega.Lookup a) (vega.Lookup b ∷ []) (one_read stem at a.from (subst (MayRead stem at) (sym first) (of_unit stem at unit)))
+        (and_reads stem at (vega.Lookup b) [] (one_read stem at b.from (subst (MayRead stem at) (sym second) (of_unit stem at unit))) (no_reads stem at))
+
+orders_read : (stem : List ℕ) (at facet : ℕ) (units : List ℕ) (name : List ℕ) (by : RowsOrder) → Reads stem at (orders_steps stem facet units name by)
+orders_read stem at facet units name by =
+    let filter = vega.Filter (record { expr = found_somewhere stem facet units }) in
+    let last = vega.Aggregate (given_by stem by) in
+    both_read stem at (flat_map (looked_twice stem facet name by.cell) units) (filter ∷ last ∷ []) (units_read stem at facet name by.cell units)
+    (silent stem at filter (last ∷ []) refl (silent stem at last [] refl (no_reads stem at)))
+
+orders_at : (stem : List ℕ) (g : ℕ) (units : List ℕ) (n : ℕ) (name : List ℕ) (by : RowsOrder) → IsPlace g → IsPlace n
+    → At stem (orders_from g + n) (orders_list stem g units n name by)
+orders_at stem g units n name by p q = (
   record {
     named = OrdersName g n;
     fits = (p, q);
@@ -356,32 +423,36 @@ orders_at stem g n by p q = (
     source = begun_name stem by.unit;
     begins = refl;
     reads_source = of_begun stem (place (OrdersName g n)) by.unit;
-    reads = silent stem (place (OrdersName g n)) (vega.Aggregate (given_by stem by)) [] refl (no_reads stem (place (OrdersName g n)));
+    reads = subst (Reads stem (place (OrdersName g n))) (sym (transforms_back (orders_steps stem g units name by)))
+        (orders_read stem (place (OrdersName g n)) g units name by);
   },
   omega arith,
 )
 
 -- those of one field
-order_rise : (stem : List ℕ) (g n : ℕ) (order : CellOrder) → IsPlace g → IsPlace n → Rise stem (orders_from g + n) (orders_from g + (n + 1)) (orders_if stem g n order)
-order_rise stem g n stands.First p q = omega arith
-order_rise stem g n stands.Up p q = omega arith
-order_rise stem g n stands.Down p q = omega arith
-order_rise stem g n (stands.Listed cells) p q = omega arith
-order_rise stem g n (stands.ByRows by) p q =
-    then_rise stem (orders_from g + n) (orders_from g + n) (orders_from g + (n + 1)) (orders_list stem g n by) [] (orders_at stem g n by p q) (le_refl _) (omega arith)
+order_rise : (stem : List ℕ) (g : ℕ) (units : List ℕ) (n : ℕ) (name : List ℕ) (order : CellOrder) → IsPlace g → IsPlace n
+    → Rise stem (orders_from g + n) (orders_from g + (n + 1)) (orders_if stem g units n name order)
+order_rise stem g units n name stands.First p q = omega arith
+order_rise stem g units n name stands.Up p q = omega arith
+order_rise stem g units n name stands.Down p q = omega arith
+order_rise stem g units n name (stands.Listed cells) p q = omega arith
+order_rise stem g units n name (stands.ByRows by) p q =
+    then_rise stem (orders_from g + n) (orders_from g + n) (orders_from g + (n + 1)) (orders_list stem g units n name by) []
+    (orders_at stem g units n name by p q) (le_refl _) (omega arith)
 
-orders_rise : (stem : List ℕ) (g n : ℕ) (fields : List FacetField) → IsPlace g → n + length fields ≤ W
-    → Rise stem (orders_from g + n) (orders_from g + (n + length fields)) (flat_map (orders_for stem g) (enumerate_from n fields))
-orders_rise stem g n [] p few = omega arith
-orders_rise stem g n (field ∷ fields) p few =
-    join stem (orders_from g + n) (orders_from g + (n + 1)) (orders_from g + (n + length (field ∷ fields))) (orders_for stem g (n, field))
-    (flat_map (orders_for stem g) (enumerate_from (n + 1) fields))
-    (order_rise stem g n field.order p (omega (arith, few)))
+orders_rise : (stem : List ℕ) (g : ℕ) (units : List ℕ) (n : ℕ) (fields : List FacetField) → IsPlace g → n + length fields ≤ W
+    → Rise stem (orders_from g + n) (orders_from g + (n + length fields)) (flat_map (orders_for stem g units) (enumerate_from n fields))
+orders_rise stem g units n [] p few = omega arith
+orders_rise stem g units n (field ∷ fields) p few =
+    join stem (orders_from g + n) (orders_from g + (n + 1)) (orders_from g + (n + length (field ∷ fields))) (orders_for stem g units (n, field))
+    (flat_map (orders_for stem g units) (enumerate_from (n + 1) fields))
+    (order_rise stem g units n field.name field.order p (omega (arith, few)))
     (upper stem (orders_from g + (n + 1)) (orders_from g + ((n + 1) + length fields)) (orders_from g + (n + length (field ∷ fields)))
-    (flat_map (orders_for stem g) (enumerate_from (n + 1) fields)) (omega arith) (orders_rise stem g (n + 1) fields p (omega (arith, few))))
+    (flat_map (orders_for stem g units) (enumerate_from (n + 1) fields)) (omega arith) (orders_rise stem g units (n + 1) fields p (omega (arith, few))))
 
 -- keys read the orders of their fields
-key_order_read : (stem : List ℕ) (g unit n : ℕ) (name : List ℕ) (order : CellOrder) → IsPlace g → IsPlace n → Reads stem (keys_from g) (key_steps stem g unit n name order)
+key_order_read : (stem : List ℕ) (g unit n : ℕ) (name : List ℕ) (order : CellOrder) → IsPlace g → IsPlace n
+    → Reads stem (keys_from g) (field_keys stem g unit n name order)
 key_order_read stem g unit n name stands.First p q =
     let numbered = vega.Window (numbers_rows (key_column stem n)) in
     let made = formula (key_column stem n) (place_of_row unit (key_column stem n)) in
@@ -444,13 +515,13 @@ facet_rise : (stem : List ℕ) (g : ℕ) (facet : Option FacetPlan) → IsPlace 
     → Rise stem (orders_from g) (orders_from (g + 1)) (option_map_or (lists_of_facet stem g) facet [])
 facet_rise stem g None p small = omega arith
 facet_rise stem g (Some f) p small =
-    let orders = flat_map (orders_for stem g) (placed f.fields) in
+    let orders = flat_map (orders_for stem g f.units) (placed f.fields) in
     rise_if stem (orders_from g) (orders_from (g + 1)) (has_keys f.fields) (lists_with_keys stem g f.fields f.units) (omega arith)
     (join stem (orders_from g) (keys_from g) (orders_from (g + 1)) orders (map (keys_list stem g f.fields) f.units)
     (lower stem (orders_from g) (orders_from g + 0) (keys_from g) orders (omega arith)
     (upper stem (orders_from g + 0) (orders_from g + (0 + length (ordered f.fields))) (keys_from g) orders
     (omega (arith, ordered_short f.fields, small.fields))
-    (orders_rise stem g 0 (ordered f.fields) p (omega (arith, ordered_short f.fields, small.fields)))))
+    (orders_rise stem g f.units 0 (ordered f.fields) p (omega (arith, ordered_short f.fields, small.fields)))))
     (lower stem (keys_from g) (keys_from g + 0) (orders_from (g + 1)) (map (keys_list stem g f.fields) f.units) (omega arith)
     (keys_rise stem g 0 f.fields f.units p small.fields (omega arith) small.units)))
 
@@ -474,7 +545,10 @@ abbrev MayRefer : List ℕ → Reference → Type 0
 MayRefer stem r = MayRead stem (W * 8 * W + 1) r.data_
 
 cells_referred : (stem : List ℕ) (scale n : ℕ) → IsPlace scale → IsPlace n → MayRead stem (W * 8 * W + 1) (cells_name stem scale n)
-cells_referred stem scale n p q = of_cells stem (W * 8 * W + 1) scale n p q (omega arith)
+cells_referred stem scale n p q = of_cells stem (W * 8 * W + 1) scale n p q (omega (arith, p))
+
+ranks_may : (stem : List ℕ) (scale : ℕ) → IsPlace scale → MayRefer stem (ranks_referred stem scale)
+ranks_may stem scale p = of_ranks stem (W * 8 * W + 1) scale p (omega (arith, p))
 
 plain_referred : (stem : List ℕ) (scale n unit : ℕ) (c : CellOf) → IsPlace scale → IsPlace n → MayRefer stem (column_referred stem scale n unit c)
 plain_referred stem scale n unit (shows.Field name) p q = of_unit stem (W * 8 * W + 1) unit
@@ -492,7 +566,7 @@ pub record AreReferred (stem : List ℕ) (rs : List Reference) : Type 0 where
   pub may : All (MayRefer stem) rs
   pub few : length rs ≤ W
 
-enumerated : {X : Type 0} (n : ℕ) (xs : List X) → length (enumerate_from n xs) ≡ length xs
+pub enumerated : {X : Type 0} (n : ℕ) (xs : List X) → length (enumerate_from n xs) ≡ length xs
 enumerated n [] = refl
 enumerated n (x ∷ xs) = ap suc (enumerated (n + 1) xs)
 
@@ -503,6 +577,9 @@ columns_referred stem f each columns few = record {
   few = omega (arith, few, length_mapped f (enumerate_from 0 columns), enumerated 0 columns);
 }
 
+one_more_referred : (rs : List Reference) (r : Reference) → length rs < W → length (rs ++ r ∷ []) ≤ W
+one_more_referred rs r few = omega (arith, few, length-append rs (r ∷ []))
+
 order_referred : (stem : List ℕ) (scale : ℕ) (order : CellOrder) (columns : List Column) → IsPlace scale → length columns < W
     → AreReferred stem (referred stem scale order columns)
 order_referred stem scale stands.First columns p few =
@@ -511,22 +588,23 @@ order_referred stem scale stands.Up columns p few =
     columns_referred stem (plainly_referred stem scale) (λ n column q. plain_referred stem scale n column.unit column.cell p q) columns few
 order_referred stem scale stands.Down columns p few =
     columns_referred stem (plainly_referred stem scale) (λ n column q. plain_referred stem scale n column.unit column.cell p q) columns few
-order_referred stem scale (stands.Listed cells) columns p few = columns_referred stem (own_referred stem scale) (λ n column q. cells_referred stem scale n p q) columns few
-order_referred stem scale (stands.ByRows by) columns p few = by_rows (is_lone by columns)
-  where
-    by_rows : (b : Bool) → AreReferred stem (if b then reference (begun_name stem by.unit) by.cell ∷ [] else map (own_referred stem scale) (enumerate_from 0 columns))
-    by_rows true = record {
-      may = All-cons (MayRefer stem) (reference (begun_name stem by.unit) by.cell) [] (of_begun stem (W * 8 * W + 1) by.unit) (All-nil (MayRefer stem));
-      few = omega arith;
+order_referred stem scale (stands.Listed cells) columns p few =
+    columns_referred stem (own_referred stem scale) (λ n column q. cells_referred stem scale n p q) columns few
+order_referred stem scale (stands.ByRows by) columns p few =
+    let own = columns_referred stem (own_referred stem scale) (λ n column q. cells_referred stem scale n p q) columns few in record {
+      may = All-append (MayRefer stem) (all_own stem scale columns) (ranks_referred stem scale ∷ []) own.may
+          (All-cons (MayRefer stem) (ranks_referred stem scale) [] (ranks_may stem scale p) (All-nil (MayRefer stem)));
+      few = one_more_referred (all_own stem scale columns) (ranks_referred stem scale)
+          (omega (arith, few, length_mapped (own_referred stem scale) (enumerate_from 0 columns), enumerated 0 columns));
     }
-    by_rows false = columns_referred stem (own_referred stem scale) (λ n column q. cells_referred stem scale n p q) columns few
 
 domain_referred : (stem : List ℕ) (p : Plan) (scale : ℕ) (holder : Option ℕ) (domain : DomainPlan) → IsPlace scale → IsSmallDomain p holder domain
     → AreReferred stem (references_of stem scale domain)
 domain_referred stem p scale holder (plan.Cells cells) q small = record { may = All-nil (MayRefer stem); few = omega arith }
 domain_referred stem p scale holder (plan.Columns of) q small = order_referred stem scale of.order of.columns q small.columns
 
-outer_at : (stem : List ℕ) (scale n : ℕ) (r : Reference) → IsPlace scale → IsPlace n → MayRefer stem r → At stem (outer_from scale + n) (outer_list stem scale (n, r))
+outer_at : (stem : List ℕ) (scale n : ℕ) (r : Reference) → IsPlace scale → IsPlace n → MayRefer stem r
+    → At stem (outer_from scale + n) (outer_list stem scale (n, r))
 outer_at stem scale n r p q may = (
   record {
     named = OuterName scale n;
@@ -553,7 +631,8 @@ outers_rise stem scale n (r ∷ rs) p few may =
     (map (outer_list stem scale) (enumerate_from (n + 1) rs)) (omega arith)
     (outers_rise stem scale (n + 1) rs p (omega (arith, few)) (All-tail (MayRefer stem) r rs may))))
 
-drags_rise : (stem : List ℕ) (p : Plan) (selections : List SelectionPlan) (n : ℕ) (scales : List ScalePlan) → n + length scales ≤ W → All (IsSmallScale p) scales
+drags_rise : (stem : List ℕ) (p : Plan) (selections : List SelectionPlan) (n : ℕ) (scales : List ScalePlan) → n + length scales ≤ W
+    → All (IsSmallScale p) scales
     → Rise stem (outer_from n) (outer_from (n + length scales)) (flat_map (outer_lists stem selections) (enumerate_from n scales))
 drags_rise stem p selections n [] few small = omega arith
 drags_rise stem p selections n (s ∷ scales) few small =

@@ -37,7 +37,8 @@ pub rows_are_listed : (sources : List Dataset) (name : List ℕ) → rows_named 
 rows_are_listed [] name = refl
 rows_are_listed (s ∷ sources) name = by (bytes_eq s.name name) refl (rows_are_listed sources name)
   where
-    by : (b : Bool) → bytes_eq s.name name ≡ b → rows_named sources name ≡ list_named sources name → rows_named (s ∷ sources) name ≡ list_named (s ∷ sources) name
+    by : (b : Bool) → bytes_eq s.name name ≡ b → rows_named sources name ≡ list_named sources name
+        → rows_named (s ∷ sources) name ≡ list_named (s ∷ sources) name
     by true e rest =
         ap (λ b. option_map_or (λ (d : Dataset). d.rows) (cond b (Some s) (find (λ (d : Dataset). bytes_eq d.name name) sources)) []) e
         ∙ sym (ap (λ b. if b then s.rows else list_named sources name) e)
@@ -62,7 +63,8 @@ in_two values sources scope [] second = refl
 in_two values sources scope (set ∷ first) second = by (and_its_list values sources scope set) (λ next. in_two values sources next first second)
   where
     by : (o : Option Scope)
-        → ((next : Scope) → lists_of values sources next (first ++ second) ≡ (lists_of values sources next first >>= λ after. lists_of values sources after second))
+        → ((next : Scope) → lists_of values sources next (first ++ second)
+        ≡ (lists_of values sources next first >>= λ after. lists_of values sources after second))
         → (o >>= λ next. lists_of values sources next (first ++ second))
         ≡ ((o >>= λ next. lists_of values sources next first) >>= λ after. lists_of values sources after second)
     by None rest = refl

@@ -64,15 +64,15 @@ all_same_made values scope other (t ∷ ts) rows same =
 
 -- ---- the order of lists
 
--- what a list is for, as a number that rises along the lists behind those of units: of each scale codes, ranks and cells, of each facet orders and
+-- what a list is for, as a number that rises along the lists behind those of units: of each scale codes, cells and ranks, of each facet orders and
 -- keys, and those for drags
 abbrev pub place : MadeName → ℕ
 place NoneName = 0
 place (UnitName n) = 0
 place (BegunName n) = 0
 place (CodesName n m) = (n * 4) * 2 ^ 64 + m + 1
-place (RanksName n) = (n * 4 + 1) * 2 ^ 64 + 1
-place (CellsName n m) = (n * 4 + 2) * 2 ^ 64 + m + 1
+place (CellsName n m) = (n * 4 + 1) * 2 ^ 64 + m + 1
+place (RanksName n) = (n * 4 + 2) * 2 ^ 64 + 1
 place (OrdersName n m) = (2 ^ 64 * 4 + n * 4) * 2 ^ 64 + m + 1
 place (KeysName n m) = (2 ^ 64 * 4 + n * 4 + 1) * 2 ^ 64 + m + 1
 place (OuterName n m) = (2 ^ 64 * 8 + n * 4) * 2 ^ 64 + m + 1
@@ -119,7 +119,8 @@ pub lower : (stem : List ℕ) (low next high : ℕ) (sets : List DataSet) → lo
 lower stem low next high [] less rise = let last : next ≤ high = rise in omega (arith, less, last)
 lower stem low next high (set ∷ sets) less rise = (rise.0, omega (arith, less, rise.1), rise.2)
 
-pub join : (stem : List ℕ) (low mid high : ℕ) (first second : List DataSet) → Rise stem low mid first → Rise stem mid high second → Rise stem low high (first ++ second)
+pub join : (stem : List ℕ) (low mid high : ℕ) (first second : List DataSet) → Rise stem low mid first → Rise stem mid high second
+    → Rise stem low high (first ++ second)
 join stem low mid high [] second a b = lower stem low mid high second a b
 join stem low mid high (set ∷ first) second a b = (a.0, a.1, join stem (suc (place a.0.named)) mid high first second a.2 b)
 
@@ -130,7 +131,8 @@ later_apart : (stem : List ℕ) (low high : ℕ) (sets : List DataSet) (at : ℕ
     → All (λ (set : DataSet). set.name ≢ name) sets
 later_apart stem low high [] at name may less rise = All-nil (λ (set : DataSet). set.name ≢ name)
 later_apart stem low high (set ∷ sets) at name may less rise =
-    All-cons (λ (s : DataSet). s.name ≢ name) set sets (apart may) (later_apart stem (suc (place rise.0.named)) high sets at name may (omega (arith, less, rise.1)) rise.2)
+    All-cons (λ (s : DataSet). s.name ≢ name) set sets (apart may)
+    (later_apart stem (suc (place rise.0.named)) high sets at name may (omega (arith, less, rise.1)) rise.2)
   where
     apart : MayRead stem at name → set.name ≢ name
     apart (inl unit) same = other_apart stem set.name unit.byte unit.rest unit.own rise.0.other (same ∙ unit.is)
@@ -175,7 +177,9 @@ first_stands : (values : Values) (sources : List Dataset) (stem : List ℕ) (hig
     (before after : Scope) (at : IsPlaced stem set) → Rise stem (suc (place at.named)) high sets → list_of values sources before set ≡ Some rows
     → lists_of values sources (with_list set.name rows before) sets ≡ Some after → Stands values sources after set
 first_stands values sources stem high set sets rows before after at rise made read =
-    let same : (name : List ℕ) → MayRead stem (place at.named) name → after name ≡ before name = λ name may. still values sources stem (place at.named) high set sets rows before after (at, (le_refl _), rise) read (place at.named) name may (le_refl _) in
+    let same : (name : List ℕ) → MayRead stem (place at.named) name → after name ≡ before name
+    = λ name may. still values sources stem (place at.named) high set sets rows before after (at, (le_refl _), rise) read
+    (place at.named) name may (le_refl _) in
     let own : after set.name ≡ rows
     = kept_through values sources sets (with_list set.name rows before) after set.name read
     (later_apart stem (suc (place at.named)) high sets (suc (place at.named)) set.name

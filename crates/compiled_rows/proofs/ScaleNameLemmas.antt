@@ -8,7 +8,8 @@ use Rattle.vega_assemble.specs.Names.{channel_word, numbered}
 use Rattle.compiled_rows.specs.Names.{IsPlace}
 use Rattle.compiled_rows.specs.ScaleNames.{Bearer, OnX, OnY, OnColor, OnOpacity, OnSize, OnShape, Direction, Across, Down, direction_code, MadeScale, PlanScale}
 use Rattle.compiled_rows.specs.ScaleNames.{MiddleScale, FootScale, DragScale, made_scale_name, ScaleHasPlaces, ScaleNamesDiffer, PlanScalesAreNamed}
-use Rattle.compiled_rows.proofs.NameLemmas.{behind, behind_alone, behind_before, cancelled, first_in, first_of_one, front, front_before, letters, letters_begun, letters_one}
+use Rattle.compiled_rows.proofs.NameLemmas.{behind, behind_alone, behind_before, cancelled, first_in, first_of_one, front, front_before, letters, letters_begun}
+use Rattle.compiled_rows.proofs.NameLemmas.{letters_one}
 use Rattle.compiled_rows.proofs.NameLemmas.{nil_behind, numbers, numbers_begun, numbers_one, numeral, one, value_back}
 
 -- ---- a number and a letter behind it
@@ -27,7 +28,8 @@ numbers_lettered n letter h = ap numbers (lettered_apart n letter) ∙ numbers_b
 
 first_of_lettered : (n letter : ℕ) → IsPlace n → first_in (lettered n letter) ≡ n
 first_of_lettered n letter h =
-    ap (λ t. digits_value 10 (front t)) (numbers_lettered n letter h) ∙ ap (digits_value 10) (front_before (decimal n) (letter ∷ []) (numeral n h).1) ∙ value_back n h
+    ap (λ t. digits_value 10 (front t)) (numbers_lettered n letter h) ∙ ap (digits_value 10) (front_before (decimal n) (letter ∷ []) (numeral n h).1)
+    ∙ value_back n h
 
 -- ---- what a name says
 
@@ -179,4 +181,5 @@ scale_names_differ stem a b p q e =
 
 pub plan_scales_are_named : PlanScalesAreNamed
 plan_scales_are_named stem scales n s b at bears =
-    ap (λ o. stem ++ numbered (option_map_or (λ (scale : ScalePlan). channel_word scale.channel) o []) n) at ∙ ap (λ code. stem ++ numbered (channel_word code) n) bears
+    ap (λ o. stem ++ numbered (option_map_or (λ (scale : ScalePlan). channel_word scale.channel) o []) n) at
+    ∙ ap (λ code. stem ++ numbered (channel_word code) n) bears

@@ -95,7 +95,8 @@ module _ (stem : List ℕ) (xs : Settled) where
   same_commands name =
       by_cases (keeps_all xs)
       (λ e. where_all_have name (gathered with_null (kept_with_null stem xs ∙ e)) ∙ ap (λ b. value_under (cond b xs []) name) (sym e))
-      (λ e. ap (λ o. Some (value_named (unwrap_or o []) name)) (lost with_null (kept_with_null stem xs ∙ e)) ∙ ap (λ b. value_under (cond b xs []) name) (sym e))
+      (λ e. ap (λ o. Some (value_named (unwrap_or o []) name)) (lost with_null (kept_with_null stem xs ∙ e))
+      ∙ ap (λ b. value_under (cond b xs []) name) (sym e))
 
 pub commands_read_alike : CommandsReadAlike
 commands_read_alike stem s p st apart =
@@ -111,7 +112,8 @@ list_back (x ∷ xs) = refl
 module _ (stem : List ℕ) (s : VlSpec) (p : Plan) where
   top_is : top_written stem s p ≡ object_here (parts_of ((made stem s p).object) (rolled (made stem s p).marks))
   top_is =
-      opened_object (roll-Group (parts_of ((made stem s p).object) (rolled (made stem s p).marks))) ∙ ap object_here (out-roll-Group (parts_of ((made stem s p).object) (rolled (made stem s p).marks)))
+      opened_object (roll-Group (parts_of ((made stem s p).object) (rolled (made stem s p).marks)))
+      ∙ ap object_here (out-roll-Group (parts_of ((made stem s p).object) (rolled (made stem s p).marks)))
 
   pub top_signals : (top_written stem s p).signals ≡ signals_of stem p.scales p.selections s.params
   top_signals = ap (λ (o : Object). o.signals) top_is ∙ list_back (signals_of stem p.scales p.selections s.params)
@@ -123,9 +125,11 @@ module _ (stem : List ℕ) (s : VlSpec) (p : Plan) where
     abbrev with_own : List Signal → List DataSet → Option Names
     with_own signals sets =
         let values = values_inside (settled_own st.sources no_lists (values_of_stores st.stores) st.params signals sets) (values_of_stores st.stores) in
-        cond (list_any (set_lacks values) sets) None (option_map (λ lists. record { lists = lists; values = values }) (lists_of values st.sources no_lists sets))
+        cond (list_any (set_lacks values) sets) None
+        (option_map (λ lists. record { lists = lists; values = values }) (lists_of values st.sources no_lists sets))
 
-    at_top : names_at_top (values_of_stores st.stores) st.params st.sources (top_written stem s p) ≡ names_over (values_in s.params st) st.sources (sets_of stem s p)
+    at_top : names_at_top (values_of_stores st.stores) st.params st.sources (top_written stem s p)
+        ≡ names_over (values_in s.params st) st.sources (sets_of stem s p)
     at_top = (λ i. with_own (top_signals i) (top_sets i)) ∙ ap (λ values. names_over values st.sources (sets_of stem s p)) (read_at_last stem s p st apart)
 
 pub names_at_top_are_these : NamesAtTopAreThese
@@ -144,4 +148,5 @@ nothing_is_added sources outer o signals sets =
     within signals sets =
         let own = settled_own sources outer.lists outer.values (flat_map written_here signals) signals sets in
         let values = values_inside own outer.values in
-        cond (list_any (set_lacks values) sets) None (option_map (λ lists. record { lists = lists; values = values }) (lists_of values sources outer.lists sets))
+        cond (list_any (set_lacks values) sets) None
+        (option_map (λ lists. record { lists = lists; values = values }) (lists_of values sources outer.lists sets))

@@ -1,6 +1,7 @@
 -- What names stand for where all data sets are read: names of units for the rows of units, those of sources for the rows of sources.
 use Rattle.std.proofs.Common.{◌≡◌, refl, sym, ap, ◌∙◌, subst, ℕ, zero, suc, ◌+◌, ◌<◌, ◌≢◌, Bool, true, false, Option, Some, None, List, [], ◌∷◌, ◌++◌}
-use Rattle.std.proofs.Common.{map, All, arith, slice_get, filter, flat_map, filter_map, if◌then◌else◌, get_or, drop, true≢false, is_none, unwrap_or, ◌==◌, ◌||◌, IfSome}
+use Rattle.std.proofs.Common.{map, All, arith, slice_get, filter, flat_map, filter_map, if◌then◌else◌, get_or, drop, true≢false, is_none, unwrap_or, ◌==◌, ◌||◌}
+use Rattle.std.proofs.Common.{IfSome, is_some}
 use Rattle.std.specs.List.{cons_option}
 use Rattle.std.specs.Option.{option_map_or}
 use Rattle.std.specs.List.{enumerate_from}
@@ -18,6 +19,7 @@ use Rattle.vl_normalize.specs.Normal.{normal_form}
 use Rattle.unit_plan.specs.declared.cells.CellOf.{CellOf}
 use Rattle.unit_plan.specs.declared.cells.CellOf.TheVariants as shows
 use Rattle.unit_plan.specs.declared.plans.UnitPlan.{UnitPlan}
+use Rattle.unit_plan.specs.declared.steps.Step.{Step}
 use Rattle.chart_plan.specs.declared.columns.Column.{Column}
 use Rattle.chart_plan.specs.declared.domains.DomainPlan.{DomainPlan}
 use Rattle.chart_plan.specs.declared.domains.DomainPlan.TheVariants as plan
@@ -32,17 +34,18 @@ use Rattle.chart_plan.specs.Plan.{plan_of, all_scales, unit_by}
 use Rattle.vega_lists.specs.Lists.{list_of, lists_of}
 use Rattle.vega_lists.specs.Scopes.{Scope, with_list, list_named}
 use Rattle.vega_assemble.specs.Assembled.{is_begun}
-use Rattle.vega_assemble.specs.Domains.{is_lone}
 use Rattle.vega_assemble.specs.Drags.{is_copied, references_of, outer_list, outer_lists}
 use Rattle.vega_assemble.specs.Keys.{has_keys, keys_list, lists_with_keys, lists_of_facet, lists_of_grid, orders_for, orders_if, orders_list, placed}
-use Rattle.vega_assemble.specs.Lists.{beside_domain, beside_order, column_list, list_if_wanted, lists_for_scale, lists_in_order, lists_of_domain}
-use Rattle.vega_assemble.specs.Lists.{names_held, plain_list, plain_lists}
+use Rattle.vega_assemble.specs.Lists.{beside_domain, beside_order, column_list, column_lists, list_if_wanted, lists_for_scale, lists_in_order, lists_of_domain}
+use Rattle.vega_assemble.specs.Lists.{names_held, names_of_columns, plain_list, plain_lists}
 use Rattle.vega_assemble.specs.Names.{unit_name, begun_name, cells_name, codes_name, ranks_name, orders_name, keys_name, outer_name}
-use Rattle.vega_assemble.specs.Ranked.{are_some, codes_list, codes_lists, lists_beside, ranks_list, told_by}
+use Rattle.vega_assemble.specs.Ranked.{are_some, codes_list, codes_lists, ranks_list, told_by}
 use Rattle.compiled_rows.specs.Names.{UnitName, BegunName, IsPlace}
 use Rattle.compiled_rows.specs.Steps.{IsNull}
 use Rattle.compiled_rows.specs.Lists.{unit_left, begun_left, all_left, all_begun, units_begun, with_all, unit_names, units_scope, scale_lists}
+use Rattle.chart_meaning.specs.Rows.{rows_named, stepped, all_stepped}
 use Rattle.compiled_rows.specs.Lists.{grid_lists, drag_lists, other_lists, HasSources, stem_of, HasFewUnits, IsRead, UnitsAreNumbered, UnitsStand, BegunStand}
+use Rattle.compiled_rows.specs.Lists.{BegunGoOn}
 use Rattle.compiled_rows.proofs.NameLemmas.{first, cancelled, made_names_differ}
 use Rattle.compiled_rows.proofs.ReadLemmas.{elsewhere, there}
 use Rattle.compiled_rows.proofs.UnitLemmas.{all_kept, units_come_first}
@@ -83,7 +86,8 @@ numbered_from at f number each n (x ∷ xs) (suc k) b e = numbered_from at f num
 pub units_are_numbered : UnitsAreNumbered
 units_are_numbered s k u e =
     let n = normal_form s in
-    numbered_from unit_at (unit_by n.params (all_scales n (units_of n))) (λ (v : UnitPlan). v.number) (λ m round. refl) 0 (filter ends_in_unit (rounds_of n)) k u e
+    numbered_from unit_at (unit_by n.params (all_scales n (units_of n))) (λ (v : UnitPlan). v.number) (λ m round. refl) 0 (filter ends_in_unit (rounds_of n)) k
+    u e
     ∙ omega arith
 
 -- ---- lists under names that differ
@@ -118,13 +122,14 @@ stands_there name_of f (v ∷ us) lists scope differ e (suc k) u at =
 -- ---- names of units differ
 
 -- numbers that count up from here, and those that differ
-abbrev CountUp : ℕ → List UnitPlan → Type 0
+abbrev pub CountUp : ℕ → List UnitPlan → Type 0
 CountUp n us = (k : ℕ) (u : UnitPlan) → slice_get us k ≡ Some u → u.number ≡ n + k
 
 later : (n m : ℕ) (us : List UnitPlan) → n < m → CountUp m us → All (λ (v : UnitPlan). v.number ≢ n) us
 later n m [] less up = All-nil (λ (v : UnitPlan). v.number ≢ n)
 later n m (u ∷ us) less up =
-    All-cons (λ (v : UnitPlan). v.number ≢ n) u us (λ same. omega (arith, less, same, up zero u refl)) (later n (m + 1) us (omega (arith, less)) (λ k v e. up (suc k) v e ∙ omega arith))
+    All-cons (λ (v : UnitPlan). v.number ≢ n) u us (λ same. omega (arith, less, same, up zero u refl))
+    (later n (m + 1) us (omega (arith, less)) (λ k v e. up (suc k) v e ∙ omega arith))
 
 -- a name by a number tells the number
 abbrev Tells : (ℕ → List ℕ) → Type 0
@@ -191,8 +196,9 @@ pub record IsOther (stem name : List ℕ) : Type 0 where
   pub is : name ≡ stem ++ byte ∷ rest
   pub other : begins_own byte ≡ false
 
+-- a list of such a name that begins with the rows of another
 abbrev pub Other : List ℕ → DataSet → Type 0
-Other stem set = IsOther stem set.name
+Other stem set = IsOther stem set.name × (is_some set.source ≡ true)
 
 pub other_is : (stem : List ℕ) (byte : ℕ) (rest : List ℕ) → begins_own byte ≡ false → IsOther stem (stem ++ byte ∷ rest)
 other_is stem byte rest e = record { byte = byte; rest = rest; is = refl; other = e }
@@ -207,26 +213,22 @@ all_others : (stem : List ℕ) (sets : List DataSet) (byte : ℕ) (rest : List �
     → All (λ (set : DataSet). set.name ≢ stem ++ byte ∷ rest) sets
 all_others stem [] byte rest own all = All-nil (λ (set : DataSet). set.name ≢ stem ++ byte ∷ rest)
 all_others stem (set ∷ sets) byte rest own all =
-    All-cons (λ (s : DataSet). s.name ≢ stem ++ byte ∷ rest) set sets (other_apart stem set.name byte rest own (All-head (Other stem) set sets all))
+    All-cons (λ (s : DataSet). s.name ≢ stem ++ byte ∷ rest) set sets (other_apart stem set.name byte rest own (All-head (Other stem) set sets all).0)
     (all_others stem sets byte rest own (All-tail (Other stem) set sets all))
 
 if_wanted : (stem : List ℕ) (b : Bool) (sets : List DataSet) → All (Other stem) sets → All (Other stem) (if b then sets else [])
 if_wanted stem true sets all = all
 if_wanted stem false sets all = All-nil (Other stem)
 
-unless_wanted : (stem : List ℕ) (b : Bool) (sets : List DataSet) → All (Other stem) sets → All (Other stem) (if b then [] else sets)
-unless_wanted stem true sets all = All-nil (Other stem)
-unless_wanted stem false sets all = all
-
 -- ---- those of scales
 
 column_other : (stem : List ℕ) (scale : ℕ) (more : List Transform) (column : ℕ × Column) → Other stem (column_list stem scale more column)
-column_other stem scale more column = other_is stem 99 (drop 1 (cells_name [] scale column.0)) refl
+column_other stem scale more column = (other_is stem 99 (drop 1 (cells_name [] scale column.0)) refl, refl)
 
 plain_other : (stem : List ℕ) (scale place unit : ℕ) (c : CellOf) → IfSome (plain_list stem scale place unit c) (Other stem)
 plain_other stem scale place unit (shows.Field name) = tt
-plain_other stem scale place unit (shows.Written c) = other_is stem 99 (drop 1 (cells_name [] scale place)) refl
-plain_other stem scale place unit (shows.Computed e) = other_is stem 99 (drop 1 (cells_name [] scale place)) refl
+plain_other stem scale place unit (shows.Written c) = (other_is stem 99 (drop 1 (cells_name [] scale place)) refl, refl)
+plain_other stem scale place unit (shows.Computed e) = (other_is stem 99 (drop 1 (cells_name [] scale place)) refl, refl)
 
 all_wanted : {X Y : Type 0} (P : Y → Type 0) (f : X → Option Y) → ((x : X) → IfSome (f x) P) → (xs : List X) → All P (filter_map f xs)
 all_wanted P f each [] = All-nil P
@@ -250,66 +252,70 @@ ordered_other stem grids scale holder stands.First columns = plain_others stem s
 ordered_other stem grids scale holder stands.Up columns = plain_others stem scale columns
 ordered_other stem grids scale holder stands.Down columns = plain_others stem scale columns
 ordered_other stem grids scale holder (stands.Listed cells) columns = columns_other stem scale _ columns
-ordered_other stem grids scale holder (stands.ByRows by) columns = unless_wanted stem (is_lone by columns) _ (columns_other stem scale _ columns)
+ordered_other stem grids scale holder (stands.ByRows by) columns =
+    let facets = names_held grids by.unit holder in
+    let rows = ranks_list stem scale facets (names_of_columns stem scale columns) by in
+    All-append (Other stem) (column_lists stem scale facets by columns) (rows ∷ []) (columns_other stem scale _ columns)
+    (alone (Other stem) rows (other_is stem 114 (drop 1 (ranks_name [] scale)) refl, refl))
 
-beside_other : (stem : List ℕ) (scale : ℕ) (facets : List (List ℕ)) (by : RowsOrder) → All (Other stem) (lists_beside stem scale facets by)
-beside_other stem scale facets by =
-    All-append (Other stem) (codes_lists stem scale facets by) (ranks_list stem scale facets by ∷ [])
-    (if_wanted stem (are_some facets) _
-    (all_mapped (Other stem) (codes_list stem scale by) (λ field. other_is stem 99 (drop 1 (codes_name [] scale field.0)) refl) (enumerate_from 0 (told_by stem facets))))
-    (alone (Other stem) (ranks_list stem scale facets by) (other_is stem 114 (drop 1 (ranks_name [] scale)) refl))
+codes_other : (stem : List ℕ) (scale : ℕ) (facets : List (List ℕ)) (by : RowsOrder) → All (Other stem) (codes_lists stem scale facets by)
+codes_other stem scale facets by =
+    if_wanted stem (are_some facets) _
+    (all_mapped (Other stem) (codes_list stem scale by) (λ field. (other_is stem 99 (drop 1 (codes_name [] scale field.0)) refl, refl))
+    (enumerate_from 0 (told_by stem facets)))
 
-through_other : (stem : List ℕ) (grids : List GridPlan) (scale : ℕ) (holder : Option ℕ) (order : CellOrder) (columns : List Column)
-    → All (Other stem) (beside_order stem grids scale holder order columns)
-through_other stem grids scale holder stands.First columns = All-nil (Other stem)
-through_other stem grids scale holder stands.Up columns = All-nil (Other stem)
-through_other stem grids scale holder stands.Down columns = All-nil (Other stem)
-through_other stem grids scale holder (stands.Listed cells) columns = All-nil (Other stem)
-through_other stem grids scale holder (stands.ByRows by) columns =
-    unless_wanted stem (is_lone by columns) _ (beside_other stem scale (names_held grids by.unit holder) by)
+beside_other : (stem : List ℕ) (grids : List GridPlan) (scale : ℕ) (holder : Option ℕ) (order : CellOrder)
+    → All (Other stem) (beside_order stem grids scale holder order)
+beside_other stem grids scale holder stands.First = All-nil (Other stem)
+beside_other stem grids scale holder stands.Up = All-nil (Other stem)
+beside_other stem grids scale holder stands.Down = All-nil (Other stem)
+beside_other stem grids scale holder (stands.Listed cells) = All-nil (Other stem)
+beside_other stem grids scale holder (stands.ByRows by) = codes_other stem scale (names_held grids by.unit holder) by
 
 domain_other : (stem : List ℕ) (grids : List GridPlan) (scale : ℕ) (holder : Option ℕ) (domain : DomainPlan)
     → All (Other stem) (beside_domain stem grids scale holder domain ++ lists_of_domain stem grids scale holder domain)
 domain_other stem grids scale holder (plan.Cells cells) = All-nil (Other stem)
 domain_other stem grids scale holder (plan.Columns of) =
-    All-append (Other stem) (beside_order stem grids scale holder of.order of.columns) (lists_in_order stem grids scale holder of.order of.columns)
-    (through_other stem grids scale holder of.order of.columns) (ordered_other stem grids scale holder of.order of.columns)
+    All-append (Other stem) (beside_order stem grids scale holder of.order) (lists_in_order stem grids scale holder of.order of.columns)
+    (beside_other stem grids scale holder of.order) (ordered_other stem grids scale holder of.order of.columns)
 
-scales_other : (stem : List ℕ) (p : Plan) → All (Other stem) (scale_lists stem p)
+pub scales_other : (stem : List ℕ) (p : Plan) → All (Other stem) (scale_lists stem p)
 scales_other stem p =
     all_flat (Other stem) (lists_for_scale stem p.grids) (λ s. domain_other stem p.grids s.0 s.1.holder s.1.domain) (enumerate_from 0 p.scales)
 
 -- ---- those of facets and drags
 
-order_other : (stem : List ℕ) (facet place : ℕ) (order : CellOrder) → All (Other stem) (orders_if stem facet place order)
-order_other stem facet place stands.First = All-nil (Other stem)
-order_other stem facet place stands.Up = All-nil (Other stem)
-order_other stem facet place stands.Down = All-nil (Other stem)
-order_other stem facet place (stands.Listed cells) = All-nil (Other stem)
-order_other stem facet place (stands.ByRows by) =
-    alone (Other stem) (orders_list stem facet place by) (other_is stem 111 (drop 1 (orders_name [] facet place)) refl)
+order_other : (stem : List ℕ) (facet : ℕ) (units : List ℕ) (place : ℕ) (name : List ℕ) (order : CellOrder)
+    → All (Other stem) (orders_if stem facet units place name order)
+order_other stem facet units place name stands.First = All-nil (Other stem)
+order_other stem facet units place name stands.Up = All-nil (Other stem)
+order_other stem facet units place name stands.Down = All-nil (Other stem)
+order_other stem facet units place name (stands.Listed cells) = All-nil (Other stem)
+order_other stem facet units place name (stands.ByRows by) =
+    alone (Other stem) (orders_list stem facet units place name by) (other_is stem 111 (drop 1 (orders_name [] facet place)) refl, refl)
 
 keys_other : (stem : List ℕ) (facet : ℕ) (fields : List FacetField) (units : List ℕ) → All (Other stem) (lists_with_keys stem facet fields units)
 keys_other stem facet fields units =
-    All-append (Other stem) (flat_map (orders_for stem facet) (placed fields)) (map (keys_list stem facet fields) units)
-    (all_flat (Other stem) (orders_for stem facet) (λ field. order_other stem facet field.0 field.1.order) (placed fields))
-    (all_mapped (Other stem) (keys_list stem facet fields) (λ unit. other_is stem 107 (drop 1 (keys_name [] facet unit)) refl) units)
+    All-append (Other stem) (flat_map (orders_for stem facet units) (placed fields)) (map (keys_list stem facet fields) units)
+    (all_flat (Other stem) (orders_for stem facet units) (λ field. order_other stem facet units field.0 field.1.name field.1.order) (placed fields))
+    (all_mapped (Other stem) (keys_list stem facet fields) (λ unit. (other_is stem 107 (drop 1 (keys_name [] facet unit)) refl, refl)) units)
 
 facet_other : (stem : List ℕ) (number : ℕ) (facet : Option FacetPlan) → All (Other stem) (option_map_or (lists_of_facet stem number) facet [])
 facet_other stem number None = All-nil (Other stem)
 facet_other stem number (Some f) = if_wanted stem (has_keys f.fields) _ (keys_other stem number f.fields f.units)
 
-grids_other : (stem : List ℕ) (p : Plan) → All (Other stem) (grid_lists stem p)
+pub grids_other : (stem : List ℕ) (p : Plan) → All (Other stem) (grid_lists stem p)
 grids_other stem p = all_flat (Other stem) (lists_of_grid stem) (λ grid. facet_other stem grid.number grid.facet) p.grids
 
-drags_other : (stem : List ℕ) (p : Plan) → All (Other stem) (drag_lists stem p)
+pub drags_other : (stem : List ℕ) (p : Plan) → All (Other stem) (drag_lists stem p)
 drags_other stem p =
     all_flat (Other stem) (outer_lists stem p.selections)
     (λ s. if_wanted stem (is_copied p.selections s.0) _
-    (all_mapped (Other stem) (outer_list stem s.0) (λ r. other_is stem 111 (drop 1 (outer_name [] s.0 r.0)) refl) (enumerate_from 0 (references_of stem s.0 s.1.domain))))
+    (all_mapped (Other stem) (outer_list stem s.0) (λ r. (other_is stem 111 (drop 1 (outer_name [] s.0 r.0)) refl, refl))
+    (enumerate_from 0 (references_of stem s.0 s.1.domain))))
     (enumerate_from 0 p.scales)
 
-every_other : (stem : List ℕ) (p : Plan) → All (Other stem) (other_lists stem p)
+pub every_other : (stem : List ℕ) (p : Plan) → All (Other stem) (other_lists stem p)
 every_other stem p =
     All-append (Other stem) (scale_lists stem p) (grid_lists stem p ++ drag_lists stem p) (scales_other stem p)
     (All-append (Other stem) (grid_lists stem p) (drag_lists stem p) (grids_other stem p) (drags_other stem p))
@@ -346,13 +352,14 @@ found s values sources scope same few null read =
     let second_part = bound (all_begun values sources (plan_of s)) _ scope first_part.2 in
     record { rows = first_part.0; begun = second_part.0; rows_are = first_part.1; begun_are = second_part.1; behind = second_part.2 }
 
-units_count : (s : VlSpec) → CountUp 0 (plan_of s).units
+pub units_count : (s : VlSpec) → CountUp 0 (plan_of s).units
 units_count s k u e = units_are_numbered s k u e ∙ omega arith
 
 begun_apart : (stem : List ℕ) (k : ℕ) (us : List UnitPlan) → All (λ (u : UnitPlan). begun_name stem u.number ≢ unit_name stem k) us
 begun_apart stem k [] = All-nil (λ (u : UnitPlan). begun_name stem u.number ≢ unit_name stem k)
 begun_apart stem k (u ∷ us) =
-    All-cons (λ (v : UnitPlan). begun_name stem v.number ≢ unit_name stem k) u us (λ same. bytes_apart (cancelled stem (begun_name [] u.number) (unit_name [] k) same)) (begun_apart stem k us)
+    All-cons (λ (v : UnitPlan). begun_name stem v.number ≢ unit_name stem k) u us
+    (λ same. bytes_apart (cancelled stem (begun_name [] u.number) (unit_name [] k) same)) (begun_apart stem k us)
   where
     bytes_apart : begun_name [] u.number ≡ unit_name [] k → ⊥
     bytes_apart e = omega (arith, ap (λ t. get_or t 0 0) e)
@@ -389,3 +396,23 @@ begun_stand s values sources same few null scope read k u at is =
     = kept_through values sources (other_lists stem p) listed scope (begun_name stem k) f.behind
     (all_others stem (other_lists stem p) 98 (drop 1 (begun_name [] k)) refl (every_other stem p)) in
     own ∙ ap (λ n. Some (listed (begun_name stem n))) (units_are_numbered s k u at) ∙ ap Some (sym after)
+
+-- steps one after the other
+stepped_on : (values : Values) (sources : List Dataset) (first second : List Step) (rows : List Datum)
+    → all_stepped values sources (first ++ second) rows ≡ (all_stepped values sources first rows >>= λ next. all_stepped values sources second next)
+stepped_on values sources [] second rows = refl
+stepped_on values sources (x ∷ first) second rows = by (stepped values sources x rows) (λ next. stepped_on values sources first second next)
+  where
+    by : (o : Option (List Datum))
+        → ((next : List Datum) → all_stepped values sources (first ++ second) next
+        ≡ (all_stepped values sources first next >>= λ last. all_stepped values sources second last))
+        → (o >>= λ next. all_stepped values sources (first ++ second) next)
+        ≡ ((o >>= λ next. all_stepped values sources first next) >>= λ last. all_stepped values sources second last)
+    by None on = refl
+    by (Some next) on = on next
+
+pub begun_go_on : BegunGoOn
+begun_go_on s values sources same few null scope read k u at is =
+    ap (λ o. o >>= λ next. all_stepped values sources u.after next) (sym (begun_stand s values sources same few null scope read k u at is))
+    ∙ sym (stepped_on values sources u.before u.after (rows_named sources u.source))
+    ∙ units_stand s values sources same few null scope read k u at

@@ -17,7 +17,10 @@ use Rattle.vega_lists.specs.Scopes.{Scope, with_list, list_named}
 use Rattle.vega_lists.specs.Settings.{lookup_settings}
 use Rattle.vega_lists.specs.Transforms.{transformed, all_transformed, transforms_of}
 use Rattle.plain_rows.specs.Lookups.{data_looked_up}
-use Rattle.compiled_rows.specs.Stands.{looked_in, names_read, HasNoneOf, StandsWhereAllStand, MadeListsAreCovered}
+use Rattle.compiled_rows.specs.Stands.{looked_in, names_read, HasNoneOf, StandsWhereAllStand, MadeListsAreCovered, ListsThatAddNoneAreCovered}
+use Rattle.compiled_rows.specs.Stands.{ListsOfBegunAreCovered}
+use Rattle.compiled_rows.proofs.AddLemmas.{transforms_add_none}
+use Rattle.compiled_rows.proofs.BegunLemmas.{covered_on, steps_cover}
 use Rattle.compiled_rows.proofs.FollowLemmas.{transforms_follow, followers_are_covered}
 use Rattle.compiled_rows.proofs.PartLemmas.{by_cases}
 
@@ -95,7 +98,8 @@ module _ (values : Values) (sources : List Dataset) where
   -- ---- a data set among others
 
   -- where a data set is read
-  at_set : (before : List DataSet) (outer scope : Scope) (set : DataSet) (behind : List DataSet) → lists_of values sources outer (before ++ set ∷ behind) ≡ Some scope
+  at_set : (before : List DataSet) (outer scope : Scope) (set : DataSet) (behind : List DataSet)
+      → lists_of values sources outer (before ++ set ∷ behind) ≡ Some scope
       → (here : Scope) × (lists_of values sources here (set ∷ behind) ≡ Some scope)
   at_set [] outer scope set behind e = (outer, e)
   at_set (x ∷ before) outer scope set behind e =
@@ -139,3 +143,13 @@ made_lists_are_covered values sources scope names set source made is leaves e =
     followers_are_covered names (scope source) made
     (transforms_follow values scope names (transforms_of set) (scope source) made leaves
     (sym (ap (λ o. all_transformed values scope (transforms_of set) (option_map_or scope o (list_named sources set.name))) is) ∙ e))
+
+pub lists_that_add_none_are_covered : ListsThatAddNoneAreCovered
+lists_that_add_none_are_covered values sources scope names set source made is adds ids e =
+    transforms_add_none values scope names (transforms_of set) (scope source) made adds ids
+    (sym (ap (λ o. all_transformed values scope (transforms_of set) (option_map_or scope o (list_named sources set.name))) is) ∙ e)
+
+pub lists_of_begun_are_covered : ListsOfBegunAreCovered
+lists_of_begun_are_covered values sources scope names set source unit steps made is adds ids keeps stepped e =
+    covered_on names (scope unit) (scope source) made (steps_cover values sources names steps (scope source) (scope unit) keeps ids stepped)
+    (lists_that_add_none_are_covered values sources scope names set source made is adds ids e)

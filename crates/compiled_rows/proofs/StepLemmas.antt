@@ -28,7 +28,8 @@ use Rattle.vega_lists.specs.Operations.{op_at, op_settings, ops_settings, group_
 use Rattle.vega_lists.specs.Orders.{sort_by, sort_or_empty, is_descending}
 use Rattle.vega_lists.specs.Settings.{bin_settings, extent_in, offset_of, pair_in, stack_settings}
 use Rattle.vega_lists.specs.Transforms.{all_transformed}
-use Rattle.vega_assemble.specs.Steps.{counted, extent_written, direction, directed, sort_written, bin_written, codes_of, fields_of, name_given, names_of, group_written}
+use Rattle.vega_assemble.specs.Steps.{counted, extent_written, direction, directed, sort_written, bin_written, codes_of, fields_of, name_given, names_of}
+use Rattle.vega_assemble.specs.Steps.{group_written}
 use Rattle.vega_assemble.specs.Steps.{offset_written, stack_written, param_given, bound_written, window_written, steps_written}
 use Rattle.chart_meaning.specs.Rows.{stepped}
 use Rattle.compiled_rows.specs.Steps.{IsCount, IsOffset, WindowFits, StepFits, FindsSource, IsNull, StepsAgree, AllStepsAgree}
@@ -46,7 +47,8 @@ joined_on : {X : Type 0} (done : List X) (x : X) (rest : List X) → done ++ x �
 joined_on done x rest = sym (append_assoc done (x ∷ []) rest)
 
 -- what is made of a part of each element, by its place in the whole, is the element
-module _ {X Y : Type 0} (f : X → Y) (g : List X → ℕ × Y → X) (each : (done : List X) (x : X) (rest : List X) → g (done ++ x ∷ rest) (length done, f x) ≡ x) where
+module _ {X Y : Type 0} (f : X → Y) (g : List X → ℕ × Y → X)
+    (each : (done : List X) (x : X) (rest : List X) → g (done ++ x ∷ rest) (length done, f x) ≡ x) where
   from_there : (done xs : List X) → map (g (done ++ xs)) (enumerate_from (length done) (map f xs)) ≡ xs
   from_there done [] = refl
   from_there done (x ∷ xs) =

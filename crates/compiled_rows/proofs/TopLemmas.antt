@@ -147,9 +147,11 @@ top_is_units_and_others s st h =
     names_at_top_are_these stem s p st h.apart
     ∙ (λ i. unless (all_lack s values h.null h.tests i) (option_map (named_so values) (units_come_first s values st.sources h.sources h.few h.null i)))
     ∙ ap (unless (lost || (lost_there || others))) (changed (named_so values) (all_left values st.sources p) (all_begun values st.sources p) behind)
-    ∙ spread lost lost_there others (all_left values st.sources p) (all_begun values st.sources p) (λ rows begun. option_map (named_so values) (behind rows begun))
+    ∙ spread lost lost_there others (all_left values st.sources p) (all_begun values st.sources p)
+    (λ rows begun. option_map (named_so values) (behind rows begun))
     ∙ (λ i. sym (all_unless (lost_in values) (unit_left values st.sources) p.units) i >>= λ rows.
-    sym (all_unless (lost_before values) (begun_left values st.sources) (units_begun p)) i >>= λ begun. unless others (option_map (named_so values) (behind rows begun)))
+    sym (all_unless (lost_before values) (begun_left values st.sources) (units_begun p)) i
+    >>= λ begun. unless others (option_map (named_so values) (behind rows begun)))
 
 -- what stands behind names
 pub record AreNames (values : Values) (sources : List Dataset) (sets : List DataSet) (names : Names) : Type 0 where
@@ -170,7 +172,8 @@ are_names values sources sets names = by (list_any (set_lacks values) sets) (lis
 pub top_is_linked : TopIsLinked
 top_is_linked s st h names read copy is =
     let told = values_in s.params st in
-    let found = are_names told st.sources (sets_of (stem_of s) s (plan_of s)) names (sym (names_at_top_are_these (stem_of s) s (plan_of s) st h.apart) ∙ read) in
+    let found
+    = are_names told st.sources (sets_of (stem_of s) s (plan_of s)) names (sym (names_at_top_are_these (stem_of s) s (plan_of s) st h.apart) ∙ read) in
     record {
       values = ap (λ (n : Names). n.values) (sym found.is);
       rows = λ k u at. ap (λ (n : Names). n.lists (unit_name (stem_of s) k)) (sym found.is)

@@ -137,7 +137,8 @@ all_find : (names : List (List ℕ)) (sources : List Dataset) (scope : Scope) (s
     → All (λ step. Among (in_step step) names) steps → All (FindsSource scope sources) steps
 all_find names sources scope [] keeps among = All-nil (FindsSource scope sources)
 all_find names sources scope (first ∷ others) keeps among =
-    All-cons (FindsSource scope sources) first others (finds_source names sources scope first keeps (All-head (λ step. Among (in_step step) names) first others among))
+    All-cons (FindsSource scope sources) first others
+    (finds_source names sources scope first keeps (All-head (λ step. Among (in_step step) names) first others among))
     (all_find names sources scope others keeps (All-tail (λ step. Among (in_step step) names) first others among))
 
 both : {X : Type 0} (P : X → Type 0) (xs ys : List X) → All P xs → All P ys → All P (xs ++ ys)
@@ -188,9 +189,12 @@ gives_unit : (values : Values) (sources : List Dataset) (names : List (List ℕ)
     → GivesUnit values sources names u
 gives_unit values sources names u null known = record {
   gives = λ scope keeps. steps_listed values sources scope (stem_for names) (unit_name (stem_for names) u.number) u.source (u.before ++ u.after) null known.fits
-      (all_find names sources scope (u.before ++ u.after) keeps (both (λ step. Among (in_step step) names) u.before u.after known.parts.before known.parts.after))
+      (all_find names sources scope (u.before ++ u.after) keeps
+      (both (λ step. Among (in_step step) names) u.before u.after known.parts.before known.parts.after))
       (keeps u.source known.parts.source);
-  keeps = λ scope rows keeps. keeps_on names sources (unit_name (stem_for names) u.number) scope rows (made_names_are_new names (UnitName u.number) known.few) keeps;
+  keeps =
+      λ scope rows keeps. keeps_on names sources (unit_name (stem_for names) u.number) scope rows
+      (made_names_are_new names (UnitName u.number)) keeps;
 }
 
 gives_begun : (values : Values) (sources : List Dataset) (names : List (List ℕ)) (u : UnitPlan) → IsNull values (stem_for names) → UnitKnown names u
@@ -198,7 +202,9 @@ gives_begun : (values : Values) (sources : List Dataset) (names : List (List ℕ
 gives_begun values sources names u null known = record {
   gives = λ scope keeps. steps_listed values sources scope (stem_for names) (begun_name (stem_for names) u.number) u.source u.before null
       (front_of StepFits u.before u.after known.fits) (all_find names sources scope u.before keeps known.parts.before) (keeps u.source known.parts.source);
-  keeps = λ scope rows keeps. keeps_on names sources (begun_name (stem_for names) u.number) scope rows (made_names_are_new names (BegunName u.number) known.few) keeps;
+  keeps =
+      λ scope rows keeps. keeps_on names sources (begun_name (stem_for names) u.number) scope rows
+      (made_names_are_new names (BegunName u.number)) keeps;
 }
 
 -- ---- the law
@@ -257,12 +263,13 @@ units_come_first s values sources same few null =
     let stem = stem_for names in
     let known = units_known s few in
     let keeps : KeepsSources names sources (list_named sources) = λ name among. refl in
-    let units : All (GivesUnit values sources names) p.units = all_from (UnitKnown names) (GivesUnit values sources names) (λ u k. gives_unit values sources names u null k) p.units known in
+    let units : All (GivesUnit values sources names) p.units
+    = all_from (UnitKnown names) (GivesUnit values sources names) (λ u k. gives_unit values sources names u null k) p.units known in
     let begun : All (GivesBegun values sources names) (units_begun p)
     = all_kept (GivesBegun values sources names) (is_begun p) p.units
     (all_from (UnitKnown names) (GivesBegun values sources names) (λ u k. gives_begun values sources names u null k) p.units known) in
     let new : All (λ name. name ≢ none_name stem) (map (λ (d : Dataset). d.name) sources)
-    = sources_apart s (map (λ (d : Dataset). d.name) sources) (none_name stem) (made_names_are_new names NoneName tt)
+    = sources_apart s (map (λ (d : Dataset). d.name) sources) (none_name stem) (made_names_are_new names NoneName)
     (λ name is. sources_mentioned s p name (subst (IsAmong name) same is)) in
     in_two values sources no_lists (map source_written s.sources) (none_list stem s.sources ∷ lists_made stem p)
     ∙ ap (λ o. o >>= λ scope. lists_of values sources scope (none_list stem s.sources ∷ lists_made stem p)) (sources_first values sources s.sources same)
@@ -287,7 +294,8 @@ units_come_first s values sources same few null =
         let names = mentioned s p in
         let stem = stem_for names in
         let scope = with_all (unit_names stem p.units) rows (list_named sources) in
-        let still = all_keep values sources (unit_list stem) (unit_left values sources) (KeepsSources names sources) p.units rows (list_named sources) units keeps in
+        let still
+        = all_keep values sources (unit_list stem) (unit_left values sources) (KeepsSources names sources) p.units rows (list_named sources) units keeps in
         in_two values sources scope (begun_lists stem p) (other_lists stem p)
         ∙ ap (λ o. o >>= λ next. lists_of values sources next (other_lists stem p))
         (all_read values sources (begun_list stem) (begun_left values sources) (KeepsSources names sources) (units_begun p) scope begun still)

@@ -193,7 +193,8 @@ module _ (stem : List ℕ) where
 
 -- ---- what is read of what is settled
 
-found_more : (b : Bool) (x : List ℕ × Option Cell) (all some : Option (List ℕ × Option Cell)) → option_map_or (λ (e : List ℕ × Option Cell). e.1) all (Some Null)
+found_more : (b : Bool) (x : List ℕ × Option Cell) (all some : Option (List ℕ × Option Cell))
+    → option_map_or (λ (e : List ℕ × Option Cell). e.1) all (Some Null)
     ≡ option_map_or (λ (e : List ℕ × Option Cell). e.1) some (Some Null)
     → option_map_or (λ (e : List ℕ × Option Cell). e.1) (cond b (Some x) all) (Some Null)
     ≡ option_map_or (λ (e : List ℕ × Option Cell). e.1) (cond b (Some x) some) (Some Null)

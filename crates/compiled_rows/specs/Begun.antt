@@ -1,9 +1,9 @@
--- Rows before an aggregate have no cells that the rows behind it lack, in the fields by which the aggregate groups: each is in a group, whose row has its cells there. So it
--- is behind a stack, which puts cells under names of its own.
+-- Rows before an aggregate have no cells that the rows behind it lack, in the fields by which the aggregate groups: each is in a group, whose row has its cells
+-- there. So it is behind a stack, which puts cells under names of its own. All of them read their ids.
 use Rattle.std.specs.Prelude.{◌≡◌, ℕ, true, Some, List, [], ◌∷◌, All, map}
 use Rattle.std.specs.List.{list_all}
 use Rattle.cell_value.specs.Datum.{Datum}
-use Rattle.cell_value.specs.State.{Dataset, ReadsItsId}
+use Rattle.cell_value.specs.State.{Dataset, State, IsState, ReadsItsId}
 use Rattle.expr_eval.specs.Values.{Values}
 use Rattle.plain_rows.specs.declared.transforms.GroupOf.{GroupOf}
 use Rattle.plain_rows.specs.declared.transforms.OpOf.{OpOf}
@@ -11,6 +11,7 @@ use Rattle.unit_plan.specs.declared.steps.Step.{Step}
 use Rattle.unit_plan.specs.declared.steps.Step.TheVariants as step
 use Rattle.chart_meaning.specs.Rows.{all_stepped}
 use Rattle.compiled_rows.specs.Follows.{is_outside}
+use Rattle.compiled_rows.specs.Lists.{rows_left}
 use Rattle.compiled_rows.specs.Parts.{is_one_of, AreCovered}
 
 -- a group has some names among those by which it groups, and gives nothing under them
@@ -35,3 +36,13 @@ KeepsCells names (step.Fold fold) = ⊥
 abbrev pub StepsCover : Type 0
 StepsCover = (values : Values) (sources : List Dataset) (names : List (List ℕ)) (steps : List Step) (rows made : List Datum)
     → All (KeepsCells names) steps → All ReadsItsId rows → all_stepped values sources steps rows ≡ Some made → AreCovered names made rows
+
+-- Steps leave rows that read their ids where those before them do,
+abbrev pub StepsReadIds : Type 0
+StepsReadIds = (values : Values) (sources : List Dataset) (steps : List Step) (rows made : List Datum) → All ReadsItsId rows
+    → all_stepped values sources steps rows ≡ Some made → All ReadsItsId made
+
+-- so in each state those do that steps leave of a source.
+abbrev pub RowsLeftReadIds : Type 0
+RowsLeftReadIds = (values : Values) (st : State) (source : List ℕ) (steps : List Step) (rows : List Datum) → IsState st
+    → rows_left values st.sources source steps ≡ Some rows → All ReadsItsId rows

@@ -1,4 +1,5 @@
--- The names of parameters differ where no rule of names is broken and no name is empty: rules of names pass over empty ones, which the table of members forbids.
+-- The names of parameters differ where no rule of names is broken and no name is empty: rules of names pass over empty ones, which the table of members
+-- forbids.
 use Rattle.std.specs.Prelude.{◌≡◌, ◌≢◌, [], All}
 use Rattle.json_exact.specs.declared.json.Json.{Json}
 use Rattle.vl_spec.specs.declared.params.ParamOf.{ParamOf}

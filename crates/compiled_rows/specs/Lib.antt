@@ -7,6 +7,7 @@ pub mod Lost
 pub mod States
 pub mod Given
 pub mod Kinds
+pub mod Origins
 pub mod Parts
 pub mod Panels
 pub mod Nested

@@ -1,5 +1,5 @@
--- The data sets of a compiled specification, read one after the other, leave for each unit the rows that its steps make of its source. What is out of range on one
--- side is so on the other: all that stands here are equations.
+-- The data sets of a compiled specification, read one after the other, leave for each unit the rows that its steps make of its source. What is out of range on
+-- one side is so on the other: all that stands here are equations.
 use Rattle.std.specs.Prelude.{◌≡◌, ℕ, suc, ◌+◌, ◌^◌, ◌<◌, ◌≤◌, true, Option, Some, List, [], ◌∷◌, ◌++◌, map, flat_map, filter, length, slice_get, All, IfSome}
 use Rattle.std.specs.List.{enumerate_from}
 use Rattle.fixed_num.specs.Ranges.{◌>>=◌, all_found}
@@ -9,6 +9,8 @@ use Rattle.expr_eval.specs.Values.{Values}
 use Rattle.vega_spec.specs.declared.data.DataSet.{DataSet}
 use Rattle.vl_spec.specs.declared.sources.SourceOf.{SourceOf}
 use Rattle.vl_spec.specs.declared.spec.VlSpec.{VlSpec}
+use Rattle.vl_normalize.specs.Normal.{normal_form}
+use Rattle.vl_compose.specs.Rounds.{rounds_of}
 use Rattle.unit_plan.specs.declared.plans.UnitPlan.{UnitPlan}
 use Rattle.unit_plan.specs.declared.steps.Step.{Step}
 use Rattle.chart_plan.specs.declared.domains.DomainPlan.{DomainPlan}
@@ -134,9 +136,15 @@ BegunStand = (s : VlSpec) (values : Values) (sources : List Dataset) → HasSour
     → (scope : Scope) → IsRead s values sources scope → (k : ℕ) (u : UnitPlan) → slice_get (plan_of s).units k ≡ Some u → is_begun (plan_of s) u ≡ true
     → begun_left values sources u ≡ Some (scope (begun_name (stem_of s) k))
 
+-- Then the rows of a unit are what its further steps leave of these.
+abbrev pub BegunGoOn : Type 0
+BegunGoOn = (s : VlSpec) (values : Values) (sources : List Dataset) → HasSources sources s → HasFewUnits s → IsNull values (stem_of s)
+    → (scope : Scope) → IsRead s values sources scope → (k : ℕ) (u : UnitPlan) → slice_get (plan_of s).units k ≡ Some u → is_begun (plan_of s) u ≡ true
+    → all_stepped values sources u.after (scope (begun_name (stem_of s) k)) ≡ Some (scope (unit_name (stem_of s) k))
+
 -- ---- the other lists
 
--- how many fields tell the ranks of cells apart in an order by rows: those of the facets round a unit up to the holder of a scale, and the cell
+-- how many fields tell rows apart in an order by rows: those of the facets round a unit up to the holder of a scale, and the cell
 abbrev pub telling : Plan → Option ℕ → CellOrder → ℕ
 telling p holder stands.First = 0
 telling p holder stands.Up = 0
@@ -185,3 +193,22 @@ OthersStand = (s : VlSpec) (values : Values) (sources : List Dataset) → HasSou
 -- The numbers of the units below a facet rise.
 abbrev pub FacetUnitsRise : Type 0
 FacetUnitsRise = (s : VlSpec) → HasFewUnits s → All (λ (grid : GridPlan). IfSome grid.facet (λ (f : FacetPlan). Rises 0 f.units)) (plan_of s).grids
+
+-- So do those of all grids, where there are no more views than numbers of 64 bits.
+abbrev pub GridNumbersRise : Type 0
+GridNumbersRise = (s : VlSpec) → length (rounds_of (normal_form s)) ≤ 2 ^ 64 → Rises 0 (map (λ (grid : GridPlan). grid.number) (plan_of s).grids)
+
+-- No more views than that have units with such numbers alone.
+abbrev pub FewViewsHaveFewUnits : Type 0
+FewViewsHaveFewUnits = (s : VlSpec) → length (rounds_of (normal_form s)) ≤ 2 ^ 64 → HasFewUnits s
+
+-- What each specification keeps that a machine holds: numbers of 64 bits for its views, and as the places of scales, columns and fields.
+pub record HasFewParts (s : VlSpec) : Type 0 where
+  pub views : length (rounds_of (normal_form s)) ≤ 2 ^ 64
+  pub scales : length (plan_of s).scales < 2 ^ 64
+  pub each : All (IsSmallScale (plan_of s)) (plan_of s).scales
+  pub fields : All (λ (grid : GridPlan). IfSome grid.facet (λ (f : FacetPlan). length f.fields < 2 ^ 64)) (plan_of s).grids
+
+-- Then the names of all lists of its plan differ.
+abbrev pub PlansAreSmall : Type 0
+PlansAreSmall = (s : VlSpec) → HasFewParts s → IsSmallPlan (plan_of s)

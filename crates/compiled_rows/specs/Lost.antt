@@ -39,8 +39,8 @@ StepTestsNoLost values (step.Window window) = Unit {0}
 StepTestsNoLost values (step.Lookup source lookup) = Unit {0}
 StepTestsNoLost values (step.Fold fold) = Unit {0}
 
--- Where the null signal has a value, the list of a unit mentions a signal without value exactly where its steps mention a lost parameter; so does that of its rows
--- before the aggregate.
+-- Where the null signal has a value, the list of a unit mentions a signal without value exactly where its steps mention a lost parameter; so does that of its
+-- rows before the aggregate.
 abbrev pub UnitsLackAlike : Type 0
 UnitsLackAlike = (stem : List ℕ) (values : Values) (u : UnitPlan) → values.value (none_name stem) ≡ Some Null
     → All (StepTestsNoLost values) (u.before ++ u.after) → set_lacks values (unit_list stem u) ≡ mention_lost values (u.before ++ u.after)

@@ -1,4 +1,5 @@
--- The names that a compiled specification makes of lists, of their columns and of marks are apart: from each other, and from all that the specification mentions.
+-- The names that a compiled specification makes of lists, of their columns and of marks are apart: from each other, and from all that the specification
+-- mentions.
 use Rattle.std.specs.Prelude.{◌≡◌, ◌≢◌, ℕ, ◌<◌, ◌^◌, List, All}
 use Rattle.vega_assemble.specs.Names.{none_name, unit_name, begun_name, cells_name, ranks_name, codes_name, outer_name, orders_name, keys_name, cell_column}
 use Rattle.vega_assemble.specs.Names.{rank_column, key_column, mark_name, stem_for}
@@ -59,6 +60,6 @@ HasPlaces (MarkName n) = IsPlace n
 abbrev pub MadeNamesDiffer : Type 0
 MadeNamesDiffer = (stem : List ℕ) (a b : MadeName) → HasPlaces a → HasPlaces b → made_name stem a ≡ made_name stem b → a ≡ b
 
--- Behind the stem for some names, no name that is made is one of them.
+-- Behind the stem for some names, no name that is made is one of them, whatever the numbers in it.
 abbrev pub MadeNamesAreNew : Type 0
-MadeNamesAreNew = (mentioned : List (List ℕ)) (a : MadeName) → HasPlaces a → All (λ name. made_name (stem_for mentioned) a ≢ name) mentioned
+MadeNamesAreNew = (mentioned : List (List ℕ)) (a : MadeName) → All (λ name. made_name (stem_for mentioned) a ≢ name) mentioned

@@ -19,4 +19,5 @@ PanelsStayCovered = (stem : List ℕ) (p : Plan) (grid inner : GridPlan) (f g : 
     → slice_get p.grids place ≡ Some inner → inner.facet ≡ Some g → is_inside grid f inner g ≡ true → is_deeper grid.number inner ≡ true
     → All (λ unit. is_among f.units unit ≡ true) g.units
     → AreCovered (names_of f ++ names) (flat_map copy.rows g.units) (flat_map outer (names_behind stem p inner g))
-    → AreCovered names (flat_map (copy_with f copy spot key).rows g.units) (flat_map (scope_in (facet_of stem p grid f) key outer) (names_behind stem p inner g))
+    → AreCovered names (flat_map (copy_with f copy spot key).rows g.units)
+    (flat_map (scope_in (facet_of stem p grid f) key outer) (names_behind stem p inner g))

@@ -1,5 +1,5 @@
--- The copies of a compiled facet are the panels of the direct meaning, as soon as the cells of its fields are. For a facet whose panels stand by no keys this is
--- so where each list that it parts beside the rows of units has no cells but theirs. Where they stand by keys, what is left to be shown is that the cells of
+-- The copies of a compiled facet are the panels of the direct meaning, as soon as the cells of its fields are. For a facet whose panels stand by no keys this
+-- is so where each list that it parts beside the rows of units has no cells but theirs. Where they stand by keys, what is left to be shown is that the cells of
 -- each field are in their order.
 use Rattle.std.specs.Prelude.{◌≡◌, ℕ, true, false, Some, List, ◌++◌, All, map, flat_map}
 use Rattle.cell_value.specs.Datum.{Datum}
@@ -13,7 +13,7 @@ use Rattle.chart_plan.specs.declared.grids.GridPlan.{GridPlan}
 use Rattle.chart_plan.specs.declared.plan.Plan.{Plan}
 use Rattle.chart_meaning.specs.Parts.{Copy, cells_of_facet, names_of}
 use Rattle.vega_assemble.specs.Drags.{outer_names}
-use Rattle.vega_assemble.specs.Facets.{facet_over, grids_inside, scale_names, begun_names, keys_inside, deeper}
+use Rattle.vega_assemble.specs.Facets.{facet_over, grids_inside, scale_names, keys_inside, deeper}
 use Rattle.vega_assemble.specs.Keys.{has_keys, sort_of}
 use Rattle.vega_assemble.specs.Names.{unit_name}
 use Rattle.vega_assemble.specs.Views.{facet_of}
@@ -35,8 +35,8 @@ CopiesArePanels = (stem : List ℕ) (p : Plan) (grid : GridPlan) (f : FacetPlan)
 -- the names of lists that a facet parts behind its own keys and the rows of units
 abbrev pub names_behind : List ℕ → Plan → GridPlan → FacetPlan → List (List ℕ)
 names_behind stem p grid f =
-    begun_names stem (scales_held p grid f) f.units ++ scale_names stem p.grids (scales_held p grid f)
-    ++ flat_map (keys_inside stem) (deeper grid.number (grids_inside p.grids grid f)) ++ outer_names stem p.selections (scales_held p grid f)
+    scale_names stem p.grids (scales_held p grid f) ++ flat_map (keys_inside stem) (deeper grid.number (grids_inside p.grids grid f))
+    ++ outer_names stem p.selections (scales_held p grid f)
 
 -- So a facet without keys has the panels of the direct meaning, where names stand round it for the rows of units, and its other lists have no cells but theirs.
 abbrev pub PanelsInOwnOrders : Type 0

@@ -10,6 +10,7 @@ use Rattle.cell_value.specs.Datum.{Datum}
 use Rattle.plain_facets.specs.Facets.{key_of, is_key, part_of, cells_in, cells_of_field, cells_of_fields, cells_of_copies, choices}
 use Rattle.domain_kit.specs.Cells.{in_first_order}
 use Rattle.domain_kit.specs.Orders.{in_direction}
+use Rattle.vega_spec.specs.declared.data.DataSet.{DataSet}
 use Rattle.vega_spec.specs.declared.marks.Facet.{Facet}
 use Rattle.vega_spec.specs.declared.orders.Sort.{Sort}
 use Rattle.vega_lists.specs.Scopes.{Scope}
@@ -21,9 +22,10 @@ use Rattle.chart_plan.specs.declared.plan.Plan.{Plan}
 use Rattle.chart_plan.specs.declared.scales.ScalePlan.{ScalePlan}
 use Rattle.chart_plan.specs.Shown.{is_among}
 use Rattle.chart_meaning.specs.Parts.{Copy, Spot, copy_with, names_of, cells_below, occurs_in}
-use Rattle.vega_assemble.specs.Facets.{facet_over, grids_inside, is_inside, is_deeper, scales_inside, refers}
+use Rattle.vega_assemble.specs.Facets.{facet_over, grids_inside, is_inside, is_deeper, scales_inside}
 use Rattle.vega_assemble.specs.Keys.{by_name}
-use Rattle.vega_assemble.specs.Names.{unit_name, begun_name}
+use Rattle.vega_assemble.specs.Lists.{lists_of_scale}
+use Rattle.vega_assemble.specs.Names.{unit_name}
 use Rattle.vega_assemble.specs.Views.{facet_of, parts_with}
 
 -- ---- lists
@@ -52,11 +54,11 @@ UnitsAreParted = (stem : List ℕ) (p : Plan) (grid : GridPlan) (f : FacetPlan) 
 abbrev pub scales_held : Plan → GridPlan → FacetPlan → List (ℕ × ScalePlan)
 scales_held p grid f = scales_inside (grids_inside p.grids grid f) p.scales
 
--- and so are those before the aggregate, where the domain of a scale refers to them that stands there.
-abbrev pub BegunAreParted : Type 0
-BegunAreParted = (stem : List ℕ) (p : Plan) (grid : GridPlan) (f : FacetPlan) (copy : Copy) (spot : Spot) (key : List Cell) (outer : Scope) (unit : ℕ)
-    → is_among f.units unit ≡ true → refers (scales_held p grid f) unit ≡ true → outer (begun_name stem unit) ≡ copy.begun unit
-    → scope_in (facet_of stem p grid f) key outer (begun_name stem unit) ≡ (copy_with f copy spot key).begun unit
+-- and so are the lists to which the domain of such a scale refers.
+abbrev pub ScaleListsAreParted : Type 0
+ScaleListsAreParted = (stem : List ℕ) (p : Plan) (grid : GridPlan) (f : FacetPlan) (key : List Cell) (outer : Scope) (k j : ℕ) (s : ℕ × ScalePlan)
+    (set : DataSet) → slice_get (scales_held p grid f) k ≡ Some s → slice_get (lists_of_scale stem p.grids s) j ≡ Some set
+    → scope_in (facet_of stem p grid f) key outer set.name ≡ part_of (names_of f) key (outer set.name)
 
 -- the names of all lists that a facet parts
 abbrev pub names_parted : List ℕ → Plan → GridPlan → FacetPlan → List (List ℕ)

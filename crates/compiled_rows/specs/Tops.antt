@@ -1,5 +1,5 @@
--- The top of a compiled specification and the chart itself as a copy. Names stand there for lists where all units have their rows in the direct meaning, and the
--- lists besides are in range and mention no signal without value; then the names of units stand for these rows.
+-- The top of a compiled specification and the chart itself as a copy. Names stand there for lists where all units have their rows in the direct meaning, and
+-- the lists besides are in range and mention no signal without value; then the names of units stand for these rows.
 use Rattle.std.specs.Prelude.{◌≡◌, ℕ, ◌++◌, true, Option, Some, None, List, All, map, slice_get, if◌then◌else◌}
 use Rattle.std.specs.List.{list_any}
 use Rattle.std.specs.Option.{option_map}
@@ -59,8 +59,8 @@ TopIsUnitsAndOthers = (s : VlSpec) (st : State) → HasTop s st
     → names_of_top s st ≡ (all_found (map (unit_rows (values_in s.params st) st.sources) (plan_of s).units) >>= λ rows.
     all_found (map (rows_begun (values_in s.params st) st.sources) (units_begun (plan_of s))) >>= λ begun. names_over_units s st rows begun)
 
--- Where names stand for lists, and the chart is a copy, expressions read what they read of the parameters, and the name of a unit stands for the rows that the copy
--- has of it, as does that of its rows before the aggregate where something reads them.
+-- Where names stand for lists, and the chart is a copy, expressions read what they read of the parameters, and the name of a unit stands for the rows that the
+-- copy has of it, as does that of its rows before the aggregate where something reads them.
 pub record IsLinked (s : VlSpec) (st : State) (names : Names) (copy : Copy) : Type 0 where
   pub values : names.values ≡ values_in s.params st
   pub rows : (k : ℕ) (u : UnitPlan) → slice_get (plan_of s).units k ≡ Some u → names.lists (unit_name (stem_of s) k) ≡ copy.rows k

@@ -22,7 +22,7 @@ use Rattle.vega_signals.specs.Lacking.{set_lacks}
 use Rattle.vega_signals.specs.Parameters.{values_with}
 use Rattle.vega_signals.specs.Settling.{settled_own, values_inside}
 use Rattle.vega_signals.specs.Signals.{valued_here}
-use Rattle.vega_copies.specs.Outlines.{Object, outline_of}
+use Rattle.vega_copies.specs.Outlines.{AGroup, AMark, Marks, NoMarks, Object, outline_of}
 use Rattle.vega_copies.specs.Scopes.{Names, names_at_top, names_in_object, keeps_signals}
 use Rattle.vl_spec.specs.declared.params.ParamKind.{ParamKind}
 use Rattle.vl_spec.specs.declared.params.ParamKind.TheVariants as kind
@@ -139,3 +139,13 @@ SignalsAreKeptAlike = (stem : List ℕ) (s : VlSpec) (p : Plan) (st : State) (na
 -- In an object without signals and data sets names stand for what they stand for round it.
 abbrev pub NothingIsAdded : Type 0
 NothingIsAdded = (sources : List Dataset) (outer : Names) (o : Object) → o.signals ≡ [] → o.sets ≡ [] → names_in_object sources outer o ≡ Some outer
+
+-- no group among some marks, or inside one of them, has a signal or a data set
+abbrev pub AddNothing : Marks → Type 0
+AddNothing NoMarks = Unit {0}
+AddNothing (AMark unit m others) = AddNothing others
+AddNothing (AGroup object inside others) = (object.signals ≡ []) × (object.sets ≡ []) × AddNothing inside × AddNothing others
+
+-- All objects inside the top are such.
+abbrev pub InsideAddsNothing : Type 0
+InsideAddsNothing = (stem : List ℕ) (s : VlSpec) (p : Plan) → AddNothing (outline_of (written_with stem s p)).marks

@@ -1,11 +1,13 @@
 // Laws of the lists in the panels of a compiled facet.
-ghost use Rattle.compiled_rows.specs.Follows.{FollowersAreCovered, TransformsFollow};
-ghost use Rattle.compiled_rows.specs.Begun.{StepsCover};
+ghost use Rattle.compiled_rows.specs.Follows.{FollowersAreCovered, TransformsAddNone, TransformsFollow};
+ghost use Rattle.compiled_rows.specs.Begun.{RowsLeftReadIds, StepsCover, StepsReadIds};
 ghost use Rattle.compiled_rows.specs.Nested.{PanelsStayCovered};
-ghost use Rattle.compiled_rows.specs.Stands.{MadeListsAreCovered, StandsWhereAllStand};
-ghost use Rattle.compiled_rows.specs.Leaves.{DragListsLeave, KeyListsLeave, ScaleListsLeave};
+ghost use Rattle.compiled_rows.specs.Stands.{ListsOfBegunAreCovered, ListsThatAddNoneAreCovered, MadeListsAreCovered, StandsWhereAllStand};
+ghost use Rattle.compiled_rows.specs.Leaves.{DragListsLeave, FieldsAreMentioned, FieldsAreTold, KeyListsLeave, MentionedAreOutside, ScaleListsAddNone};
+ghost use Rattle.compiled_rows.specs.Leaves.{ScaleListsLeave};
 ghost use Rattle.compiled_rows.specs.Panels.{CopiesArePanels, FieldsInOwnOrders, PanelsInOwnOrders};
-ghost use Rattle.compiled_rows.specs.Parts.{BegunAreParted, CopiesAreChoices, CoveredHaveCells, DirectedCellsAreThese, FirstCellsAreThese, InnerListsAreParted, ListsAreParted, PartsAreCovered, UnitsAreParted};
+ghost use Rattle.compiled_rows.specs.Parts.{CopiesAreChoices, CoveredHaveCells, DirectedCellsAreThese, FirstCellsAreThese, InnerListsAreParted};
+ghost use Rattle.compiled_rows.specs.Parts.{ListsAreParted, PartsAreCovered, ScaleListsAreParted, UnitsAreParted};
 
 /// In a copy the name of a list stands for the rows with its cells.
 pub fn lists_are_parted()
@@ -17,9 +19,9 @@ pub fn units_are_parted()
     ensures { UnitsAreParted }
 {}
 
-/// So are those before the aggregate.
-pub fn begun_are_parted()
-    ensures { BegunAreParted }
+/// So are the lists to which the domain of a scale refers that stands in a panel.
+pub fn scale_lists_are_parted()
+    ensures { ScaleListsAreParted }
 {}
 
 /// Whatever a facet inside another one parts, the outer one has parted.
@@ -77,7 +79,17 @@ pub fn followers_are_covered()
     ensures { FollowersAreCovered }
 {}
 
-/// The lists of scales that a facet parts put cells under names of their own.
+/// Columns that are made are none of the fields that a specification mentions.
+pub fn mentioned_are_outside()
+    ensures { MentionedAreOutside }
+{}
+
+/// It mentions the fields of its facets.
+pub fn fields_are_mentioned()
+    ensures { FieldsAreMentioned }
+{}
+
+/// The lists of scales that a facet parts put cells under names of their own, but for the rows by which cells stand.
 pub fn scale_lists_leave()
     ensures { ScaleListsLeave }
 {}
@@ -92,6 +104,21 @@ pub fn drag_lists_leave()
     ensures { DragListsLeave }
 {}
 
+/// Transforms that add no cell in some fields make rows that have no other cells there.
+pub fn transforms_add_none()
+    ensures { TransformsAddNone }
+{}
+
+/// All lists of scales that a facet parts add none.
+pub fn scale_lists_add_none()
+    ensures { ScaleListsAddNone }
+{}
+
+/// The rows by which cells stand are told apart by the fields of the facets round them.
+pub fn fields_are_told()
+    ensures { FieldsAreTold }
+{}
+
 /// A data set makes the same where all names stand as where it is read.
 pub fn stands_where_all_stand()
     ensures { StandsWhereAllStand }
@@ -102,6 +129,16 @@ pub fn made_lists_are_covered()
     ensures { MadeListsAreCovered }
 {}
 
+/// One that adds no cell has none but those of the list with whose rows it begins.
+pub fn lists_that_add_none_are_covered()
+    ensures { ListsThatAddNoneAreCovered }
+{}
+
+/// One of rows before an aggregate has no cells, in the fields by which it groups, that those behind it lack.
+pub fn lists_of_begun_are_covered()
+    ensures { ListsOfBegunAreCovered }
+{}
+
 /// The lists of a facet inside another one have in its panels no cells but those of units.
 pub fn panels_stay_covered()
     ensures { PanelsStayCovered }
@@ -110,4 +147,14 @@ pub fn panels_stay_covered()
 /// Rows before an aggregate have no cells, in the fields by which it groups, that those behind it lack.
 pub fn steps_cover()
     ensures { StepsCover }
+{}
+
+/// Rows that steps leave read their ids.
+pub fn steps_read_ids()
+    ensures { StepsReadIds }
+{}
+
+/// So do those that steps leave of a source of a state.
+pub fn rows_left_read_ids()
+    ensures { RowsLeftReadIds }
 {}

@@ -2,6 +2,7 @@
 ghost use Rattle.compiled_rows.specs.Given.{NamesOfParamsDiffer};
 ghost use Rattle.compiled_rows.specs.Grounds.{ChartStatesHaveTop};
 ghost use Rattle.compiled_rows.specs.Kinds.{ParamsAreWritten};
+ghost use Rattle.compiled_rows.specs.Origins.{SourcesAreWritten};
 ghost use Rattle.compiled_rows.specs.States.{ChartStatesAreOfParams};
 
 /// A state of a specification gives values to its parameters, and has stores of its selections.
@@ -22,4 +23,9 @@ pub fn names_of_params_differ()
 /// The parameters of what is written are those of the specification.
 pub fn params_are_written()
     ensures { ParamsAreWritten }
+{}
+
+/// The sources of what is written are those of the specification.
+pub fn sources_are_written()
+    ensures { SourcesAreWritten }
 {}

@@ -1,6 +1,7 @@
 // Laws of the values that the signals of a compiled specification have.
 ghost use Rattle.compiled_rows.specs.Lost.{BegunLackAlike, NullSignalIsNull, UnitsLackAlike};
-ghost use Rattle.compiled_rows.specs.Values.{CommandsReadAlike, NamesAtTopAreThese, NothingIsAdded, SignalsAreKeptAlike, SignalsSettleAlike, StoresOfStatesAreApart, ValuesAreAlike};
+ghost use Rattle.compiled_rows.specs.Values.{CommandsReadAlike, InsideAddsNothing, NamesAtTopAreThese, NothingIsAdded, SignalsAreKeptAlike, SignalsSettleAlike};
+ghost use Rattle.compiled_rows.specs.Values.{StoresOfStatesAreApart, ValuesAreAlike};
 
 /// The signals of the top settle at the values of the parameters, and one more at null.
 pub fn signals_settle_alike()
@@ -25,6 +26,11 @@ pub fn names_at_top_are_these()
 /// In an object without signals and data sets names stand for what they stand for round it.
 pub fn nothing_is_added()
     ensures { NothingIsAdded }
+{}
+
+/// All objects inside the top are such.
+pub fn inside_adds_nothing()
+    ensures { InsideAddsNothing }
 {}
 
 /// The stores of a state are those of selections, so none has the name of another parameter.

@@ -16,7 +16,8 @@ use Rattle.vega_assemble.specs.declared.views.Held.{Held}
 use Rattle.vega_assemble.specs.declared.views.Opened.{Opened}
 use Rattle.vega_assemble.specs.Keys.{sort_of}
 use Rattle.vega_assemble.specs.Made.{MadeView, NoMarks, group_of, group_rolled, rolled}
-use Rattle.vega_assemble.specs.Views.{View, facet_of, faceted, held_by, nothing_held, plot_made, grid_made, no_view, plot_at, grid_at, joined, units_made, unit_at, view_here, view_made}
+use Rattle.vega_assemble.specs.Views.{View, facet_of, faceted, held_by, nothing_held, plot_made, grid_made, no_view, plot_at, grid_at, joined}
+use Rattle.vega_assemble.specs.Views.{units_made, unit_at, view_here, view_made}
 use Rattle.vega_assemble.specs.inner.Groups.{mark_with}
 use Rattle.vega_assemble.specs.inner.Holders.{opened, group_for}
 use Rattle.vega_assemble.proofs.MarkLemmas.{found_behind}

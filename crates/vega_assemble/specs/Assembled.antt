@@ -29,7 +29,7 @@ use Rattle.vega_assemble.specs.Views.{held_by, view_made}
 
 -- ---- data sets
 
--- the list without rows, whose signal is always null; it begins with the rows of the first source
+-- the list without rows, whose signal is always null, of whatever field the extent is; it begins with the rows of the first source
 abbrev pub first_name : List SourceOf → List ℕ
 first_name [] = []
 first_name (source ∷ sources) = source.name

@@ -1,10 +1,8 @@
 -- The domains of scales. A given list stands as it is. Cells of rows are references to columns of lists, column after column: a field to the unit's own rows,
--- any other cell to a list of its own. On a discrete scale they stand in an order: ascending, descending, or as they first appear; in a listed order, and
--- in one by rows, by the ranks that such lists have; in an order by rows over its own column alone by an operation over the rows before the aggregate.
-use Rattle.std.specs.Prelude.{◌≡◌, refl, ℕ, ◌==◌, ◌&&◌, Bool, true, false, Option, Some, None, List, [], ◌∷◌, map, codes, is_some}
-use Rattle.std.specs.Prelude.{if◌then◌else◌, unwrap_or}
+-- any other cell to a list of its own. On a discrete scale they stand in an order: ascending, descending, or as they first appear; in a listed order by the
+-- ranks that such lists have; and in one by rows by what the operation gives over the ranks of rows, which one more list has.
+use Rattle.std.specs.Prelude.{◌≡◌, refl, ℕ, Bool, true, Option, Some, None, List, [], ◌∷◌, ◌++◌, map, codes, if◌then◌else◌}
 use Rattle.std.specs.List.{enumerate_from}
-use Rattle.std.specs.Str.{bytes_eq}
 use Rattle.expr_syntax.specs.declared.expr.Expr.TheVariants as expr
 use Rattle.vega_spec.specs.declared.domains.Domain.{Domain}
 use Rattle.vega_spec.specs.declared.domains.Domain.TheVariants as domain
@@ -21,8 +19,8 @@ use Rattle.chart_plan.specs.declared.domains.RowCells.{RowCells}
 use Rattle.chart_plan.specs.declared.orders.CellOrder.{CellOrder}
 use Rattle.chart_plan.specs.declared.orders.CellOrder.TheVariants as stands
 use Rattle.chart_plan.specs.declared.orders.RowsOrder.{RowsOrder}
-use Rattle.vega_assemble.specs.Names.{unit_name, begun_name, cells_name, cell_column, rank_column}
-use Rattle.vega_assemble.specs.Ranks.{min_code}
+use Rattle.vega_assemble.specs.Names.{unit_name, cells_name, ranks_name, cell_column, rank_column}
+use Rattle.vega_assemble.specs.Ranks.{min_code, op_of_scale, sum_code}
 use Rattle.vega_assemble.specs.Steps.{direction}
 
 -- ---- references
@@ -43,46 +41,33 @@ plainly_referred stem scale column = column_referred stem scale column.0 column.
 abbrev pub own_referred : List ℕ → ℕ → ℕ × Column → Reference
 own_referred stem scale column = reference (cells_name stem scale column.0) (cell_column stem)
 
--- whether the cells of an order by rows are those of its one column
-abbrev pub is_of_field : List ℕ → CellOf → Bool
-is_of_field name (shows.Field field) = bytes_eq field name
-is_of_field name (shows.Written c) = false
-is_of_field name (shows.Computed e) = false
+abbrev pub all_own : List ℕ → ℕ → List Column → List Reference
+all_own stem scale columns = map (own_referred stem scale) (enumerate_from 0 columns)
 
-abbrev pub is_its_column : RowsOrder → Column → Bool
-is_its_column by column = column.unit == by.unit && is_of_field by.cell column.cell
-
-abbrev pub is_lone : RowsOrder → List Column → Bool
-is_lone by [] = false
-is_lone by (column ∷ []) = is_its_column by column && is_some by.field
-is_lone by (first ∷ second ∷ others) = false
-
-abbrev pub ranked_referred : List ℕ → ℕ → RowsOrder → List Column → List Reference
-ranked_referred stem scale by columns =
-    if is_lone by columns then reference (begun_name stem by.unit) by.cell ∷ [] else map (own_referred stem scale) (enumerate_from 0 columns)
+-- and behind these the rows by which cells stand
+abbrev pub ranks_referred : List ℕ → ℕ → Reference
+ranks_referred stem scale = reference (ranks_name stem scale) (cell_column stem)
 
 -- all references of columns in an order, column after column
 abbrev pub referred : List ℕ → ℕ → CellOrder → List Column → List Reference
 referred stem scale stands.First columns = map (plainly_referred stem scale) (enumerate_from 0 columns)
 referred stem scale stands.Up columns = map (plainly_referred stem scale) (enumerate_from 0 columns)
 referred stem scale stands.Down columns = map (plainly_referred stem scale) (enumerate_from 0 columns)
-referred stem scale (stands.Listed cells) columns = map (own_referred stem scale) (enumerate_from 0 columns)
-referred stem scale (stands.ByRows by) columns = ranked_referred stem scale by columns
+referred stem scale (stands.Listed cells) columns = all_own stem scale columns
+referred stem scale (stands.ByRows by) columns = all_own stem scale columns ++ ranks_referred stem scale ∷ []
 
 -- ---- orders
 
-abbrev pub ranked_order : List ℕ → RowsOrder → List Column → DomainOrder
-ranked_order stem by columns =
-    if is_lone by columns then order.Operation (Some (direction by.descending)) by.op (unwrap_or by.field [])
-    else order.Operation (Some (direction by.descending)) min_code (rank_column stem)
+abbrev pub ranked_order : List ℕ → RowsOrder → DomainOrder
+ranked_order stem by = order.Operation (Some (direction by.descending)) (op_of_scale by.op) (rank_column stem)
 
--- how the cells of columns stand, on a continuous scale not at all
-abbrev pub order_written : List ℕ → CellOrder → List Column → Option DomainOrder
-order_written stem stands.First columns = None
-order_written stem stands.Up columns = Some order.True
-order_written stem stands.Down columns = Some (order.Cells (Some Descending))
-order_written stem (stands.Listed cells) columns = Some (order.Operation (Some Ascending) min_code (rank_column stem))
-order_written stem (stands.ByRows by) columns = Some (ranked_order stem by columns)
+-- how cells stand, on a continuous scale not at all
+abbrev pub order_written : List ℕ → CellOrder → Option DomainOrder
+order_written stem stands.First = None
+order_written stem stands.Up = Some order.True
+order_written stem stands.Down = Some (order.Cells (Some Descending))
+order_written stem (stands.Listed cells) = Some (order.Operation (Some Ascending) min_code (rank_column stem))
+order_written stem (stands.ByRows by) = Some (ranked_order stem by)
 
 abbrev pub if_discrete : Bool → Option DomainOrder → Option DomainOrder
 if_discrete continuous sort = if continuous then None else sort
@@ -93,7 +78,7 @@ if_discrete continuous sort = if continuous then None else sort
 abbrev pub rows_written : List ℕ → ℕ → Bool → RowCells → Domain
 rows_written stem scale continuous of = domain.Fields record {
   fields = referred stem scale of.order of.columns;
-  sort = if_discrete continuous (order_written stem of.order of.columns);
+  sort = if_discrete continuous (order_written stem of.order);
 }
 
 abbrev pub domain_written : List ℕ → ℕ → Bool → DomainPlan → Domain
@@ -106,19 +91,14 @@ domain_written stem scale continuous (plan.Columns of) = rows_written stem scale
 abbrev two_columns : List Column
 two_columns = record { unit = 0; cell = shows.Field (codes "a") } ∷ record { unit = 0; cell = shows.Computed expr.Null } ∷ []
 
-columns_of_two_kinds : referred [] 1 stands.Up two_columns ≡ reference (unit_name [] 0) (codes "a") ∷ reference (cells_name [] 1 1) (cell_column []) ∷ []
+columns_of_two_kinds : referred [] 1 stands.Up two_columns
+    ≡ reference (unit_name [] 0) (codes "a") ∷ reference (cells_name [] 1 1) (cell_column []) ∷ []
 columns_of_two_kinds = refl
 
 abbrev by_sums : RowsOrder
-by_sums = record { unit = 0; cell = codes "a"; op = 4; field = Some (codes "v"); descending = true }
+by_sums = record { unit = 0; cell = codes "a"; op = sum_code; field = Some (codes "v"); descending = true }
 
-abbrev its_column : List Column
-its_column = record { unit = 0; cell = shows.Field (codes "a") } ∷ []
-
-an_order_by_its_own_rows : (referred [] 1 (stands.ByRows by_sums) its_column ≡ reference (begun_name [] 0) (codes "a") ∷ [])
-    × (order_written [] (stands.ByRows by_sums) its_column ≡ Some (order.Operation (Some Descending) 4 (codes "v")))
-an_order_by_its_own_rows = (refl, refl)
-
-an_order_beside_another_column : referred [] 1 (stands.ByRows by_sums) two_columns
-    ≡ reference (cells_name [] 1 0) (cell_column []) ∷ reference (cells_name [] 1 1) (cell_column []) ∷ []
-an_order_beside_another_column = refl
+an_order_by_rows : (referred [] 1 (stands.ByRows by_sums) two_columns
+    ≡ reference (cells_name [] 1 0) (cell_column []) ∷ reference (cells_name [] 1 1) (cell_column []) ∷ reference (ranks_name [] 1) (cell_column []) ∷ [])
+    × (order_written [] (stands.ByRows by_sums) ≡ Some (order.Operation (Some Descending) sum_code (rank_column [])))
+an_order_by_rows = (refl, refl)

@@ -1,6 +1,6 @@
 -- What drags invert. Along a channel a drag of a selection inverts in each plot the scale of that plot. Where this is one and the same scale in all plots, its
 -- name is that. Else each plot has a copy of its scale, and all copies have one name. A copy stands in its plot, so it reads its rows from lists that only
--- those facets part in whose panels its scale stands once: a data set for each column, with the rows of the list that the scale reads.
+-- that facet parts in whose panels its scale stands once, and those round it: a data set for each reference of its domain, with the rows of that list.
 use Rattle.std.specs.Prelude.{◌≡◌, refl, ℕ, ◌==◌, ◌&&◌, Bool, true, false, not, Option, None, List, [], ◌∷◌, map, flat_map, filter, find}
 use Rattle.std.specs.Prelude.{if◌then◌else◌, slice_get}
 use Rattle.std.specs.List.{enumerate_from, list_any, list_all, filter_map}

@@ -1,5 +1,5 @@
--- Facets. The rows of all units below a facet are parted, each list under its own name, and with them all other lists that are read in its panels: the keys of
--- facets inside it, and what the scales read that stand once in a panel of it, or of a facet inside it.
+-- Facets. The rows of all units below a facet are parted, each list under its own name, and with them all other lists that are read in its panels: the keys
+-- of facets inside it, and what the scales read that stand once in a panel of it, or of a facet inside it.
 use Rattle.std.specs.Prelude.{◌≡◌, refl, ℕ, ◌==◌, ◌&&◌, nat_le, Bool, true, false, not, Option, Some, None, List, [], ◌∷◌, ◌++◌, map, flat_map}
 use Rattle.std.specs.Prelude.{filter, codes, if◌then◌else◌}
 use Rattle.std.specs.List.{enumerate_from, list_any}
@@ -17,8 +17,8 @@ use Rattle.chart_plan.specs.declared.orders.CellOrder.TheVariants as stands
 use Rattle.chart_plan.specs.declared.scales.ScalePlan.{ScalePlan}
 use Rattle.chart_plan.specs.Shown.{is_among}
 use Rattle.vega_assemble.specs.Keys.{has_keys}
-use Rattle.vega_assemble.specs.Lists.{lists_of_scale, domain_refers, field_names}
-use Rattle.vega_assemble.specs.Names.{unit_name, begun_name, keys_name}
+use Rattle.vega_assemble.specs.Lists.{lists_of_scale, field_names}
+use Rattle.vega_assemble.specs.Names.{unit_name, keys_name}
 
 -- ---- names of parts
 
@@ -62,13 +62,6 @@ names_of_sets sets = map (λ (set : DataSet). set.name) sets
 abbrev pub scale_names : List ℕ → List GridPlan → List (ℕ × ScalePlan) → List (List ℕ)
 scale_names stem grids held = names_of_sets (flat_map (lists_of_scale stem grids) held)
 
--- the rows before the aggregate to which their domains refer themselves
-abbrev pub refers : List (ℕ × ScalePlan) → ℕ → Bool
-refers held unit = list_any (λ (s : ℕ × ScalePlan). domain_refers unit s.1.domain) held
-
-abbrev pub begun_names : List ℕ → List (ℕ × ScalePlan) → List ℕ → List (List ℕ)
-begun_names stem held units = map (begun_name stem) (filter (refers held) units)
-
 abbrev pub keys_inside : List ℕ → GridPlan → List (List ℕ)
 keys_inside stem grid = option_map_or (names_of_keys stem grid.number) grid.facet []
 
@@ -79,12 +72,11 @@ is_deeper number grid = not (grid.number == number)
 abbrev pub deeper : ℕ → List GridPlan → List GridPlan
 deeper number inside = filter (is_deeper number) inside
 
--- The lists that a facet parts, but for those of copies of scales: its own keys, by which its cells stand, come first; then the rows of its units, and what
--- else is read in its panels.
+-- The lists that a facet parts, but for those of copies of scales: its own keys, then the rows of its units, and what else is read in its panels. The order of
+-- its cells reads their entries in the first row that has the cell, and its keys alone have these: so they come first.
 abbrev pub parts_by : List ℕ → List GridPlan → List GridPlan → List (ℕ × ScalePlan) → ℕ → FacetPlan → List (List ℕ)
 parts_by stem grids inside held number f =
-    names_of_keys stem number f ++ map (unit_name stem) f.units ++ begun_names stem held f.units ++ scale_names stem grids held
-    ++ flat_map (keys_inside stem) (deeper number inside)
+    names_of_keys stem number f ++ map (unit_name stem) f.units ++ scale_names stem grids held ++ flat_map (keys_inside stem) (deeper number inside)
 
 -- ---- the facet of a group
 

@@ -1,6 +1,5 @@
--- The lists that are there for the domain of a scale. A cell that is no field has a list with it alone. In a listed order each column has a list of its own with
--- the ranks of its cells, and so in an order by rows, where these are looked up in other lists; over its own column alone such an order wants nothing but
--- the rows before the aggregate.
+-- The lists that are there for the domain of a scale. A cell that is no field has a list with it alone. In a listed order each column has a list of its own
+-- with the ranks of its cells. In an order by rows each has one with its cells, and behind them stands the list of the rows by which the cells stand.
 use Rattle.std.specs.Prelude.{ℕ, ◌==◌, ◌&&◌, Bool, false, nat_le, Option, Some, None, List, [], ◌∷◌, ◌++◌, map, flat_map, if◌then◌else◌}
 use Rattle.std.specs.List.{enumerate_from, filter_map}
 use Rattle.std.specs.Option.{option_map_or}
@@ -22,16 +21,12 @@ use Rattle.chart_plan.specs.declared.orders.CellOrder.TheVariants as stands
 use Rattle.chart_plan.specs.declared.orders.RowsOrder.{RowsOrder}
 use Rattle.chart_plan.specs.declared.scales.ScalePlan.{ScalePlan}
 use Rattle.chart_plan.specs.Shown.{is_among}
-use Rattle.vega_assemble.specs.Domains.{is_lone}
-use Rattle.vega_assemble.specs.Names.{unit_name, cells_name, cell_column, rank_column}
-use Rattle.vega_assemble.specs.Ranked.{formula, cell_formula, lists_beside, rank_steps}
+use Rattle.vega_assemble.specs.Names.{unit_name, cells_name, cell_column}
+use Rattle.vega_assemble.specs.Ranked.{cell_formula, rank_formula, codes_lists, column_steps, ranks_list}
 use Rattle.vega_assemble.specs.Ranks.{listed_rank}
 use Rattle.vega_assemble.specs.Sources.{list_made}
 
 -- ---- columns
-
-abbrev pub rank_formula : List ℕ → Expr → Transform
-rank_formula stem e = formula (rank_column stem) e
 
 -- the list of a column, with more behind its cell
 abbrev pub column_list : List ℕ → ℕ → List Transform → ℕ × Column → DataSet
@@ -76,10 +71,19 @@ names_to grids unit holder = flat_map (names_round unit holder) grids
 abbrev pub names_held : List GridPlan → ℕ → Option ℕ → List (List ℕ)
 names_held grids unit holder = option_map_or (names_to grids unit) holder []
 
--- the lists of the columns of an order by rows
+-- the lists of the columns of an order by rows, their names, and behind them the rows by which cells stand
+abbrev pub column_lists : List ℕ → ℕ → List (List ℕ) → RowsOrder → List Column → List DataSet
+column_lists stem scale facets by columns = map (column_list stem scale (column_steps stem scale facets by)) (enumerate_from 0 columns)
+
+abbrev pub name_of_column : List ℕ → ℕ → ℕ × Column → List ℕ
+name_of_column stem scale column = cells_name stem scale column.0
+
+abbrev pub names_of_columns : List ℕ → ℕ → List Column → List (List ℕ)
+names_of_columns stem scale columns = map (name_of_column stem scale) (enumerate_from 0 columns)
+
 abbrev pub ranked_lists : List ℕ → ℕ → List (List ℕ) → RowsOrder → List Column → List DataSet
 ranked_lists stem scale facets by columns =
-    if is_lone by columns then [] else map (column_list stem scale (rank_steps stem scale facets by)) (enumerate_from 0 columns)
+    column_lists stem scale facets by columns ++ ranks_list stem scale facets (names_of_columns stem scale columns) by ∷ []
 
 abbrev pub lists_in_order : List ℕ → List GridPlan → ℕ → Option ℕ → CellOrder → List Column → List DataSet
 lists_in_order stem grids scale holder stands.First columns = plain_lists stem scale columns
@@ -96,20 +100,17 @@ lists_of_domain stem grids scale holder (plan.Columns of) = lists_in_order stem 
 abbrev pub lists_of_scale : List ℕ → List GridPlan → ℕ × ScalePlan → List DataSet
 lists_of_scale stem grids s = lists_of_domain stem grids s.0 s.1.holder s.1.domain
 
--- those in which the cells of such lists are looked up
-abbrev pub looked_through : List ℕ → ℕ → List (List ℕ) → RowsOrder → List Column → List DataSet
-looked_through stem scale facets by columns = if is_lone by columns then [] else lists_beside stem scale facets by
-
-abbrev pub beside_order : List ℕ → List GridPlan → ℕ → Option ℕ → CellOrder → List Column → List DataSet
-beside_order stem grids scale holder stands.First columns = []
-beside_order stem grids scale holder stands.Up columns = []
-beside_order stem grids scale holder stands.Down columns = []
-beside_order stem grids scale holder (stands.Listed cells) columns = []
-beside_order stem grids scale holder (stands.ByRows by) columns = looked_through stem scale (names_held grids by.unit holder) by columns
+-- those in which the numbers of their cells are looked up
+abbrev pub beside_order : List ℕ → List GridPlan → ℕ → Option ℕ → CellOrder → List DataSet
+beside_order stem grids scale holder stands.First = []
+beside_order stem grids scale holder stands.Up = []
+beside_order stem grids scale holder stands.Down = []
+beside_order stem grids scale holder (stands.Listed cells) = []
+beside_order stem grids scale holder (stands.ByRows by) = codes_lists stem scale (names_held grids by.unit holder) by
 
 abbrev pub beside_domain : List ℕ → List GridPlan → ℕ → Option ℕ → DomainPlan → List DataSet
 beside_domain stem grids scale holder (plan.Cells cells) = []
-beside_domain stem grids scale holder (plan.Columns of) = beside_order stem grids scale holder of.order of.columns
+beside_domain stem grids scale holder (plan.Columns of) = beside_order stem grids scale holder of.order
 
 -- all lists that are there for a scale
 abbrev pub lists_for_scale : List ℕ → List GridPlan → ℕ × ScalePlan → List DataSet
@@ -117,7 +118,7 @@ lists_for_scale stem grids s = beside_domain stem grids s.0 s.1.holder s.1.domai
 
 -- ---- rows before the aggregate
 
--- whether a domain reads those of a unit, and whether it refers to them itself
+-- whether a domain reads those of a unit
 abbrev pub order_begins : ℕ → CellOrder → Bool
 order_begins unit stands.First = false
 order_begins unit stands.Up = false
@@ -128,14 +129,3 @@ order_begins unit (stands.ByRows by) = by.unit == unit
 abbrev pub domain_begins : ℕ → DomainPlan → Bool
 domain_begins unit (plan.Cells cells) = false
 domain_begins unit (plan.Columns of) = order_begins unit of.order
-
-abbrev pub order_refers : ℕ → CellOrder → List Column → Bool
-order_refers unit stands.First columns = false
-order_refers unit stands.Up columns = false
-order_refers unit stands.Down columns = false
-order_refers unit (stands.Listed cells) columns = false
-order_refers unit (stands.ByRows by) columns = by.unit == unit && is_lone by columns
-
-abbrev pub domain_refers : ℕ → DomainPlan → Bool
-domain_refers unit (plan.Cells cells) = false
-domain_refers unit (plan.Columns of) = order_refers unit of.order of.columns

@@ -29,14 +29,14 @@ unit_name stem unit = stem ++ numbered (codes "unit") unit
 abbrev pub begun_name : List ℕ → ℕ → List ℕ
 begun_name stem unit = stem ++ numbered (codes "begun") unit
 
--- of a scale by its number: the cells of a column of its domain, the ranks by which its cells stand, and the cells of a column as they are outside facets
+-- of a scale by its number: the cells of a column of its domain, the rows by which its cells stand, and the cells of a column as they are outside facets
 abbrev pub cells_name : List ℕ → ℕ → ℕ → List ℕ
 cells_name stem scale column = stem ++ numbered_twice (codes "cells") scale column
 
 abbrev pub ranks_name : List ℕ → ℕ → List ℕ
 ranks_name stem scale = stem ++ numbered (codes "ranks") scale
 
--- the numbers that the cells of a field have by which its ranks are told apart in panels
+-- the numbers of the cells of a field that tells those rows apart in panels
 abbrev pub codes_name : List ℕ → ℕ → ℕ → List ℕ
 codes_name stem scale field = stem ++ numbered_twice (codes "codes") scale field
 

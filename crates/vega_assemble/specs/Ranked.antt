@@ -1,12 +1,12 @@
--- By what the cells of a scale stand by rows. What an operation gives of each cell over the rows before the aggregate is one list, in which the cells of the
--- scale's columns are looked up; a cell that no such row has gets what the operation gives over no rows. Of a scale that stands once in a panel that list has
--- the cells of each panel apart, and they are looked up by a key: the numbers that the cells of the facets' fields have, and that of the cell, as one text.
+-- The rows by which the cells of a scale stand in an order by rows. They are a list behind those of the scale's columns: the rows before the aggregate whose
+-- cell one of these has, each with the order's field as its rank, or of an operation that counts one row for each cell with what it gives. In panels each
+-- row has a key: the numbers that the cells of the facets' fields have, and that of the cell, as one text; and a list has a row's cell where it has its key.
 use Rattle.std.specs.Prelude.{◌≡◌, refl, ℕ, Bool, true, false, Some, None, List, [], ◌∷◌, ◌++◌, map, length, codes, if◌then◌else◌}
 use Rattle.std.specs.List.{enumerate_from, fold}
 use Rattle.case_table.specs.Names.{index_of, operations}
 use Rattle.cell_value.specs.declared.cell.Cell.{Cell}
 use Rattle.cell_value.specs.declared.cell.Cell.TheVariants as cell
-use Rattle.expr_syntax.specs.declared.expr.BinOp.TheVariants.{Add}
+use Rattle.expr_syntax.specs.declared.expr.BinOp.TheVariants.{Add, And}
 use Rattle.expr_syntax.specs.declared.expr.Expr.{Expr}
 use Rattle.expr_syntax.specs.declared.expr.Expr.TheVariants as expr
 use Rattle.vega_spec.specs.declared.data.DataSet.{DataSet}
@@ -15,12 +15,13 @@ use Rattle.vega_spec.specs.declared.groupings.Lookup.{Lookup}
 use Rattle.vega_spec.specs.declared.groupings.Window.{Window}
 use Rattle.vega_spec.specs.declared.transforms.Transform.{Transform}
 use Rattle.vega_spec.specs.declared.transforms.Transform.TheVariants as vega
+use Rattle.unit_plan.specs.Joins.{joined, paired_times}
 use Rattle.unit_plan.specs.declared.cells.CellOf.{CellOf}
 use Rattle.unit_plan.specs.declared.cells.CellOf.TheVariants as shows
 use Rattle.chart_plan.specs.declared.orders.RowsOrder.{RowsOrder}
-use Rattle.vega_assemble.specs.Cells.{cell_expr}
+use Rattle.vega_assemble.specs.Cells.{cell_expr, field_expr}
 use Rattle.vega_assemble.specs.Names.{begun_name, ranks_name, codes_name, cell_column, rank_column, key_column}
-use Rattle.vega_assemble.specs.Ranks.{over_none}
+use Rattle.vega_assemble.specs.Ranks.{over_none, counts, sum_code}
 use Rattle.vega_assemble.specs.Sources.{list_made}
 
 -- ---- steps
@@ -28,9 +29,12 @@ use Rattle.vega_assemble.specs.Sources.{list_made}
 abbrev pub formula : List ℕ → Expr → Transform
 formula name e = vega.Formula record { expr = e; as_ = name }
 
--- a cell of each row
+-- a cell of each row, and its rank
 abbrev pub cell_formula : List ℕ → CellOf → Transform
 cell_formula stem c = formula (cell_column stem) (cell_expr c)
+
+abbrev pub rank_formula : List ℕ → Expr → Transform
+rank_formula stem e = formula (rank_column stem) e
 
 -- the code of `row_number`
 abbrev pub row_number_code : ℕ
@@ -62,26 +66,27 @@ given_in fields by name = record {
 abbrev pub cells_alone : List ℕ → Aggregate
 cells_alone name = record { groupby = Some (name ∷ []); ops = Some []; fields = Some []; as_ = Some [] }
 
--- what another list has under a name where it has the same cell in a field
-abbrev pub found_in : List ℕ → List ℕ → List ℕ → Cell → Lookup
-found_in set field name otherwise = record {
+-- what another list has in a column where its cell in a field there is that in a field here, under a name
+abbrev pub found_in : List ℕ → List ℕ → List ℕ → List ℕ → List ℕ → Cell → Lookup
+found_in set there here column name otherwise = record {
   from = set;
-  key = field;
-  fields = field ∷ [];
-  values = name ∷ [];
+  key = there;
+  fields = here ∷ [];
+  values = column ∷ [];
   as_ = Some (name ∷ []);
   default = Some otherwise;
 }
 
 -- ---- keys
 
--- the fields that tell ranks apart: those of the facets, and the cell
+-- the fields that tell rows apart: those of the facets, and the cell
 abbrev pub told_by : List ℕ → List (List ℕ) → List (List ℕ)
 told_by stem facets = facets ++ cell_column stem ∷ []
 
 -- the number of the cell of a field, looked up
 abbrev pub number_found : List ℕ → ℕ → ℕ × List ℕ → Transform
-number_found stem scale field = vega.Lookup (found_in (codes_name stem scale field.0) field.1 (key_column stem field.0) cell.Null)
+number_found stem scale field =
+    vega.Lookup (found_in (codes_name stem scale field.0) field.1 field.1 (key_column stem field.0) (key_column stem field.0) cell.Null)
 
 -- a text with the number of the field at a place behind it
 abbrev pub with_code : List ℕ → Expr → ℕ → Expr
@@ -121,31 +126,68 @@ abbrev pub codes_lists : List ℕ → ℕ → List (List ℕ) → RowsOrder → 
 codes_lists stem scale facets by =
     if are_some facets then map (codes_list stem scale by) (enumerate_from 0 (told_by stem facets)) else []
 
--- what the operation gives of each cell
-abbrev pub ranks_list : List ℕ → ℕ → List (List ℕ) → RowsOrder → DataSet
-ranks_list stem scale facets by =
-    list_made (ranks_name stem scale) (begun_name stem by.unit)
-    (cell_formula stem (shows.Field by.cell) ∷ vega.Aggregate (given_in (told_by stem facets) by (rank_column stem)) ∷ key_steps stem scale facets)
+-- behind the cell of a column: what the operation gives over no rows, and the key
+abbrev pub column_steps : List ℕ → ℕ → List (List ℕ) → RowsOrder → List Transform
+column_steps stem scale facets by = rank_formula stem (over_none by.op) ∷ key_steps stem scale facets
 
--- the lists that are looked through
-abbrev pub lists_beside : List ℕ → ℕ → List (List ℕ) → RowsOrder → List DataSet
-lists_beside stem scale facets by = codes_lists stem scale facets by ++ ranks_list stem scale facets by ∷ []
+-- whether the list of a column lacks a row's key, under its own name: true, else what stands in the column of ranks there, which is 0 or null
+abbrev pub lacks_key : List ℕ → List ℕ → List ℕ → Transform
+lacks_key stem key set = vega.Lookup (found_in set key key (rank_column stem) set (cell.Flag true))
 
--- the rank of each cell of a column, looked up
-abbrev pub rank_steps : List ℕ → ℕ → List (List ℕ) → RowsOrder → List Transform
-rank_steps stem scale facets by =
-    key_steps stem scale facets ++ vega.Lookup (found_in (ranks_name stem scale) (key_name stem facets) (rank_column stem) (over_none by.op)) ∷ []
+-- the rows alone whose key not all of these lists lack
+abbrev pub not_all : List (List ℕ) → Expr
+not_all sets = expr.Not (joined And (expr.Flag true) (map expr.Field sets))
+
+abbrev pub kept_in : List ℕ → List ℕ → List (List ℕ) → List Transform
+kept_in stem key sets = map (lacks_key stem key) sets ++ vega.Filter (record { expr = not_all sets }) ∷ []
+
+-- the ranks of rows: of an operation that counts what it gives of each cell, else the cell of the order's field, null without one
+abbrev pub rank_step : List ℕ → List (List ℕ) → RowsOrder → Transform
+rank_step stem facets by =
+    if counts by.op then vega.Aggregate (given_in (told_by stem facets) by (rank_column stem))
+    else rank_formula stem (field_expr by.field)
+
+-- the rows before the aggregate whose key one of these lists has, with their ranks
+abbrev pub ranks_steps : List ℕ → ℕ → List (List ℕ) → List (List ℕ) → RowsOrder → List Transform
+ranks_steps stem scale facets sets by =
+    cell_formula stem (shows.Field by.cell) ∷ key_steps stem scale facets ++ kept_in stem (key_name stem facets) sets
+    ++ rank_step stem facets by ∷ []
+
+abbrev pub ranks_list : List ℕ → ℕ → List (List ℕ) → List (List ℕ) → RowsOrder → DataSet
+ranks_list stem scale facets sets by =
+    list_made (ranks_name stem scale) (begun_name stem by.unit) (ranks_steps stem scale facets sets by)
 
 -- The rules at work.
 
 the_code_of_row_number : index_of operations (codes "row_number") ≡ Some row_number_code
 the_code_of_row_number = refl
 
--- outside facets the cell itself is looked up
-a_rank_outside_facets : (by : RowsOrder) → rank_steps [] 3 [] by
-    ≡ vega.Lookup (found_in (ranks_name [] 3) (cell_column []) (rank_column []) (over_none by.op)) ∷ []
-a_rank_outside_facets by = refl
-
 a_key_in_panels : numbers_text [] (told_by [] (codes "c" ∷ []))
     ≡ with_code [] (with_code [] (expr.Text []) 0) 1
 a_key_in_panels = refl
+
+-- sums of `v` of the cells of `a` before the aggregate of the unit 0, and how many rows have each
+abbrev by_sums : RowsOrder
+by_sums = record { unit = 0; cell = codes "a"; op = sum_code; field = Some (codes "v"); descending = true }
+
+abbrev by_counts : RowsOrder
+by_counts = record by_sums { op = 0; field = None }
+
+-- outside facets the cell itself is looked up in the lists of two columns
+rows_of_two_columns : ranks_steps [] 3 [] (codes "p" ∷ codes "q" ∷ []) by_sums
+    ≡ formula (cell_column []) (expr.Field (codes "a"))
+    ∷ lacks_key [] (cell_column []) (codes "p") ∷ lacks_key [] (cell_column []) (codes "q")
+    ∷ vega.Filter (record { expr = expr.Not (expr.Binary And (expr.Field (codes "p")) (expr.Field (codes "q"))) })
+    ∷ formula (rank_column []) (expr.Field (codes "v")) ∷ []
+unfolding joined paired_times
+rows_of_two_columns = refl
+
+-- in panels rows are counted apart
+numbers_of_rows : rank_step [] (codes "c" ∷ []) by_counts
+    ≡ vega.Aggregate record {
+      groupby = Some (codes "c" ∷ cell_column [] ∷ []);
+      ops = Some (0 ∷ []);
+      fields = Some (None ∷ []);
+      as_ = Some (Some (rank_column []) ∷ []);
+    }
+numbers_of_rows = refl

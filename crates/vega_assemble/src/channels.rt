@@ -2,7 +2,8 @@
 ghost use Rattle.std.specs.Prelude.{◌≡◌, ◌≤◌, length, map, pos, None, Some, IfOk};
 ghost use Rattle.cell_value.specs.declared.cell.Cell.TheVariants.{Null};
 ghost use Rattle.vega_assemble.specs.Names.{scale_name};
-ghost use Rattle.vega_assemble.specs.Channels.{bare, cell_value, number_value, text_value, signal_value, written_value, shown_value, on_scale, with_band, under};
+ghost use Rattle.vega_assemble.specs.Channels.{bare, cell_value, number_value, text_value, signal_value, written_value, shown_value};
+ghost use Rattle.vega_assemble.specs.Channels.{on_scale, with_band, under};
 ghost use Rattle.vega_assemble.specs.Channels.{spot_value, spot_way, look_value, look_way, words_way, alone, channel_by, end_channel, look_channel};
 ghost use Rattle.vega_assemble.specs.Channels.{words_channel};
 

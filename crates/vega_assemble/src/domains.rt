@@ -1,13 +1,15 @@
 // The domains of scales.
-ghost use Rattle.std.specs.Prelude.{◌≡◌, [], map, unwrap_or, IfOk};
+ghost use Rattle.std.specs.Prelude.{◌≡◌, ◌++◌, ◌∷◌, [], map, IfOk};
 ghost use Rattle.std.specs.List.{enumerate_from};
-ghost use Rattle.vega_assemble.specs.Names.{cell_column, unit_name, begun_name};
-ghost use Rattle.vega_assemble.specs.Domains.{reference, plainly_referred, own_referred, is_of_field, is_its_column, is_lone, ranked_referred};
-ghost use Rattle.vega_assemble.specs.Domains.{referred, ranked_order, order_written, if_discrete, rows_written, domain_written};
+ghost use Rattle.vega_spec.specs.declared.domains.DomainOrder.TheVariants as sorts;
+ghost use Rattle.vega_spec.specs.declared.orders.Order.TheVariants.{Ascending};
+ghost use Rattle.vega_assemble.specs.Names.{unit_name, rank_column};
+ghost use Rattle.vega_assemble.specs.Ranks.{min_code};
+ghost use Rattle.vega_assemble.specs.Domains.{reference, plainly_referred, own_referred, all_own, ranks_referred, referred};
+ghost use Rattle.vega_assemble.specs.Domains.{ranked_order, order_written, if_discrete, rows_written, domain_written};
 
-use crate::names::{begun_name, cell_column, cells_name, rank_column, unit_name};
-use crate::ranks::MIN;
-use crate::several::one_of;
+use crate::names::{cell_column, cells_name, rank_column, ranks_name, unit_name};
+use crate::ranks::{MIN, op_of_scale};
 use crate::steps::direction;
 use chart_plan::{CellOrder, Column, DomainPlan, RowCells, RowsOrder};
 use std::alloc::Global;
@@ -93,7 +95,7 @@ fn all_own(
     scale: usize,
     columns: &[Column],
 ) -> Result<Seq<Reference>, OutOfMemory>
-    ensures { IfOk result (λ rs. rs ≡ map (own_referred stem.now scale) (enumerate_from 0 columns.now)) }
+    ensures { IfOk result (λ rs. rs ≡ all_own stem.now scale columns.now) }
 {
     let mut out = Seq::new(alloc);
     for (place, column) in columns.iter().enumerate() {
@@ -102,57 +104,27 @@ fn all_own(
     Ok(out)
 }
 
-// Whether a cell is that of a name.
-fn is_of_field(name: &Text, cell: &CellOf) -> bool
-    ensures { result ≡ is_of_field name.now cell.now }
+// The rows by which cells stand.
+fn ranks_referred(alloc: Global, stem: &Text, scale: usize) -> Result<Reference, OutOfMemory>
+    ensures { IfOk result (λ r. r ≡ ranks_referred stem.now scale) }
 {
-    match cell {
-        CellOf::Field(field) => field.as_str() == name.as_str(),
-        CellOf::Written(_) | CellOf::Computed(_) => false,
-    }
-}
-
-// Whether a column has the cells of an order by rows.
-fn is_its_column(by: &RowsOrder, column: &Column) -> bool
-    ensures { result ≡ is_its_column by.now column.now }
-{
-    column.unit == by.unit && is_of_field(&by.cell, &column.cell)
-}
-
-/// Whether these are the cells of its one column.
-pub(crate) fn is_lone(by: &RowsOrder, columns: &[Column]) -> bool
-    ensures { result ≡ is_lone by.now columns.now }
-{
-    match columns {
-        [column] => is_its_column(by, column) && by.field.is_some(),
-        _ => false,
-    }
-}
-
-// The rows before the aggregate, by the cell of an order.
-fn begun_referred(alloc: Global, stem: &Text, by: &RowsOrder) -> Result<Reference, OutOfMemory>
-    ensures { IfOk result (λ r. r ≡ reference (begun_name stem.now by.now.unit) by.now.cell) }
-{
-    let set = begun_name(alloc, stem, by.unit)?;
-    let field = by.cell.copy()?;
+    let set = ranks_name(alloc, stem, scale)?;
+    let field = cell_column(stem)?;
     Ok(reference(set, field))
 }
 
-// The references of an order by rows.
-fn ranked_referred(
+// The references of columns in an order by rows.
+fn all_ranked(
     alloc: Global,
     stem: &Text,
     scale: usize,
-    by: &RowsOrder,
     columns: &[Column],
 ) -> Result<Seq<Reference>, OutOfMemory>
-    ensures { IfOk result (λ rs. rs ≡ ranked_referred stem.now scale by.now columns.now) }
+    ensures { IfOk result (λ rs. rs ≡ all_own stem.now scale columns.now ++ ranks_referred stem.now scale ∷ []) }
 {
-    if is_lone(by, columns) {
-        one_of(alloc, begun_referred(alloc, stem, by)?)
-    } else {
-        all_own(alloc, stem, scale, columns)
-    }
+    let mut out = all_own(alloc, stem, scale, columns)?;
+    out.push(ranks_referred(alloc, stem, scale)?)?;
+    Ok(out)
 }
 
 /// The references of columns in an order, column after column.
@@ -170,75 +142,53 @@ pub(crate) fn referred(
             alloc, stem, scale, columns,
         ),
         CellOrder::Listed(_) => all_own(alloc, stem, scale, columns),
-        CellOrder::ByRows(by) => ranked_referred(alloc, stem, scale, by, columns),
+        CellOrder::ByRows(_) => all_ranked(alloc, stem, scale, columns),
     }
 }
 
 // ---- orders
 
-// A copy of the name of a field; empty without one.
-fn name_or_empty(alloc: Global, name: &Option<Text>) -> Result<Text, OutOfMemory>
-    ensures { IfOk result (λ copy. copy ≡ unwrap_or name.now []) }
+// How the cells of an order by rows stand.
+fn ranked_order(stem: &Text, by: &RowsOrder) -> Result<DomainOrder, OutOfMemory>
+    ensures { IfOk result (λ order. order ≡ ranked_order stem.now by.now) }
 {
-    match name {
-        Some(name) => name.copy(),
-        None => Ok(Text::new(alloc)),
-    }
+    let field = rank_column(stem)?;
+    Ok(DomainOrder::Operation(Some(direction(by.descending)), op_of_scale(by.op), field))
 }
 
-// How the cells of an order by rows stand.
-fn ranked_order(
-    alloc: Global,
-    stem: &Text,
-    by: &RowsOrder,
-    columns: &[Column],
-) -> Result<DomainOrder, OutOfMemory>
-    ensures { IfOk result (λ order. order ≡ ranked_order stem.now by.now columns.now) }
+// How the cells of a listed order stand.
+fn listed_order(stem: &Text) -> Result<DomainOrder, OutOfMemory>
+    ensures { IfOk result (λ made. made ≡ sorts.Operation (Some Ascending) min_code (rank_column stem.now)) }
 {
-    let order = Some(direction(by.descending));
-    if is_lone(by, columns) {
-        let field = name_or_empty(alloc, &by.field)?;
-        Ok(DomainOrder::Operation(order, by.op, field))
-    } else {
-        let field = rank_column(stem)?;
-        Ok(DomainOrder::Operation(order, MIN, field))
-    }
+    let field = rank_column(stem)?;
+    Ok(DomainOrder::Operation(Some(Order::Ascending), MIN, field))
 }
 
 // How cells stand.
-fn order_written(
-    alloc: Global,
-    stem: &Text,
-    order: &CellOrder,
-    columns: &[Column],
-) -> Result<Option<DomainOrder>, OutOfMemory>
-    ensures { IfOk result (λ sort. sort ≡ order_written stem.now order.now columns.now) }
+fn order_written(stem: &Text, order: &CellOrder) -> Result<Option<DomainOrder>, OutOfMemory>
+    ensures { IfOk result (λ sort. sort ≡ order_written stem.now order.now) }
 {
     match order {
         CellOrder::First => Ok(None),
         CellOrder::Up => Ok(Some(DomainOrder::True)),
         CellOrder::Down => Ok(Some(DomainOrder::Cells(Some(Order::Descending)))),
-        CellOrder::Listed(_) => {
-            let field = rank_column(stem)?;
-            Ok(Some(DomainOrder::Operation(Some(Order::Ascending), MIN, field)))
-        }
-        CellOrder::ByRows(by) => ranked_order(alloc, stem, by, columns).map(Some),
+        CellOrder::Listed(_) => listed_order(stem).map(Some),
+        CellOrder::ByRows(by) => ranked_order(stem, by).map(Some),
     }
 }
 
 // The same, on a continuous scale not at all.
 fn if_discrete(
-    alloc: Global,
     stem: &Text,
     continuous: bool,
     of: &RowCells,
 ) -> Result<Option<DomainOrder>, OutOfMemory>
-    ensures { IfOk result (λ sort. sort ≡ if_discrete continuous (order_written stem.now of.now.order of.now.columns)) }
+    ensures { IfOk result (λ sort. sort ≡ if_discrete continuous (order_written stem.now of.now.order)) }
 {
     if continuous {
         Ok(None)
     } else {
-        order_written(alloc, stem, &of.order, of.columns.as_slice())
+        order_written(stem, &of.order)
     }
 }
 
@@ -254,7 +204,7 @@ fn rows_written(
 ) -> Result<Domain, OutOfMemory>
     ensures { IfOk result (λ made. made ≡ rows_written stem.now scale continuous of.now) }
 {
-    let sort = if_discrete(alloc, stem, continuous, of)?;
+    let sort = if_discrete(stem, continuous, of)?;
     let fields = referred(alloc, stem, scale, &of.order, of.columns.as_slice())?;
     Ok(Domain::Fields(FieldsDomain { fields, sort }))
 }

@@ -6,11 +6,11 @@ ghost use Rattle.vega_spec.specs.declared.data.DataSet.{DataSet as ADataSet};
 ghost use Rattle.vega_assemble.specs.Names.{unit_name, keys_name};
 ghost use Rattle.vega_assemble.specs.Lists.{lists_of_scale};
 ghost use Rattle.vega_assemble.specs.Facets.{names_of_keys, first_of, is_grid_inside, grids_inside, holds, is_held, scales_inside, scale_names};
-ghost use Rattle.vega_assemble.specs.Facets.{refers, begun_names, keys_inside, deeper, parts_by, header_of, crossing, facet_over};
+ghost use Rattle.vega_assemble.specs.Facets.{keys_inside, deeper, parts_by, header_of, crossing, facet_over};
 
 use crate::keys::has_keys;
-use crate::lists::{domain_refers, field_names, is_among, push_lists};
-use crate::names::{begun_name, keys_name, unit_name};
+use crate::lists::{field_names, is_among, push_lists};
+use crate::names::{keys_name, unit_name};
 use crate::several::copied_texts;
 use chart_plan::{FacetField, FacetPlan, GridPlan, ScalePlan};
 use std::alloc::Global;
@@ -119,45 +119,6 @@ fn push_unit_names(
     Ok(())
 }
 
-// Whether the domains of scales held there refer to the rows of a unit before its aggregate.
-fn refers(
-    grids: &[GridPlan],
-    outer: &GridPlan,
-    parts: &FacetPlan,
-    scales: &[ScalePlan],
-    unit: usize,
-) -> bool
-    ensures { result ≡ refers (scales_inside (grids_inside grids.now outer.now parts.now) scales.now) unit }
-{
-    for (number, scale) in scales.iter().enumerate() {
-        if is_held(grids, outer, parts, number, scale) && domain_refers(unit, &scale.domain) {
-            return true;
-        }
-    }
-    false
-}
-
-// Adds the names of these rows.
-fn push_begun_names(
-    alloc: Global,
-    stem: &Text,
-    grids: &[GridPlan],
-    outer: &GridPlan,
-    parts: &FacetPlan,
-    scales: &[ScalePlan],
-    out: &mut Seq<Text>,
-) -> Result<(), OutOfMemory>
-    ensures { OnOk result (out.new ≡ out.old
-        ++ begun_names stem.now (scales_inside (grids_inside grids.now outer.now parts.now) scales.now) parts.now.units) }
-{
-    for unit in parts.units.as_slice() {
-        if refers(grids, outer, parts, scales, *unit) {
-            out.push(begun_name(alloc, stem, *unit)?)?;
-        }
-    }
-    Ok(())
-}
-
 /// Adds the names of data sets.
 pub(crate) fn push_set_names(sets: &[DataSet], out: &mut Seq<Text>) -> Result<(), OutOfMemory>
     ensures { OnOk result (out.new ≡ out.old ++ map (λ (set : ADataSet). set.name) sets.now) }
@@ -256,7 +217,6 @@ pub(crate) fn parts_by(
     let mut names = Seq::new(alloc);
     push_key_names(alloc, stem, outer.number, parts, &mut names)?;
     push_unit_names(alloc, stem, parts.units.as_slice(), &mut names)?;
-    push_begun_names(alloc, stem, grids, outer, parts, scales, &mut names)?;
     push_scale_names(alloc, stem, grids, outer, parts, scales, &mut names)?;
     push_deeper_keys(alloc, stem, grids, outer, parts, &mut names)?;
     Ok(names)

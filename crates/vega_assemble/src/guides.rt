@@ -2,7 +2,8 @@
 ghost use Rattle.std.specs.Prelude.{◌≡◌, ◌++◌, map, option_to_list, option_map, slice_get, Some, IfOk, OnOk};
 ghost use Rattle.vega_assemble.specs.Names.{scale_name};
 ghost use Rattle.vega_assemble.specs.Steps.{counted};
-ghost use Rattle.vega_assemble.specs.Guides.{side_written, angle_written, edge_along, channel_of, axis_over, axis_written, name_if, legend_over, legend_written};
+ghost use Rattle.vega_assemble.specs.Guides.{side_written, angle_written, edge_along, channel_of, axis_over, axis_written, name_if};
+ghost use Rattle.vega_assemble.specs.Guides.{legend_over, legend_written};
 
 use crate::names::scale_name;
 use crate::numbers::{millionths, ones, ones_below};

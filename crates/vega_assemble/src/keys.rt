@@ -3,29 +3,30 @@ ghost use Rattle.std.specs.Prelude.{◌≡◌, ◌≤◌, ◌++◌, ◌∷◌, [
 ghost use Rattle.std.specs.List.{enumerate_from};
 ghost use Rattle.expr_syntax.specs.declared.expr.Expr.TheVariants as expr;
 ghost use Rattle.vega_spec.specs.declared.transforms.Transform.TheVariants as vega;
-ghost use Rattle.vega_assemble.specs.Names.{key_column};
-ghost use Rattle.vega_assemble.specs.Ranked.{formula, numbers_rows};
+ghost use Rattle.vega_assemble.specs.Names.{key_column, keys_name, unit_name};
+ghost use Rattle.vega_assemble.specs.Ranked.{formula, numbers_rows, found_in};
 ghost use Rattle.vega_assemble.specs.Ranks.{listed_rank};
 ghost use Rattle.vega_assemble.specs.Keys.{is_first, ordered, by_name, entry_of, placed, sort_of, wants_key, has_keys};
-ghost use Rattle.vega_assemble.specs.Keys.{place_of_row, looked_up, steps_for, keys_list, given_by, orders_list, orders_for};
+ghost use Rattle.vega_assemble.specs.Keys.{place_of_row, looked_up, steps_for, keys_list, looked_twice, is_found, found_somewhere};
+ghost use Rattle.vega_assemble.specs.Keys.{given_by, orders_steps, orders_list, orders_for};
 ghost use Rattle.vega_assemble.specs.Keys.{lists_of_facet, lists_of_grid, facet_begins, grid_begins};
 
 use crate::exprs::whole_place;
 use crate::lists::order_begins;
 use crate::names::{begun_name, key_column, keys_name, orders_name, rank_column, unit_name};
-use crate::ranked::{formula, given_in, numbers_rows};
+use crate::ranked::{formula, found_in, given_in, numbers_rows};
 use crate::ranks::listed_rank;
 use crate::several::one_of;
 use crate::sources::list_made;
 use crate::steps::sort_written;
 use cell_value::Cell;
 use chart_plan::{CellOrder, FacetField, FacetPlan, GridPlan, RowsOrder};
-use expr_syntax::Expr;
+use expr_syntax::{BinOp, Expr};
 use plain_rows::SortBy;
 use std::alloc::Global;
 use text_kit::{OutOfMemory, Seq, Text};
-use unit_plan::pair;
-use vega_spec::{DataSet, Lookup, Sort, Transform};
+use unit_plan::{binary, joined, pair};
+use vega_spec::{DataSet, Filter, Lookup, Sort, Transform};
 
 // ---- orders of fields
 
@@ -202,18 +203,9 @@ fn looked_up(
     ensures { IfOk result (λ made. made ≡ looked_up stem.now facet place name.now by.now) }
 {
     let from = orders_name(alloc, stem, facet, place)?;
-    let key = by.cell.copy()?;
-    let fields = one_of(alloc, name.copy()?)?;
-    let values = one_of(alloc, rank_column(stem)?)?;
-    let names = one_of(alloc, key_column(alloc, stem, place)?)?;
-    Ok(Lookup {
-        from,
-        key,
-        fields,
-        values,
-        as_: Some(names),
-        default: Some(Cell::Null),
-    })
+    let rank = rank_column(stem)?;
+    let key = key_column(alloc, stem, place)?;
+    found_in(alloc, from, &by.cell, name, rank, key, Cell::Null)
 }
 
 // Adds the keys of a field in the rows of a unit.
@@ -276,6 +268,112 @@ fn keys_list(
     Ok(list_made(name, source, steps))
 }
 
+// The cell of a row looked up under a field's name in the rows of a unit.
+fn looked_in(
+    alloc: Global,
+    stem: &Text,
+    name: &Text,
+    here: &Text,
+    unit: usize,
+    given: Text,
+    otherwise: Cell,
+) -> Result<Transform, OutOfMemory>
+    ensures { IfOk result (λ made. made
+        ≡ vega.Lookup (found_in (unit_name stem.now unit) name.now here.now name.now given otherwise)) }
+{
+    let set = unit_name(alloc, stem, unit)?;
+    let column = name.copy()?;
+    found_in(alloc, set, name, here, column, given, otherwise).map(Transform::Lookup)
+}
+
+// Adds that with null and with true for nothing.
+fn push_looked_twice(
+    alloc: Global,
+    stem: &Text,
+    facet: usize,
+    name: &Text,
+    here: &Text,
+    unit: usize,
+    out: &mut Seq<Transform>,
+) -> Result<(), OutOfMemory>
+    ensures { OnOk result (out.new ≡ out.old ++ looked_twice stem.now facet name.now here.now unit) }
+{
+    let first = unit_name(alloc, stem, unit)?;
+    out.push(looked_in(alloc, stem, name, here, unit, first, Cell::Null)?)?;
+    let second = keys_name(alloc, stem, facet, unit)?;
+    out.push(looked_in(alloc, stem, name, here, unit, second, Cell::Flag(true))?)
+}
+
+// Adds those of all units.
+fn push_all_looked(
+    alloc: Global,
+    stem: &Text,
+    facet: usize,
+    name: &Text,
+    here: &Text,
+    units: &[usize],
+    out: &mut Seq<Transform>,
+) -> Result<(), OutOfMemory>
+    ensures { OnOk result (out.new ≡ out.old ++ flat_map (looked_twice stem.now facet name.now here.now) units.now) }
+{
+    for unit in units {
+        push_looked_twice(alloc, stem, facet, name, here, *unit, out)?;
+    }
+    Ok(())
+}
+
+// What the two give.
+fn both_given(
+    alloc: Global,
+    stem: &Text,
+    facet: usize,
+    unit: usize,
+) -> Result<(Expr, Expr), OutOfMemory>
+    ensures { IfOk result (λ both. both ≡ (expr.Field (unit_name stem.now unit), expr.Field (keys_name stem.now facet unit))) }
+{
+    let first = unit_name(alloc, stem, unit).map(Expr::Field)?;
+    let second = keys_name(alloc, stem, facet, unit).map(Expr::Field)?;
+    Ok((first, second))
+}
+
+// That the rows of a unit have the cell.
+fn is_found(alloc: Global, stem: &Text, facet: usize, unit: usize) -> Result<Expr, OutOfMemory>
+    ensures { IfOk result (λ e. e ≡ is_found stem.now facet unit) }
+{
+    let (first, second) = both_given(alloc, stem, facet, unit)?;
+    binary(alloc, BinOp::Same, first, second)
+}
+
+// The same of all units.
+fn all_found(
+    alloc: Global,
+    stem: &Text,
+    facet: usize,
+    units: &[usize],
+) -> Result<Seq<Expr>, OutOfMemory>
+    ensures { IfOk result (λ es. es ≡ map (is_found stem.now facet) units.now) }
+{
+    let mut out = Seq::new(alloc);
+    for unit in units {
+        out.push(is_found(alloc, stem, facet, *unit)?)?;
+    }
+    Ok(out)
+}
+
+// The rows alone whose cell the rows of some unit have.
+fn found_alone(
+    alloc: Global,
+    stem: &Text,
+    facet: usize,
+    units: &[usize],
+) -> Result<Transform, OutOfMemory>
+    ensures { IfOk result (λ made. made ≡ vega.Filter (record { expr = found_somewhere stem.now facet units.now })) }
+{
+    let found = all_found(alloc, stem, facet, units)?;
+    let expr = joined(alloc, BinOp::Or, false, found)?;
+    Ok(Transform::Filter(Filter { expr }))
+}
+
 // What an operation gives of each cell over the rows of all panels.
 fn given_by(alloc: Global, stem: &Text, by: &RowsOrder) -> Result<Transform, OutOfMemory>
     ensures { IfOk result (λ made. made ≡ vega.Aggregate (given_by stem.now by.now)) }
@@ -285,20 +383,40 @@ fn given_by(alloc: Global, stem: &Text, by: &RowsOrder) -> Result<Transform, Out
     given_in(alloc, groupby, by, name)
 }
 
+// The same of the cells alone that the rows of units have under a field's name.
+fn orders_steps(
+    alloc: Global,
+    stem: &Text,
+    facet: usize,
+    units: &[usize],
+    name: &Text,
+    by: &RowsOrder,
+) -> Result<Seq<Transform>, OutOfMemory>
+    ensures { IfOk result (λ steps. steps ≡ orders_steps stem.now facet units.now name.now by.now) }
+{
+    let mut out = Seq::new(alloc);
+    push_all_looked(alloc, stem, facet, name, &by.cell, units, &mut out)?;
+    out.push(found_alone(alloc, stem, facet, units)?)?;
+    out.push(given_by(alloc, stem, by)?)?;
+    Ok(out)
+}
+
 // The list of these.
 fn orders_list(
     alloc: Global,
     stem: &Text,
     facet: usize,
+    units: &[usize],
     place: usize,
+    name: &Text,
     by: &RowsOrder,
 ) -> Result<DataSet, OutOfMemory>
-    ensures { IfOk result (λ set. set ≡ orders_list stem.now facet place by.now) }
+    ensures { IfOk result (λ set. set ≡ orders_list stem.now facet units.now place name.now by.now) }
 {
-    let name = orders_name(alloc, stem, facet, place)?;
+    let list = orders_name(alloc, stem, facet, place)?;
     let source = begun_name(alloc, stem, by.unit)?;
-    let steps = one_of(alloc, given_by(alloc, stem, by)?)?;
-    Ok(list_made(name, source, steps))
+    let steps = orders_steps(alloc, stem, facet, units, name, by)?;
+    Ok(list_made(list, source, steps))
 }
 
 // Adds it where a field stands by rows.
@@ -306,15 +424,24 @@ fn push_orders(
     alloc: Global,
     stem: &Text,
     facet: usize,
+    units: &[usize],
     place: usize,
     field: &FacetField,
     out: &mut Seq<DataSet>,
 ) -> Result<(), OutOfMemory>
-    ensures { OnOk result (out.new ≡ out.old ++ orders_for stem.now facet (place, field.now)) }
+    ensures { OnOk result (out.new ≡ out.old ++ orders_for stem.now facet units.now (place, field.now)) }
 {
     match &field.order {
         CellOrder::First | CellOrder::Up | CellOrder::Down | CellOrder::Listed(_) => Ok(()),
-        CellOrder::ByRows(by) => out.push(orders_list(alloc, stem, facet, place, by)?),
+        CellOrder::ByRows(by) => out.push(orders_list(
+            alloc,
+            stem,
+            facet,
+            units,
+            place,
+            &field.name,
+            by,
+        )?),
     }
 }
 
@@ -323,13 +450,14 @@ fn push_all_orders(
     alloc: Global,
     stem: &Text,
     facet: usize,
+    units: &[usize],
     fields: &[FacetField],
     out: &mut Seq<DataSet>,
 ) -> Result<(), OutOfMemory>
-    ensures { OnOk result (out.new ≡ out.old ++ flat_map (orders_for stem.now facet) (placed fields.now)) }
+    ensures { OnOk result (out.new ≡ out.old ++ flat_map (orders_for stem.now facet units.now) (placed fields.now)) }
 {
     for (place, field) in ordered(fields).iter().enumerate() {
-        push_orders(alloc, stem, facet, place, field, out)?;
+        push_orders(alloc, stem, facet, units, place, field, out)?;
     }
     Ok(())
 }
@@ -362,9 +490,10 @@ fn push_facet(
     ensures { OnOk result (out.new ≡ out.old ++ lists_of_facet stem.now number f.now) }
 {
     let fields = f.fields.as_slice();
+    let units = f.units.as_slice();
     if has_keys(fields) {
-        push_all_orders(alloc, stem, number, fields, out)?;
-        push_all_keys(alloc, stem, number, fields, f.units.as_slice(), out)
+        push_all_orders(alloc, stem, number, units, fields, out)?;
+        push_all_keys(alloc, stem, number, fields, units, out)
     } else {
         Ok(())
     }

@@ -3,17 +3,16 @@ ghost use Rattle.std.specs.Prelude.{◌≡◌, ◌++◌, ◌∷◌, [], map, opt
 ghost use Rattle.std.specs.List.{enumerate_from};
 ghost use Rattle.chart_plan.specs.Shown.{is_among};
 ghost use Rattle.expr_syntax.specs.declared.expr.Expr.TheVariants as expr;
-ghost use Rattle.vega_assemble.specs.Names.{cells_name, cell_column, rank_column, unit_name};
-ghost use Rattle.vega_assemble.specs.Ranked.{cell_formula, lists_beside, rank_steps};
+ghost use Rattle.vega_assemble.specs.Names.{cells_name, cell_column, unit_name};
+ghost use Rattle.vega_assemble.specs.Ranked.{cell_formula, rank_formula, codes_lists, column_steps};
 ghost use Rattle.vega_assemble.specs.Ranks.{listed_rank};
-ghost use Rattle.vega_assemble.specs.Lists.{rank_formula, column_list, list_if_wanted, plain_lists, listed_lists, names_to};
-ghost use Rattle.vega_assemble.specs.Lists.{names_held, names_round, field_names, ranked_lists, lists_in_order, lists_of_scale};
-ghost use Rattle.vega_assemble.specs.Lists.{looked_through, beside_order, beside_domain, lists_for_scale};
-ghost use Rattle.vega_assemble.specs.Lists.{order_begins, domain_begins, order_refers, domain_refers};
+ghost use Rattle.vega_assemble.specs.Lists.{column_list, list_if_wanted, plain_lists, listed_lists, names_to};
+ghost use Rattle.vega_assemble.specs.Lists.{names_held, names_round, field_names, column_lists, name_of_column, names_of_columns};
+ghost use Rattle.vega_assemble.specs.Lists.{ranked_lists, lists_in_order, lists_of_scale, beside_order, beside_domain, lists_for_scale};
+ghost use Rattle.vega_assemble.specs.Lists.{order_begins, domain_begins};
 
-use crate::domains::is_lone;
-use crate::names::{cell_column, cells_name, rank_column, unit_name};
-use crate::ranked::{cell_formula, formula, push_lists_beside, push_rank_steps};
+use crate::names::{cell_column, cells_name, unit_name};
+use crate::ranked::{cell_formula, push_codes_lists, push_column_steps, rank_formula, ranks_list};
 use crate::ranks::listed_rank;
 use crate::several::{one_of, two_of};
 use crate::sources::list_made;
@@ -28,14 +27,6 @@ use unit_plan::CellOf;
 use vega_spec::{DataSet, Transform};
 
 // ---- lists that only a domain reads
-
-// By what cells stand, in its column.
-fn rank_formula(stem: &Text, e: Expr) -> Result<Transform, OutOfMemory>
-    ensures { IfOk result (λ made. made ≡ rank_formula stem.now e) }
-{
-    let as_ = rank_column(stem)?;
-    Ok(formula(as_, e))
-}
 
 // The name of a column's list, and that of the rows of its unit.
 fn list_names(
@@ -268,7 +259,7 @@ fn names_held(
 }
 
 // The steps of a column's list in an order by rows.
-fn ranked_steps(
+fn steps_of_column(
     alloc: Global,
     stem: &Text,
     scale: usize,
@@ -276,14 +267,14 @@ fn ranked_steps(
     by: &RowsOrder,
     cell: &CellOf,
 ) -> Result<Seq<Transform>, OutOfMemory>
-    ensures { IfOk result (λ steps. steps ≡ cell_formula stem.now cell.now ∷ rank_steps stem.now scale facets.now by.now) }
+    ensures { IfOk result (λ steps. steps ≡ cell_formula stem.now cell.now ∷ column_steps stem.now scale facets.now by.now) }
 {
     let mut out = one_of(alloc, cell_formula(alloc, stem, cell)?)?;
-    push_rank_steps(alloc, stem, scale, facets, by, &mut out)?;
+    push_column_steps(alloc, stem, scale, facets, by, &mut out)?;
     Ok(out)
 }
 
-// The list of a column with the ranks of its cells by rows.
+// The list of a column in an order by rows.
 fn ranked_list(
     alloc: Global,
     stem: &Text,
@@ -293,10 +284,10 @@ fn ranked_list(
     place: usize,
     column: &Column,
 ) -> Result<DataSet, OutOfMemory>
-    ensures { IfOk result (λ set. set ≡ column_list stem.now scale (rank_steps stem.now scale facets.now by.now) (place, column.now)) }
+    ensures { IfOk result (λ set. set ≡ column_list stem.now scale (column_steps stem.now scale facets.now by.now) (place, column.now)) }
 {
     let (name, source) = list_names(alloc, stem, scale, place, column.unit)?;
-    let steps = ranked_steps(alloc, stem, scale, facets, by, &column.cell)?;
+    let steps = steps_of_column(alloc, stem, scale, facets, by, &column.cell)?;
     Ok(list_made(name, source, steps))
 }
 
@@ -310,8 +301,7 @@ fn push_by_rows(
     columns: &[Column],
     out: &mut Seq<DataSet>,
 ) -> Result<(), OutOfMemory>
-    ensures { OnOk result (out.new ≡ out.old
-        ++ map (column_list stem.now scale (rank_steps stem.now scale facets.now by.now)) (enumerate_from 0 columns.now)) }
+    ensures { OnOk result (out.new ≡ out.old ++ column_lists stem.now scale facets.now by.now columns.now) }
 {
     for (place, column) in columns.iter().enumerate() {
         out.push(ranked_list(alloc, stem, scale, facets, by, place, column)?)?;
@@ -319,7 +309,54 @@ fn push_by_rows(
     Ok(())
 }
 
-// Adds the lists of the columns of an order by rows.
+// The name of the list of a column.
+fn name_of_column(
+    alloc: Global,
+    stem: &Text,
+    scale: usize,
+    place: usize,
+    column: &Column,
+) -> Result<Text, OutOfMemory>
+    ensures { IfOk result (λ name. name ≡ name_of_column stem.now scale (place, column.now)) }
+{
+    let _ = column;
+    cells_name(alloc, stem, scale, place)
+}
+
+// The names of the lists of columns.
+fn names_of_columns(
+    alloc: Global,
+    stem: &Text,
+    scale: usize,
+    columns: &[Column],
+) -> Result<Seq<Text>, OutOfMemory>
+    ensures { IfOk result (λ names. names ≡ names_of_columns stem.now scale columns.now) }
+{
+    let mut out = Seq::new(alloc);
+    for (place, column) in columns.iter().enumerate() {
+        out.push(name_of_column(alloc, stem, scale, place, column)?)?;
+    }
+    Ok(out)
+}
+
+// Adds the lists of the columns of an order by rows, and the rows by which cells stand.
+fn push_ranked_lists(
+    alloc: Global,
+    stem: &Text,
+    scale: usize,
+    facets: &[Text],
+    by: &RowsOrder,
+    columns: &[Column],
+    out: &mut Seq<DataSet>,
+) -> Result<(), OutOfMemory>
+    ensures { OnOk result (out.new ≡ out.old ++ ranked_lists stem.now scale facets.now by.now columns.now) }
+{
+    push_by_rows(alloc, stem, scale, facets, by, columns, out)?;
+    let names = names_of_columns(alloc, stem, scale, columns)?;
+    out.push(ranks_list(alloc, stem, scale, facets, names.as_slice(), by)?)
+}
+
+// The same for a scale that stands once in a panel of a facet, or without one in the chart.
 fn push_ranked(
     alloc: Global,
     stem: &Text,
@@ -333,11 +370,8 @@ fn push_ranked(
     ensures { OnOk result (out.new ≡ out.old
         ++ ranked_lists stem.now scale (names_held grids.now by.now.unit holder) by.now columns.now) }
 {
-    if is_lone(by, columns) {
-        return Ok(());
-    }
     let facets = names_held(alloc, grids, by.unit, holder)?;
-    push_by_rows(alloc, stem, scale, facets.as_slice(), by, columns, out)
+    push_ranked_lists(alloc, stem, scale, facets.as_slice(), by, columns, out)
 }
 
 // Adds the lists to which cells of rows refer alone.
@@ -379,7 +413,7 @@ pub(crate) fn push_lists(
     }
 }
 
-// Adds the lists in which the cells of an order by rows are looked up.
+// Adds the lists in which the numbers of the cells of an order by rows are looked up.
 fn push_looked_through(
     alloc: Global,
     stem: &Text,
@@ -387,17 +421,12 @@ fn push_looked_through(
     scale: usize,
     holder: Option<usize>,
     by: &RowsOrder,
-    columns: &[Column],
     out: &mut Seq<DataSet>,
 ) -> Result<(), OutOfMemory>
-    ensures { OnOk result (out.new ≡ out.old
-        ++ looked_through stem.now scale (names_held grids.now by.now.unit holder) by.now columns.now) }
+    ensures { OnOk result (out.new ≡ out.old ++ codes_lists stem.now scale (names_held grids.now by.now.unit holder) by.now) }
 {
-    if is_lone(by, columns) {
-        return Ok(());
-    }
     let facets = names_held(alloc, grids, by.unit, holder)?;
-    push_lists_beside(alloc, stem, scale, facets.as_slice(), by, out)
+    push_codes_lists(alloc, stem, scale, facets.as_slice(), by, out)
 }
 
 // Adds those that the cells of rows want.
@@ -410,20 +439,11 @@ fn push_beside(
     of: &RowCells,
     out: &mut Seq<DataSet>,
 ) -> Result<(), OutOfMemory>
-    ensures { OnOk result (out.new ≡ out.old ++ beside_order stem.now grids.now scale holder of.now.order of.now.columns) }
+    ensures { OnOk result (out.new ≡ out.old ++ beside_order stem.now grids.now scale holder of.now.order) }
 {
     match &of.order {
         CellOrder::First | CellOrder::Up | CellOrder::Down | CellOrder::Listed(_) => Ok(()),
-        CellOrder::ByRows(by) => push_looked_through(
-            alloc,
-            stem,
-            grids,
-            scale,
-            holder,
-            by,
-            of.columns.as_slice(),
-            out,
-        ),
+        CellOrder::ByRows(by) => push_looked_through(alloc, stem, grids, scale, holder, by, out),
     }
 }
 
@@ -478,25 +498,5 @@ pub(crate) fn order_begins(unit: usize, order: &CellOrder) -> bool
     match order {
         CellOrder::First | CellOrder::Up | CellOrder::Down | CellOrder::Listed(_) => false,
         CellOrder::ByRows(by) => by.unit == unit,
-    }
-}
-
-// Whether an order of columns refers to them itself.
-fn order_refers(unit: usize, order: &CellOrder, columns: &[Column]) -> bool
-    ensures { result ≡ order_refers unit order.now columns.now }
-{
-    match order {
-        CellOrder::First | CellOrder::Up | CellOrder::Down | CellOrder::Listed(_) => false,
-        CellOrder::ByRows(by) => by.unit == unit && is_lone(by, columns),
-    }
-}
-
-/// Whether a domain refers to them itself.
-pub(crate) fn domain_refers(unit: usize, plan: &DomainPlan) -> bool
-    ensures { result ≡ domain_refers unit plan.now }
-{
-    match plan {
-        DomainPlan::Cells(_) => false,
-        DomainPlan::Columns(of) => order_refers(unit, &of.order, of.columns.as_slice()),
     }
 }

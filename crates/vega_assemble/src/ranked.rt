@@ -1,27 +1,27 @@
-// By what the cells of a scale stand by rows.
+// The rows by which the cells of a scale stand in an order by rows.
 ghost use Rattle.std.specs.Prelude.{◌≡◌, ◌++◌, ◌∷◌, [], map, length, codes, IfOk, OnOk};
 ghost use Rattle.std.specs.List.{enumerate_from};
 ghost use Rattle.expr_syntax.specs.declared.expr.Expr.TheVariants as expr;
 ghost use Rattle.unit_plan.specs.declared.cells.CellOf.TheVariants as shows;
 ghost use Rattle.vega_spec.specs.declared.transforms.Transform.TheVariants as vega;
-ghost use Rattle.vega_assemble.specs.Names.{key_column, rank_column, ranks_name};
-ghost use Rattle.vega_assemble.specs.Ranks.{over_none};
-ghost use Rattle.vega_assemble.specs.Ranked.{formula, cell_formula, numbers_rows, given_in, cells_alone, found_in, told_by, number_found, with_code};
-ghost use Rattle.vega_assemble.specs.Ranked.{numbers_text, steps_to_key, are_some, key_steps, key_name, codes_list, codes_lists, ranks_list};
-ghost use Rattle.vega_assemble.specs.Ranked.{lists_beside, rank_steps};
+ghost use Rattle.vega_assemble.specs.Cells.{field_expr};
+ghost use Rattle.vega_assemble.specs.Names.{key_column, rank_column};
+ghost use Rattle.vega_assemble.specs.Ranked.{formula, cell_formula, rank_formula, numbers_rows, given_in, cells_alone, found_in, told_by};
+ghost use Rattle.vega_assemble.specs.Ranked.{number_found, with_code, numbers_text, steps_to_key, are_some, key_steps, key_name};
+ghost use Rattle.vega_assemble.specs.Ranked.{codes_list, codes_lists, column_steps, lacks_key, not_all, kept_in, rank_step, ranks_steps, ranks_list};
 
-use crate::exprs::cell_expr;
+use crate::exprs::{cell_expr, field_expr};
 use crate::names::{begun_name, cell_column, codes_name, key_column, rank_column, ranks_name};
-use crate::ranks::over_none;
+use crate::ranks::{counts, over_none};
 use crate::several::{copied_text, copied_texts, one_of};
 use crate::sources::list_made;
 use cell_value::Cell;
 use chart_plan::RowsOrder;
 use expr_syntax::{BinOp, Expr};
 use std::alloc::Global;
-use text_kit::{OutOfMemory, Seq, Text};
-use unit_plan::{CellOf, binary};
-use vega_spec::{Aggregate, DataSet, Formula, Lookup, Transform, Window};
+use text_kit::{Boxed, OutOfMemory, Seq, Text};
+use unit_plan::{CellOf, binary, joined};
+use vega_spec::{Aggregate, DataSet, Filter, Formula, Lookup, Transform, Window};
 
 /// The code of `row_number` among the operations.
 const ROW_NUMBER: u16 = 12;
@@ -55,6 +55,14 @@ fn field_formula(stem: &Text, field: &Text) -> Result<Transform, OutOfMemory>
     let name = cell_column(stem)?;
     let expr = field.copy().map(Expr::Field)?;
     Ok(formula(name, expr))
+}
+
+/// The rank of each row, in its column.
+pub(crate) fn rank_formula(stem: &Text, e: Expr) -> Result<Transform, OutOfMemory>
+    ensures { IfOk result (λ made. made ≡ rank_formula stem.now e) }
+{
+    let name = rank_column(stem)?;
+    Ok(formula(name, e))
 }
 
 /// The number of each row under a name.
@@ -109,19 +117,21 @@ fn cells_alone(alloc: Global, name: &Text) -> Result<Transform, OutOfMemory>
     }))
 }
 
-// What another list has under a name where it has the same cell in a field.
-fn found_in(
+/// What another list has in a column where its cell in a field there is that in a field here, under a name.
+pub(crate) fn found_in(
     alloc: Global,
     set: Text,
-    field: &Text,
+    there: &Text,
+    here: &Text,
+    column: Text,
     name: Text,
     otherwise: Cell,
 ) -> Result<Lookup, OutOfMemory>
-    ensures { IfOk result (λ made. made ≡ found_in set field.now name otherwise) }
+    ensures { IfOk result (λ made. made ≡ found_in set there.now here.now column name otherwise) }
 {
-    let key = field.copy()?;
-    let fields = one_of(alloc, field.copy()?)?;
-    let values = one_of(alloc, name.copy()?)?;
+    let key = there.copy()?;
+    let fields = one_of(alloc, here.copy()?)?;
+    let values = one_of(alloc, column)?;
     let names = one_of(alloc, name)?;
     Ok(Lookup {
         from: set,
@@ -135,7 +145,7 @@ fn found_in(
 
 // ---- keys
 
-// The fields that tell ranks apart.
+// The fields that tell rows apart.
 fn told_by(alloc: Global, stem: &Text, facets: &[Text]) -> Result<Seq<Text>, OutOfMemory>
     ensures { IfOk result (λ names. names ≡ told_by stem.now facets.now) }
 {
@@ -156,7 +166,8 @@ fn number_found(
 {
     let set = codes_name(alloc, stem, scale, place)?;
     let name = key_column(alloc, stem, place)?;
-    found_in(alloc, set, field, name, Cell::Null).map(Transform::Lookup)
+    let column = name.copy()?;
+    found_in(alloc, set, field, field, column, name, Cell::Null).map(Transform::Lookup)
 }
 
 // Adds those of all fields.
@@ -334,8 +345,8 @@ fn push_codes(
     Ok(())
 }
 
-// Adds those of the fields that tell ranks apart, if there are facets.
-fn push_codes_lists(
+/// Adds those of the fields that tell rows apart, if there are facets.
+pub(crate) fn push_codes_lists(
     alloc: Global,
     stem: &Text,
     scale: usize,
@@ -353,7 +364,83 @@ fn push_codes_lists(
     }
 }
 
-// What the operation gives of each cell.
+/// Adds the steps behind the cell of a column.
+pub(crate) fn push_column_steps(
+    alloc: Global,
+    stem: &Text,
+    scale: usize,
+    facets: &[Text],
+    by: &RowsOrder,
+    out: &mut Seq<Transform>,
+) -> Result<(), OutOfMemory>
+    ensures { OnOk result (out.new ≡ out.old ++ column_steps stem.now scale facets.now by.now) }
+{
+    out.push(rank_formula(stem, over_none(by.op))?)?;
+    push_key(alloc, stem, scale, facets, out)
+}
+
+// Whether the list of a column lacks a row's key.
+fn lacks_key(alloc: Global, stem: &Text, key: &Text, set: &Text) -> Result<Transform, OutOfMemory>
+    ensures { IfOk result (λ made. made ≡ lacks_key stem.now key.now set.now) }
+{
+    let column = rank_column(stem)?;
+    let name = set.copy()?;
+    found_in(alloc, set.copy()?, key, key, column, name, Cell::Flag(true)).map(Transform::Lookup)
+}
+
+// Adds that of several lists.
+fn push_lacks(
+    alloc: Global,
+    stem: &Text,
+    key: &Text,
+    sets: &[Text],
+    out: &mut Seq<Transform>,
+) -> Result<(), OutOfMemory>
+    ensures { OnOk result (out.new ≡ out.old ++ map (lacks_key stem.now key.now) sets.now) }
+{
+    for set in sets {
+        out.push(lacks_key(alloc, stem, key, set)?)?;
+    }
+    Ok(())
+}
+
+// The fields of these names.
+fn all_fields(alloc: Global, names: &[Text]) -> Result<Seq<Expr>, OutOfMemory>
+    ensures { IfOk result (λ es. es ≡ map expr.Field names.now) }
+{
+    let mut out = Seq::new(alloc);
+    for name in names {
+        out.push(name.copy().map(Expr::Field)?)?;
+    }
+    Ok(out)
+}
+
+// That a row's key isn't lacking in all lists.
+fn not_all(alloc: Global, sets: &[Text]) -> Result<Expr, OutOfMemory>
+    ensures { IfOk result (λ e. e ≡ not_all sets.now) }
+{
+    let fields = all_fields(alloc, sets)?;
+    let all = joined(alloc, BinOp::And, true, fields)?;
+    let boxed = Boxed::new(alloc, all)?;
+    Ok(Expr::Not(boxed))
+}
+
+// Adds the steps to the rows whose key one of some lists has.
+fn push_kept(
+    alloc: Global,
+    stem: &Text,
+    key: &Text,
+    sets: &[Text],
+    out: &mut Seq<Transform>,
+) -> Result<(), OutOfMemory>
+    ensures { OnOk result (out.new ≡ out.old ++ kept_in stem.now key.now sets.now) }
+{
+    push_lacks(alloc, stem, key, sets, out)?;
+    let expr = not_all(alloc, sets)?;
+    out.push(Transform::Filter(Filter { expr }))
+}
+
+// What an operation that counts gives of each cell.
 fn ranks_given(
     alloc: Global,
     stem: &Text,
@@ -367,83 +454,75 @@ fn ranks_given(
     given_in(alloc, fields, by, name)
 }
 
-// The steps of that list.
+// The cell of the order's field as the rank of each row.
+fn rank_of_field(stem: &Text, by: &RowsOrder) -> Result<Transform, OutOfMemory>
+    ensures { IfOk result (λ made. made ≡ rank_formula stem.now (field_expr by.now.field)) }
+{
+    let e = field_expr(&by.field)?;
+    rank_formula(stem, e)
+}
+
+// The ranks of rows.
+fn rank_step(
+    alloc: Global,
+    stem: &Text,
+    facets: &[Text],
+    by: &RowsOrder,
+) -> Result<Transform, OutOfMemory>
+    ensures { IfOk result (λ made. made ≡ rank_step stem.now facets.now by.now) }
+{
+    if counts(by.op) {
+        ranks_given(alloc, stem, facets, by)
+    } else {
+        rank_of_field(stem, by)
+    }
+}
+
+// Adds the steps from the key of a row to the rows whose key one of some lists has.
+fn push_kept_by_key(
+    alloc: Global,
+    stem: &Text,
+    facets: &[Text],
+    sets: &[Text],
+    out: &mut Seq<Transform>,
+) -> Result<(), OutOfMemory>
+    ensures { OnOk result (out.new ≡ out.old ++ kept_in stem.now (key_name stem.now facets.now) sets.now) }
+{
+    let key = key_name(alloc, stem, facets)?;
+    push_kept(alloc, stem, &key, sets, out)
+}
+
+// The rows before the aggregate whose key one of some lists has, with their ranks.
 fn ranks_steps(
     alloc: Global,
     stem: &Text,
     scale: usize,
     facets: &[Text],
+    sets: &[Text],
     by: &RowsOrder,
 ) -> Result<Seq<Transform>, OutOfMemory>
-    ensures { IfOk result (λ steps. steps ≡ cell_formula stem.now (shows.Field by.now.cell)
-        ∷ vega.Aggregate (given_in (told_by stem.now facets.now) by.now (rank_column stem.now)) ∷ key_steps stem.now scale facets.now) }
+    ensures { IfOk result (λ steps. steps ≡ ranks_steps stem.now scale facets.now sets.now by.now) }
 {
-    let mut out = Seq::new(alloc);
-    out.push(field_formula(stem, &by.cell)?)?;
-    out.push(ranks_given(alloc, stem, facets, by)?)?;
+    let mut out = one_of(alloc, field_formula(stem, &by.cell)?)?;
     push_key(alloc, stem, scale, facets, &mut out)?;
+    push_kept_by_key(alloc, stem, facets, sets, &mut out)?;
+    out.push(rank_step(alloc, stem, facets, by)?)?;
     Ok(out)
 }
 
-// That list.
-fn ranks_list(
+/// The list of these rows.
+pub(crate) fn ranks_list(
     alloc: Global,
     stem: &Text,
     scale: usize,
     facets: &[Text],
+    sets: &[Text],
     by: &RowsOrder,
 ) -> Result<DataSet, OutOfMemory>
-    ensures { IfOk result (λ set. set ≡ ranks_list stem.now scale facets.now by.now) }
+    ensures { IfOk result (λ set. set ≡ ranks_list stem.now scale facets.now sets.now by.now) }
 {
     let name = ranks_name(alloc, stem, scale)?;
     let source = begun_name(alloc, stem, by.unit)?;
-    let steps = ranks_steps(alloc, stem, scale, facets, by)?;
+    let steps = ranks_steps(alloc, stem, scale, facets, sets, by)?;
     Ok(list_made(name, source, steps))
-}
-
-/// Adds the lists in which the cells of an order by rows are looked up.
-pub(crate) fn push_lists_beside(
-    alloc: Global,
-    stem: &Text,
-    scale: usize,
-    facets: &[Text],
-    by: &RowsOrder,
-    out: &mut Seq<DataSet>,
-) -> Result<(), OutOfMemory>
-    ensures { OnOk result (out.new ≡ out.old ++ lists_beside stem.now scale facets.now by.now) }
-{
-    push_codes_lists(alloc, stem, scale, facets, by, out)?;
-    out.push(ranks_list(alloc, stem, scale, facets, by)?)
-}
-
-// The rank of each cell of a column, looked up by its key.
-fn rank_found(
-    alloc: Global,
-    stem: &Text,
-    scale: usize,
-    facets: &[Text],
-    op: u16,
-) -> Result<Transform, OutOfMemory>
-    ensures { IfOk result (λ made. made
-        ≡ vega.Lookup (found_in (ranks_name stem.now scale) (key_name stem.now facets.now) (rank_column stem.now) (over_none op))) }
-{
-    let set = ranks_name(alloc, stem, scale)?;
-    let key = key_name(alloc, stem, facets)?;
-    let name = rank_column(stem)?;
-    found_in(alloc, set, &key, name, over_none(op)).map(Transform::Lookup)
-}
-
-/// Adds the steps to the rank of each cell of a column.
-pub(crate) fn push_rank_steps(
-    alloc: Global,
-    stem: &Text,
-    scale: usize,
-    facets: &[Text],
-    by: &RowsOrder,
-    out: &mut Seq<Transform>,
-) -> Result<(), OutOfMemory>
-    ensures { OnOk result (out.new ≡ out.old ++ rank_steps stem.now scale facets.now by.now) }
-{
-    push_key(alloc, stem, scale, facets, out)?;
-    out.push(rank_found(alloc, stem, scale, facets, by.op)?)
 }

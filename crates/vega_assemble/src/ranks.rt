@@ -5,7 +5,7 @@ ghost use Rattle.expr_syntax.specs.declared.expr.Expr.TheVariants as expr;
 ghost use Rattle.expr_syntax.specs.declared.expr.BinOp.TheVariants.{Same, And, Or};
 ghost use Rattle.unit_plan.specs.Literals.{literal, whole};
 ghost use Rattle.unit_plan.specs.Joins.{joined};
-ghost use Rattle.vega_assemble.specs.Ranks.{place_if, places_in, listed_rank, over_none};
+ghost use Rattle.vega_assemble.specs.Ranks.{place_if, places_in, listed_rank, over_none, counts, op_of_scale};
 
 use crate::exprs::whole_place;
 use crate::numbers::millionths;
@@ -20,6 +20,9 @@ const SUM: u16 = 4;
 
 /// The code of `min`.
 pub(crate) const MIN: u16 = 7;
+
+// The code of `max`.
+const MAX: u16 = 8;
 
 // ---- listed cells
 
@@ -83,12 +86,26 @@ pub(crate) fn listed_rank(alloc: Global, shown: &Expr, cells: &[Cell]) -> Result
 // ---- orders by rows
 
 /// What an operation gives over no rows.
-pub(crate) fn over_none(op: u16) -> Cell
+pub(crate) fn over_none(op: u16) -> Expr
     ensures { result ≡ over_none op }
 {
     if op <= SUM {
-        Cell::Number(millionths(0))
+        Expr::Number(millionths(0))
     } else {
-        Cell::Null
+        Expr::Null
     }
+}
+
+/// Whether an operation counts.
+pub(crate) fn counts(op: u16) -> bool
+    ensures { result ≡ counts op }
+{
+    op < SUM
+}
+
+/// The operation of a scale over the ranks of rows.
+pub(crate) fn op_of_scale(op: u16) -> u16
+    ensures { result ≡ op_of_scale op }
+{
+    if counts(op) { MAX } else { op }
 }

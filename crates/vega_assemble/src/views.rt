@@ -393,6 +393,7 @@ fn title_beside<K: Drop>(kept: K, title: &Option<Text>) -> Result<(K, Option<Tex
 }
 
 // A grid with these groups.
+#[inline(never)]
 fn grid_with(
     alloc: Global,
     stem: &Text,
@@ -420,6 +421,7 @@ fn grid_with(
 }
 
 // A group for a view, with its facet.
+#[inline(never)]
 fn as_group(made: Opened, sort: Option<Sort>, facet: Option<Facet>) -> VgMark
     ensures { result ≡ group_for made sort facet }
 {
@@ -447,6 +449,7 @@ fn no_view(alloc: Global) -> Opened
 // ---- views
 
 // The plot at a place.
+#[inline(never)]
 fn plot_at(
     alloc: Global,
     stem: &Text,
@@ -534,6 +537,7 @@ fn cells_of(
 
 // The groups of joined views.
 #[cycle(walk)]
+#[inline(never)]
 fn joined(
     alloc: Global,
     stem: &Text,
@@ -572,6 +576,7 @@ fn faceted(
 }
 
 // A group in the panels of a facet.
+#[inline(never)]
 fn facet_group(
     alloc: Global,
     stem: &Text,

@@ -5,4 +5,5 @@ use Rattle.vega_assemble.proofs.assembled.push_begun.Given as goal
 
 abbrev pub invariant-loop-unit : goal.invariant-loop-unit
 invariant-loop-unit l =
-    l.out ++ map (begun_list l.stem) (filter (is_begun l.p) (drop l.unit-index l.p.units)) ≡ l.fn.out ++ map (begun_list l.stem) (filter (is_begun l.p) l.p.units)
+    l.out ++ map (begun_list l.stem) (filter (is_begun l.p) (drop l.unit-index l.p.units))
+    ≡ l.fn.out ++ map (begun_list l.stem) (filter (is_begun l.p) l.p.units)

@@ -5,4 +5,5 @@ use Rattle.vega_assemble.proofs.domains.all_plainly.Given as goal
 
 abbrev pub invariant-loop-place : goal.invariant-loop-place
 invariant-loop-place l =
-    l.out ++ map (plainly_referred l.stem l.scale) (enumerate_from l.place (drop l.place l.columns)) ≡ map (plainly_referred l.stem l.scale) (enumerate_from 0 l.columns)
+    l.out ++ map (plainly_referred l.stem l.scale) (enumerate_from l.place (drop l.place l.columns))
+    ≡ map (plainly_referred l.stem l.scale) (enumerate_from 0 l.columns)

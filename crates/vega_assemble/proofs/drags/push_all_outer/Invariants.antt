@@ -5,4 +5,5 @@ use Rattle.vega_assemble.proofs.drags.push_all_outer.Given as goal
 
 abbrev pub invariant-loop-number : goal.invariant-loop-number
 invariant-loop-number l =
-    l.out ++ flat_map (outer_lists l.stem l.selections) (enumerate_from l.number (drop l.number l.scales)) ≡ l.fn.out ++ flat_map (outer_lists l.stem l.selections) (enumerate_from 0 l.scales)
+    l.out ++ flat_map (outer_lists l.stem l.selections) (enumerate_from l.number (drop l.number l.scales))
+    ≡ l.fn.out ++ flat_map (outer_lists l.stem l.selections) (enumerate_from 0 l.scales)

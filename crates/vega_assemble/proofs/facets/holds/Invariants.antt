@@ -6,4 +6,5 @@ use Rattle.vega_assemble.proofs.facets.holds.Given as goal
 
 abbrev pub invariant-loop-grid : goal.invariant-loop-grid
 invariant-loop-grid l =
-    list_any (is_number l.number) (filter (is_grid_inside l.outer l.parts) (drop l.grid-index l.grids)) ≡ list_any (is_number l.number) (filter (is_grid_inside l.outer l.parts) l.grids)
+    list_any (is_number l.number) (filter (is_grid_inside l.outer l.parts) (drop l.grid-index l.grids))
+    ≡ list_any (is_number l.number) (filter (is_grid_inside l.outer l.parts) l.grids)

@@ -8,4 +8,6 @@ use Rattle.vega_assemble.proofs.facets.lists_held.Given as goal
 
 abbrev pub invariant-loop-number : goal.invariant-loop-number
 invariant-loop-number l =
-    l.out ++ flat_map (lists_of_scale l.stem l.grids) (filter (is_held (grids_inside l.grids l.outer l.parts)) (enumerate_from l.number (drop l.number l.scales))) ≡ flat_map (lists_of_scale l.stem l.grids) (filter (is_held (grids_inside l.grids l.outer l.parts)) (enumerate_from 0 l.scales))
+    l.out
+    ++ flat_map (lists_of_scale l.stem l.grids) (filter (is_held (grids_inside l.grids l.outer l.parts)) (enumerate_from l.number (drop l.number l.scales)))
+    ≡ flat_map (lists_of_scale l.stem l.grids) (filter (is_held (grids_inside l.grids l.outer l.parts)) (enumerate_from 0 l.scales))

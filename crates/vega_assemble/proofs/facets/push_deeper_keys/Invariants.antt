@@ -5,4 +5,5 @@ use Rattle.vega_assemble.proofs.facets.push_deeper_keys.Given as goal
 
 abbrev pub invariant-loop-grid : goal.invariant-loop-grid
 invariant-loop-grid l =
-    l.out ++ flat_map (keys_inside l.stem) (deeper l.outer.number (grids_inside (drop l.grid-index l.grids) l.outer l.parts)) ≡ l.fn.out ++ flat_map (keys_inside l.stem) (deeper l.outer.number (grids_inside l.grids l.outer l.parts))
+    l.out ++ flat_map (keys_inside l.stem) (deeper l.outer.number (grids_inside (drop l.grid-index l.grids) l.outer l.parts))
+    ≡ l.fn.out ++ flat_map (keys_inside l.stem) (deeper l.outer.number (grids_inside l.grids l.outer l.parts))

@@ -6,4 +6,5 @@ use Rattle.vega_assemble.proofs.keys.has_keys.Given as goal
 
 abbrev pub invariant-loop-field : goal.invariant-loop-field
 invariant-loop-field l =
-    list_any (λ (field : FacetField). wants_key field.order) (drop l.field-index l.field-items) ≡ list_any (λ (field : FacetField). wants_key field.order) l.field-items
+    list_any (λ (field : FacetField). wants_key field.order) (drop l.field-index l.field-items)
+    ≡ list_any (λ (field : FacetField). wants_key field.order) l.field-items

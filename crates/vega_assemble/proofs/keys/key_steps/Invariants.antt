@@ -5,4 +5,5 @@ use Rattle.vega_assemble.proofs.keys.key_steps.Given as goal
 
 abbrev pub invariant-loop-place : goal.invariant-loop-place
 invariant-loop-place l =
-    l.out ++ flat_map (steps_for l.stem l.facet l.unit) (enumerate_from l.place (drop l.place l.field-items)) ≡ flat_map (steps_for l.stem l.facet l.unit) (enumerate_from 0 l.field-items)
+    l.out ++ flat_map (steps_for l.stem l.facet l.unit) (enumerate_from l.place (drop l.place l.field-items))
+    ≡ flat_map (steps_for l.stem l.facet l.unit) (enumerate_from 0 l.field-items)

@@ -5,4 +5,5 @@ use Rattle.vega_assemble.proofs.keys.push_all_orders.Given as goal
 
 abbrev pub invariant-loop-place : goal.invariant-loop-place
 invariant-loop-place l =
-    l.out ++ flat_map (orders_for l.stem l.facet) (enumerate_from l.place (drop l.place l.field-items)) ≡ l.fn.out ++ flat_map (orders_for l.stem l.facet) (enumerate_from 0 l.field-items)
+    l.out ++ flat_map (orders_for l.stem l.facet l.units) (enumerate_from l.place (drop l.place l.field-items))
+    ≡ l.fn.out ++ flat_map (orders_for l.stem l.facet l.units) (enumerate_from 0 l.field-items)

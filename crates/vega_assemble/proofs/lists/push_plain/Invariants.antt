@@ -5,4 +5,5 @@ use Rattle.vega_assemble.proofs.lists.push_plain.Given as goal
 
 abbrev pub invariant-loop-place : goal.invariant-loop-place
 invariant-loop-place l =
-    l.out ++ filter_map (list_if_wanted l.stem l.scale) (enumerate_from l.place (drop l.place l.columns)) ≡ l.fn.out ++ filter_map (list_if_wanted l.stem l.scale) (enumerate_from 0 l.columns)
+    l.out ++ filter_map (list_if_wanted l.stem l.scale) (enumerate_from l.place (drop l.place l.columns))
+    ≡ l.fn.out ++ filter_map (list_if_wanted l.stem l.scale) (enumerate_from 0 l.columns)

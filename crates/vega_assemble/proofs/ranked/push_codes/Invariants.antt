@@ -5,4 +5,5 @@ use Rattle.vega_assemble.proofs.ranked.push_codes.Given as goal
 
 abbrev pub invariant-loop-place : goal.invariant-loop-place
 invariant-loop-place l =
-    l.out ++ map (codes_list l.stem l.scale l.by) (enumerate_from l.place (drop l.place l.fields)) ≡ l.fn.out ++ map (codes_list l.stem l.scale l.by) (enumerate_from 0 l.fields)
+    l.out ++ map (codes_list l.stem l.scale l.by) (enumerate_from l.place (drop l.place l.fields))
+    ≡ l.fn.out ++ map (codes_list l.stem l.scale l.by) (enumerate_from 0 l.fields)

@@ -7,4 +7,5 @@ use Rattle.vega_assemble.proofs.views.legends_held.Given as goal
 
 abbrev pub invariant-loop-number : goal.invariant-loop-number
 invariant-loop-number l =
-    l.out ++ filter_map (legend_written l.stem l.scales) (filter (belongs_to l.holder) (enumerate_from l.number (drop l.number l.scales))) ≡ filter_map (legend_written l.stem l.scales) (filter (belongs_to l.holder) (enumerate_from 0 l.scales))
+    l.out ++ filter_map (legend_written l.stem l.scales) (filter (belongs_to l.holder) (enumerate_from l.number (drop l.number l.scales)))
+    ≡ filter_map (legend_written l.stem l.scales) (filter (belongs_to l.holder) (enumerate_from 0 l.scales))
