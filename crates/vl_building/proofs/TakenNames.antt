@@ -5,17 +5,23 @@ use Rattle.std.specs.Str.{bytes_eq}
 use Rattle.std.specs.Option.{is_some}
 use Rattle.spec_schema.specs.Values.{among}
 use Rattle.vl_spec.specs.declared.params.SelectType.TheVariants as selection
-use Rattle.vl_schema.specs.declared.codes.TheConstants.{AUTOSIZE, FORMAT_TYPE, PARSE_KIND, MARK_TYPE, ALIGN, BASELINE, INTERPOLATE, SELECT_TYPE, POINT_EVENTS, INTERVAL_EVENTS}
+use Rattle.vl_schema.specs.declared.codes.TheConstants.{AUTOSIZE, FORMAT_TYPE, PARSE_KIND, MARK_TYPE, ALIGN, BASELINE, INTERPOLATE, SELECT_TYPE, POINT_EVENTS}
+use Rattle.vl_schema.specs.declared.codes.TheConstants.{INTERVAL_EVENTS}
 use Rattle.vl_schema.specs.declared.codes.TheConstants.{FIELD_TYPE, SCHEME, OFFSET, ORDER, SHARING, SIDE, CHANNEL_NAME, WINDOW_OPERATION, TIME_UNIT, OPERATION}
-use Rattle.vl_schema.specs.declared.codes.TheConstants.{SCALE_TYPE, ALIGN_NAMES, AUTOSIZE_NAMES, BASELINE_NAMES, CLICK_NAMES, DRAG_NAMES, FORMAT_NAMES, INTERPOLATE_NAMES, MARK_NAMES, OFFSET_NAMES}
-use Rattle.vl_schema.specs.declared.codes.TheConstants.{ORDER_NAMES, PARSE_NAMES, SCHEME_NAMES, SELECT_NAMES, SHARING_NAMES, SIDE_NAMES, TYPE_NAMES, CHANNEL_NAMES, WINDOW_NAMES, UNIT_NAMES}
+use Rattle.vl_schema.specs.declared.codes.TheConstants.{SCALE_TYPE, ALIGN_NAMES, AUTOSIZE_NAMES, BASELINE_NAMES, CLICK_NAMES, DRAG_NAMES, FORMAT_NAMES}
+use Rattle.vl_schema.specs.declared.codes.TheConstants.{INTERPOLATE_NAMES, MARK_NAMES, OFFSET_NAMES}
+use Rattle.vl_schema.specs.declared.codes.TheConstants.{ORDER_NAMES, PARSE_NAMES, SCHEME_NAMES, SELECT_NAMES, SHARING_NAMES, SIDE_NAMES, TYPE_NAMES}
+use Rattle.vl_schema.specs.declared.codes.TheConstants.{CHANNEL_NAMES, WINDOW_NAMES, UNIT_NAMES}
 use Rattle.vl_schema.specs.declared.codes.TheConstants.{OPERATION_NAMES, SCALE_NAMES}
 use Rattle.vl_schema.specs.Shapes.{leaves, numbers, named, lists, plain_objects, objects}
-use Rattle.vl_schema.specs.Words.{autosize_names, format_names, parse_names, mark_names, align_names, baseline_names, interpolate_names, select_names, click_names}
+use Rattle.vl_schema.specs.Words.{autosize_names, format_names, parse_names, mark_names, align_names, baseline_names, interpolate_names, select_names}
+use Rattle.vl_schema.specs.Words.{click_names}
 use Rattle.vl_schema.specs.Words.{drag_names, type_names, scheme_names, offset_names, order_names, sharing_names, side_names, channel_names, window_names}
 use Rattle.vl_schema.specs.Words.{unit_names, operation_names, scale_names}
-use Rattle.vl_building.specs.Names.{align_named, autosize_named, baseline_named, field_type_named, format_kind_named, interpolate_named, mark_type_named, offset_named, order_named}
-use Rattle.vl_building.specs.Names.{parse_kind_named, scheme_named, select_event_named, select_type_named, sharing_named, side_named, channel_named, window_operation_named, time_unit_named}
+use Rattle.vl_building.specs.Names.{align_named, autosize_named, baseline_named, field_type_named, format_kind_named, interpolate_named, mark_type_named}
+use Rattle.vl_building.specs.Names.{offset_named, order_named}
+use Rattle.vl_building.specs.Names.{parse_kind_named, scheme_named, select_event_named, select_type_named, sharing_named, side_named, channel_named}
+use Rattle.vl_building.specs.Names.{window_operation_named, time_unit_named}
 use Rattle.vl_building.specs.Names.{aggregates, scale_types, operation_named, scale_kind_named}
 use Rattle.vl_building.specs.Taken.{Keeps, text_as, NamesAreKept, CodesAreKept}
 use Rattle.vl_building.proofs.TakenLemmas.{name_keeps, next, position_keeps, below_keeps}
@@ -38,7 +44,9 @@ format_kind_kept = name_keeps FORMAT_TYPE FORMAT_NAMES format_kind_named format_
 
 pub parse_kind_among : (name : List ℕ) → is_some (parse_kind_named name) ≡ among parse_names name
 unfolding parse_names parse_kind_named
-parse_kind_among name = next (codes "number") name _ _ _ (next (codes "boolean") name _ _ _ (next (codes "string") name _ _ _ (next (codes "date") name _ _ _ refl)))
+parse_kind_among name =
+    next (codes "number") name _ _ _ (next (codes "boolean") name _ _ _ (next (codes "string") name _ _ _
+    (next (codes "date") name _ _ _ refl)))
 
 parse_kind_kept : Keeps PARSE_KIND (text_as parse_kind_named)
 unfolding leaves numbers named lists plain_objects objects parse_names
@@ -46,7 +54,10 @@ parse_kind_kept = name_keeps PARSE_KIND PARSE_NAMES parse_kind_named parse_names
 
 pub mark_type_among : (name : List ℕ) → is_some (mark_type_named name) ≡ among mark_names name
 unfolding mark_names mark_type_named
-mark_type_among name = next (codes "bar") name _ _ _ (next (codes "rect") name _ _ _ (next (codes "point") name _ _ _ (next (codes "circle") name _ _ _ (next (codes "square") name _ _ _ (next (codes "line") name _ _ _ (next (codes "area") name _ _ _ (next (codes "tick") name _ _ _ (next (codes "rule") name _ _ _ (next (codes "text") name _ _ _ refl)))))))))
+mark_type_among name =
+    next (codes "bar") name _ _ _ (next (codes "rect") name _ _ _ (next (codes "point") name _ _ _ (next (codes "circle") name _ _ _
+    (next (codes "square") name _ _ _ (next (codes "line") name _ _ _ (next (codes "area") name _ _ _ (next (codes "tick") name _ _ _
+    (next (codes "rule") name _ _ _ (next (codes "text") name _ _ _ refl)))))))))
 
 mark_type_kept : Keeps MARK_TYPE (text_as mark_type_named)
 unfolding leaves numbers named lists plain_objects objects mark_names
@@ -62,7 +73,9 @@ align_kept = name_keeps ALIGN ALIGN_NAMES align_named align_names refl refl alig
 
 pub baseline_among : (name : List ℕ) → is_some (baseline_named name) ≡ among baseline_names name
 unfolding baseline_names baseline_named
-baseline_among name = next (codes "top") name _ _ _ (next (codes "middle") name _ _ _ (next (codes "bottom") name _ _ _ (next (codes "alphabetic") name _ _ _ refl)))
+baseline_among name =
+    next (codes "top") name _ _ _ (next (codes "middle") name _ _ _ (next (codes "bottom") name _ _ _
+    (next (codes "alphabetic") name _ _ _ refl)))
 
 baseline_kept : Keeps BASELINE (text_as baseline_named)
 unfolding leaves numbers named lists plain_objects objects baseline_names
@@ -102,7 +115,9 @@ interval_event_kept = name_keeps INTERVAL_EVENTS DRAG_NAMES (select_event_named 
 
 pub field_type_among : (name : List ℕ) → is_some (field_type_named name) ≡ among type_names name
 unfolding type_names field_type_named
-field_type_among name = next (codes "quantitative") name _ _ _ (next (codes "temporal") name _ _ _ (next (codes "ordinal") name _ _ _ (next (codes "nominal") name _ _ _ refl)))
+field_type_among name =
+    next (codes "quantitative") name _ _ _ (next (codes "temporal") name _ _ _ (next (codes "ordinal") name _ _ _
+    (next (codes "nominal") name _ _ _ refl)))
 
 field_type_kept : Keeps FIELD_TYPE (text_as field_type_named)
 unfolding leaves numbers named lists plain_objects objects type_names
@@ -196,7 +211,9 @@ time_unit_kept = name_keeps TIME_UNIT UNIT_NAMES time_unit_named unit_names refl
 
 operation_among : (name : List ℕ) → is_some (operation_named name) ≡ among operation_names name
 unfolding operation_names
-operation_among name = below_keeps (λ n. bytes_eq n name) aggregates operation_names (codes "row_number" ∷ codes "rank" ∷ codes "dense_rank" ∷ codes "lag" ∷ codes "lead" ∷ codes "first_value" ∷ codes "last_value" ∷ []) refl
+operation_among name =
+    below_keeps (λ n. bytes_eq n name) aggregates operation_names (codes "row_number" ∷ codes "rank" ∷ codes "dense_rank" ∷ codes "lag" ∷ codes "lead"
+    ∷ codes "first_value" ∷ codes "last_value" ∷ []) refl
 
 operation_kept : Keeps OPERATION (text_as operation_named)
 unfolding leaves numbers named lists plain_objects objects operation_names

@@ -8,7 +8,8 @@ use Rattle.fixed_num.specs.Ranges.{is_within}
 use Rattle.spec_schema.specs.declared.form.Shape.{Shape}
 use Rattle.spec_schema.specs.declared.form.Form.TheVariants as form
 use Rattle.spec_schema.specs.Values.{Opened}
-use Rattle.vl_spec.specs.Bounds.{over_zero, most_number, most_space, most_share, least_count, most_count, most_ticks, most_look, least_shift, most_shift, most_size, most_step}
+use Rattle.vl_spec.specs.Bounds.{over_zero, most_number, most_space, most_share, least_count, most_count, most_ticks, most_look, least_shift, most_shift}
+use Rattle.vl_spec.specs.Bounds.{most_size, most_step}
 use Rattle.vl_schema.specs.declared.codes.TheConstants.{SPACE, SHARE, COUNT, TICK_COUNT, ANGLE, STEP, SIZE_STEP, PLAIN_SIZE, LOOK, SHIFT, WHOLE, RANGE_ITEM}
 use Rattle.vl_schema.specs.Shapes.{shape, leaves, numbers, named, lists, plain_objects, objects}
 use Rattle.vl_building.specs.Numbers.{between, whole_between, angle}
@@ -64,12 +65,15 @@ three false false true n x y z = refl
 three false false false n x y z = refl
 
 abbrev angle_forms : List Shape
-angle_forms = shape ANGLE (form.Number (pos 0) (pos 0)) ∷ shape ANGLE (form.Number (negsuc 89999999) (negsuc 89999999)) ∷ shape ANGLE (form.Number (pos 270000000) (pos 270000000)) ∷ []
+angle_forms =
+    shape ANGLE (form.Number (pos 0) (pos 0)) ∷ shape ANGLE (form.Number (negsuc 89999999) (negsuc 89999999))
+    ∷ shape ANGLE (form.Number (pos 270000000) (pos 270000000)) ∷ []
 
 angle_each : (tree : Opened) → stands tree ≡ true → is_some (number_as angle tree) ≡ is_some (find (form_fits tree) angle_forms)
 angle_each level.Null here = refl
 angle_each (level.Flag b) here = refl
-angle_each (level.Number n) here = three (is_within (pos 0) (pos 0) n) (is_within (negsuc 89999999) (negsuc 89999999) n) (is_within (pos 270000000) (pos 270000000) n) n _ _ _
+angle_each (level.Number n) here =
+    three (is_within (pos 0) (pos 0) n) (is_within (negsuc 89999999) (negsuc 89999999) n) (is_within (pos 270000000) (pos 270000000) n) n _ _ _
 angle_each level.Huge here = refl
 angle_each (level.Text t) here = refl
 angle_each (level.List items) here = refl

@@ -72,8 +72,18 @@ unfolding vl_schema
 its_layouts = refl
 
 -- each of these objects has a layout, whatever its members
-all_stand : map (λ object. list_any (stands_for object) layouts) (BIN ∷ SORT ∷ SCALE_DOMAIN ∷ X_AXIS ∷ Y_AXIS ∷ AXIS ∷ LEGEND ∷ SELECT ∷ MARK ∷ []) ≡ true ∷ true ∷ true ∷ true ∷ true ∷ true ∷ true ∷ true ∷ true ∷ []
-unfolding vl_schema view_layouts source_layouts channel_layouts condition_layouts other_layouts layouts led_views joined_views other_views views led_layers other_layers all_layers all_sources all_parameters all_marks channels_of all_channels all_facets conditions_of cell_comparisons combinations other_filters all_filters plain_transforms all_transforms all_operations all_axes all_guides all_sizes unit_view layered_view faceted_view row_view column_view grid_view faceted_in_layer row_in_layer column_in_layer grid_in_layer spec_in_layer source_of_values source_of_file format parse datasets value_parameter computed_parameter selection_parameter point interval no_selection sized_mark mark written_channel datum_channel field_channel encoding layer_encoding facet_by_parts facet_definition facet_with_condition value_by_selection field_by_selection value_by_filter field_by_filter filter_by_selection comparison combination filter calculate bin time_unit aggregate join_aggregate stack window lookup fold no_transform operation window_operation sort_field lookup_from bins scale selected_domain axis_along legend header sort_by_count sort_by_field step config config_view resolve resolve_scale
+all_stand :
+    map (λ object. list_any (stands_for object) layouts) (BIN ∷ SORT ∷ SCALE_DOMAIN ∷ X_AXIS ∷ Y_AXIS ∷ AXIS ∷ LEGEND ∷ SELECT ∷ MARK ∷ [])
+    ≡ true ∷ true ∷ true ∷ true ∷ true ∷ true ∷ true ∷ true ∷ true ∷ []
+unfolding vl_schema view_layouts source_layouts channel_layouts condition_layouts other_layouts layouts led_views joined_views other_views views
+    led_layers other_layers all_layers all_sources all_parameters all_marks channels_of all_channels all_facets conditions_of cell_comparisons
+    combinations other_filters all_filters plain_transforms all_transforms all_operations all_axes all_guides all_sizes unit_view layered_view
+    faceted_view row_view column_view grid_view faceted_in_layer row_in_layer column_in_layer grid_in_layer spec_in_layer source_of_values
+    source_of_file format parse datasets value_parameter computed_parameter selection_parameter point interval no_selection sized_mark mark
+    written_channel datum_channel field_channel encoding layer_encoding facet_by_parts facet_definition facet_with_condition value_by_selection
+    field_by_selection value_by_filter field_by_filter filter_by_selection comparison combination filter calculate bin time_unit aggregate
+    join_aggregate stack window lookup fold no_transform operation window_operation sort_field lookup_from bins scale selected_domain axis_along
+    legend header sort_by_count sort_by_field step config config_view resolve resolve_scale
 all_stand = refl
 
 has_layout : (object : ℕ) → list_any (stands_for object) layouts ≡ true → (members : List Member) → true ≡ is_some (layout_in vl_schema object members)
@@ -125,7 +135,9 @@ bin_kept = keeps_by BIN _ bin_forms refl bin_each
 
 sort_among : (name : List ℕ) → is_some (sort_named name) ≡ among sort_names name
 unfolding sort_names sort_named
-sort_among name = next (codes "ascending") name _ _ _ (next (codes "descending") name _ _ _ (next (codes "x") name _ _ _ (next (codes "-x") name _ _ _ (next (codes "y") name _ _ _ (next (codes "-y") name _ _ _ refl)))))
+sort_among name =
+    next (codes "ascending") name _ _ _ (next (codes "descending") name _ _ _ (next (codes "x") name _ _ _ (next (codes "-x") name _ _ _
+    (next (codes "y") name _ _ _ (next (codes "-y") name _ _ _ refl)))))
 
 abbrev sort_forms : List Shape
 sort_forms = shape SORT form.Null ∷ shape SORT (form.Name SORT_NAMES) ∷ shape SORT (form.List 0 MAX_LENGTH SCALAR) ∷ shape SORT (form.Object SORT) ∷ []

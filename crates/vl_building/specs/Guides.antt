@@ -104,7 +104,8 @@ scale_of members = record {
 an_empty_range_is_none : range_in [] ≡ None
 an_empty_range_is_none = refl
 
-a_number_below_0_has_no_place_in_a_range : range_in (json.Text (codes "red") ∷ json.Number (negsuc 0) ∷ []) ≡ Some (cell.Text (codes "red") ∷ cell.Number (pos 0) ∷ [])
+a_number_below_0_has_no_place_in_a_range :
+    range_in (json.Text (codes "red") ∷ json.Number (negsuc 0) ∷ []) ≡ Some (cell.Text (codes "red") ∷ cell.Number (pos 0) ∷ [])
 unfolding out-Json denote.Hole.Carrier.out
 a_number_below_0_has_no_place_in_a_range = refl
 

@@ -29,7 +29,8 @@ use Rattle.tree_readers.specs.Parts.{Opened, found_at, has_member, flag_at, text
 use Rattle.vl_building.specs.Expressions.{needed_expression}
 use Rattle.vl_building.specs.Fields.{fields_at}
 use Rattle.vl_building.specs.Numbers.{share_at, count_at, look_at, shift_at}
-use Rattle.vl_building.specs.Names.{named_at, align_named, baseline_named, interpolate_named, mark_type_named, needed_mark_type, select_type_named, needed_select_type, select_event_named, channels_at}
+use Rattle.vl_building.specs.Names.{named_at, align_named, baseline_named, interpolate_named, mark_type_named, needed_mark_type, select_type_named}
+use Rattle.vl_building.specs.Names.{needed_select_type, select_event_named, channels_at}
 
 -- whether marks of a type are signs, which have a size
 abbrev pub is_sign : MarkType → Bool

@@ -4,7 +4,8 @@ use Rattle.std.specs.Option.{option_and_then}
 use Rattle.json_exact.specs.declared.json.Member.{Member}
 use Rattle.fixed_num.specs.Ranges.{is_within}
 use Rattle.spec_schema.specs.Values.{is_whole_between}
-use Rattle.vl_spec.specs.Bounds.{most_number, over_zero, most_space, most_share, least_count, most_count, most_ticks, most_look, least_shift, most_shift, most_size, most_step}
+use Rattle.vl_spec.specs.Bounds.{most_number, over_zero, most_space, most_share, least_count, most_count, most_ticks, most_look, least_shift, most_shift}
+use Rattle.vl_spec.specs.Bounds.{most_size, most_step}
 use Rattle.tree_readers.specs.Parts.{number_at}
 
 -- a number that lies between two, both included

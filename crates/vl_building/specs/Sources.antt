@@ -1,5 +1,6 @@
 -- Data, as a tree gives it in the order of the text, and the sources that it names.
-use Rattle.std.specs.Prelude.{◌≡◌, refl, ℕ, ◌+◌, ◌==◌, Bool, false, ◌||◌, ◌&&◌, Option, Some, None, List, [], ◌∷◌, ◌++◌, map, find, codes, decimal, is_some, is_none, bytes_eq, if◌then◌else◌}
+use Rattle.std.specs.Prelude.{◌≡◌, refl, ℕ, ◌+◌, ◌==◌, Bool, false, ◌||◌, ◌&&◌, Option, Some, None, List, [], ◌∷◌, ◌++◌, map, find, codes, decimal, is_some}
+use Rattle.std.specs.Prelude.{is_none, bytes_eq, if◌then◌else◌}
 use Rattle.std.specs.Option.{option_map, option_map_or, option_and_then}
 use Rattle.std.specs.List.{position_from, enumerate_from, filter_map}
 use Rattle.json_exact.specs.declared.json.Json.{Json}

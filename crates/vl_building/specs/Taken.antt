@@ -6,17 +6,22 @@ use Rattle.json_exact.specs.Inside.{text_in, number_in, items_in}
 use Rattle.fixed_num.specs.Ranges.{is_within}
 use Rattle.spec_schema.specs.Forms.{taken_form}
 use Rattle.vl_schema.specs.Schema.{vl_schema}
-use Rattle.vl_schema.specs.declared.codes.TheConstants.{TEXT, FLAG, CELL, SCALAR, TITLE, NUMBER_OR_NULL, SPACE, SHARE, COUNT, TICK_COUNT, ANGLE, STEP, SIZE_STEP}
+use Rattle.vl_schema.specs.declared.codes.TheConstants.{TEXT, FLAG, CELL, SCALAR, TITLE, NUMBER_OR_NULL, SPACE, SHARE, COUNT, TICK_COUNT, ANGLE, STEP}
+use Rattle.vl_schema.specs.declared.codes.TheConstants.{SIZE_STEP}
 use Rattle.vl_schema.specs.declared.codes.TheConstants.{PLAIN_SIZE, LOOK, SHIFT, WHOLE, BOUND, RANGE_ITEM, AUTOSIZE, FORMAT_TYPE, PARSE_KIND, ALIGN, BASELINE}
 use Rattle.vl_schema.specs.declared.codes.TheConstants.{INTERPOLATE, MARK_TYPE, SELECT_TYPE, POINT_EVENTS, INTERVAL_EVENTS, CLEAR, TOGGLE, CHANNEL_NAME}
-use Rattle.vl_schema.specs.declared.codes.TheConstants.{FIELD_TYPE, OPERATION, WINDOW_OPERATION, TIME_UNIT, SCALE_TYPE, SCHEME, OFFSET, STACK, ORDER, SHARING, SIDE, TWO_TEXTS, TEXT_OR_TWO}
+use Rattle.vl_schema.specs.declared.codes.TheConstants.{FIELD_TYPE, OPERATION, WINDOW_OPERATION, TIME_UNIT, SCALE_TYPE, SCHEME, OFFSET, STACK, ORDER, SHARING}
+use Rattle.vl_schema.specs.declared.codes.TheConstants.{SIDE, TWO_TEXTS, TEXT_OR_TWO}
 use Rattle.vl_schema.specs.declared.codes.TheConstants.{TEXT_OR_TEXTS, BIN, SORT, SCALE_DOMAIN, X_AXIS, Y_AXIS, AXIS, LEGEND, SELECT, MARK}
 use Rattle.vl_schema.specs.Shapes.{MAX_LENGTH}
-use Rattle.vl_spec.specs.Bounds.{least_number, most_number, over_zero, most_space, most_share, least_count, most_count, most_ticks, most_look, least_shift, most_shift, most_size, most_step}
+use Rattle.vl_spec.specs.Bounds.{least_number, most_number, over_zero, most_space, most_share, least_count, most_count, most_ticks, most_look, least_shift}
+use Rattle.vl_spec.specs.Bounds.{most_shift, most_size, most_step}
 use Rattle.vl_spec.specs.declared.params.SelectType.TheVariants as selection
 use Rattle.tree_readers.specs.Parts.{Opened, flag_in, cell_in, two_texts}
 use Rattle.vl_building.specs.Numbers.{between, whole_between, angle}
-use Rattle.vl_building.specs.Names.{order_named, offset_named, format_kind_named, parse_kind_named, mark_type_named, align_named, baseline_named, interpolate_named, select_type_named, select_event_named, field_type_named, scheme_named, sharing_named, side_named, autosize_named}
+use Rattle.vl_building.specs.Names.{order_named, offset_named, format_kind_named, parse_kind_named, mark_type_named, align_named, baseline_named}
+use Rattle.vl_building.specs.Names.{interpolate_named, select_type_named, select_event_named, field_type_named, scheme_named, sharing_named, side_named}
+use Rattle.vl_building.specs.Names.{autosize_named}
 use Rattle.vl_building.specs.Names.{operation_named, window_operation_named, time_unit_named, scale_kind_named, channel_named}
 use Rattle.vl_building.specs.Values.{scalar_in, title_in, names_in, texts_in, nullable_in}
 use Rattle.vl_building.specs.Filters.{bound_in}

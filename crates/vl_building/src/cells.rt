@@ -1,7 +1,8 @@
 // Values of several forms.
 ghost use Rattle.std.specs.Prelude.{◌≡◌, IfOk};
 ghost use Rattle.json_exact.specs.declared.json.Json.{out-Json};
-ghost use Rattle.vl_building.specs.Values.{scalar_in, scalar_of, needed_scalar, title_in, title_at, nullable_in, nullable_at, texts_in, both_names, names_in, needed_names};
+ghost use Rattle.vl_building.specs.Values.{scalar_in, scalar_of, needed_scalar, title_in, title_at, nullable_in, nullable_at, texts_in, both_names, names_in};
+ghost use Rattle.vl_building.specs.Values.{needed_names};
 
 use crate::parts;
 use crate::parts::{Item, Items, Object, Value, each};

@@ -3,15 +3,17 @@ ghost use Rattle.std.specs.Prelude.{◌≡◌, ◌++◌, [], None, Some, map, co
 ghost use Rattle.json_exact.specs.declared.json.Json.{out-Json};
 ghost use Rattle.vl_spec.specs.declared.channels.Conditions.TheVariants as conditions;
 ghost use Rattle.vl_building.specs.Inside.{member_gives};
-ghost use Rattle.vl_building.specs.Channels.{test_of, channel_with, condition_showing, several_in, as_condition, condition_with, condition_of, conditions_of, conditions_at, channel_of, shown_in, channel_coded, channel_in, encoding_of};
+ghost use Rattle.vl_building.specs.Channels.{test_of, channel_with, condition_showing, several_in, as_condition, condition_with, condition_of, conditions_of};
+ghost use Rattle.vl_building.specs.Channels.{conditions_at, channel_of, shown_in, channel_coded, channel_in, encoding_of};
 
 use crate::filters::{needed_filter, param_test_of};
-use crate::parts::{Object, Objects, OfMember, each, given_by, object_with};
+use crate::parts::{Object, Objects, OfMember, each, given_by};
+use crate::several::both;
 use json_exact::{Json, Member};
 use std::alloc::Global;
 use text_kit::{Boxed, OutOfMemory, Seq};
 use tree_readers::has_member;
-use vl_spec::{Channel, ChannelKind, ChannelOf, Condition, Conditions, Encoding, Test};
+use vl_spec::{Channel, ChannelKind, ChannelOf, Condition, Conditions, Definition, Encoding, Test};
 
 // When a condition holds.
 impl Object for Test {
@@ -36,7 +38,7 @@ fn channel_with(
 ) -> Result<Channel, OutOfMemory>
     ensures { IfOk result (λ channel. channel ≡ channel_with members.now condition) }
 {
-    let (definition, condition) = object_with(alloc, members, condition)?;
+    let (definition, condition) = both(Definition::of_members(alloc, members), Ok(condition))?;
     Ok(Channel {
         definition,
         condition,
@@ -52,7 +54,7 @@ fn condition_showing(
 ) -> Result<Condition, OutOfMemory>
     ensures { IfOk result (λ condition. condition ≡ condition_showing members.now shows) }
 {
-    let (test, shows) = object_with(alloc, members, shows)?;
+    let (test, shows) = both(Test::of_members(alloc, members), Ok(shows))?;
     Ok(Condition { test, shows })
 }
 

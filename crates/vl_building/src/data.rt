@@ -5,7 +5,7 @@ ghost use Rattle.vl_building.specs.Sources.{parse_of, parse_at, format_of, data_
 
 use crate::names::{named_at, named_in};
 use crate::parts::{Object, Reads, each};
-use crate::several::three_parts;
+use crate::several::{all_three, three_parts};
 use json_exact::{Json, Member};
 use std::alloc::Global;
 use text_kit::{OutOfMemory, Seq, Text};
@@ -104,8 +104,11 @@ fn value_at(alloc: Global, members: &[Member], name: &str) -> Result<Option<Json
 pub fn data_at(alloc: Global, place: Seq<usize>, members: &[Member]) -> Result<DataAt, OutOfMemory>
     ensures { IfOk result (λ at. at ≡ data_at place members.now) }
 {
-    let (name, url, format) = three_parts(alloc, members, "name", "url", "format")?;
-    let values = value_at(alloc, members, "values")?;
+    let ((name, url, format), values, place) = all_three(
+        three_parts(alloc, members, "name", "url", "format"),
+        value_at(alloc, members, "values"),
+        Ok(place),
+    )?;
     Ok(DataAt {
         place,
         name,

@@ -2,7 +2,8 @@
 ghost use Rattle.std.specs.Prelude.{◌≡◌, Some, IfOk};
 ghost use Rattle.vl_spec.specs.declared.orders.Sort.TheVariants as sort;
 ghost use Rattle.vl_spec.specs.declared.definitions.Definition.TheVariants as variant;
-ghost use Rattle.vl_building.specs.Definitions.{bin_settings_of, bin_in, sort_named, field_sort_of, sort_in, sort_at, stacking_in, datum_definition_of, field_definition_of, definition_by, definition_of};
+ghost use Rattle.vl_building.specs.Definitions.{bin_settings_of, bin_in, sort_named, field_sort_of, sort_in, sort_at, stacking_in, datum_definition_of};
+ghost use Rattle.vl_building.specs.Definitions.{field_definition_of, definition_by, definition_of};
 
 use crate::cells::needed_scalar;
 use crate::fields::field_at;
@@ -10,7 +11,7 @@ use crate::names::{ByName, named_at};
 use crate::numbers::{count_at, number_between, space_at};
 use crate::parts;
 use crate::parts::{Items, Object, Plain, Value, each, plain_at};
-use crate::several::{Part, four_parts, six_parts};
+use crate::several::{Part, all_four, all_three, three_parts, two_parts};
 use crate::tables::{operation_at, time_unit_at};
 use crate::words::first_among;
 use cell_value::Cell;
@@ -121,14 +122,14 @@ impl Plain for Stacking {
 fn datum_definition_of(alloc: Global, members: &[Member]) -> Result<Definition, OutOfMemory>
     ensures { IfOk result (λ definition. definition ≡ variant.Datum (datum_definition_of members.now)) }
 {
-    let type_ = named_at(members, "type");
-    let datum = needed_scalar(alloc, members, "datum")?;
-    let (title, legend, axis, scale) = four_parts(
-        alloc, members, "title", "legend", "axis", "scale",
+    let (datum, (title, legend), (axis, scale)) = all_three(
+        needed_scalar(alloc, members, "datum"),
+        two_parts(alloc, members, "title", "legend"),
+        two_parts(alloc, members, "axis", "scale"),
     )?;
     Ok(Definition::Datum(DatumDefinition {
         datum,
-        type_,
+        type_: named_at(members, "type"),
         scale,
         axis,
         legend,
@@ -141,34 +142,28 @@ fn datum_definition_of(alloc: Global, members: &[Member]) -> Result<Definition, 
 fn field_definition_of(alloc: Global, members: &[Member]) -> Result<Definition, OutOfMemory>
     ensures { IfOk result (λ definition. definition ≡ variant.Field (field_definition_of members.now)) }
 {
-    let type_ = named_at(members, "type");
-    let aggregate = operation_at(members, "aggregate");
-    let bin = plain_at(members, "bin");
-    let time_unit = time_unit_at(members, "timeUnit");
-    let stack = plain_at(members, "stack");
-    let columns = count_at(members, "columns");
-    let spacing = space_at(members, "spacing");
-    let header = parts::object_at(alloc, members, "header")?;
-    let field = field_at(alloc, members, "field")?;
-    let (title, format, legend, axis, sort, scale) = six_parts(
-        alloc, members, "title", "format", "legend", "axis", "sort", "scale",
+    let (header, field, (title, format, legend), (axis, sort, scale)) = all_four(
+        parts::object_at(alloc, members, "header"),
+        field_at(alloc, members, "field"),
+        three_parts(alloc, members, "title", "format", "legend"),
+        three_parts(alloc, members, "axis", "sort", "scale"),
     )?;
     Ok(Definition::Field(FieldDefinition {
         field,
-        type_,
-        aggregate,
-        bin,
-        time_unit,
+        type_: named_at(members, "type"),
+        aggregate: operation_at(members, "aggregate"),
+        bin: plain_at(members, "bin"),
+        time_unit: time_unit_at(members, "timeUnit"),
         title,
         sort,
         scale,
-        stack,
+        stack: plain_at(members, "stack"),
         axis,
         legend,
         header,
         format,
-        columns,
-        spacing,
+        columns: count_at(members, "columns"),
+        spacing: space_at(members, "spacing"),
     }))
 }
 

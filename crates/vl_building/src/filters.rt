@@ -6,11 +6,13 @@ ghost use Rattle.tree_readers.specs.Parts.{found_at};
 ghost use Rattle.json_exact.specs.declared.json.Json.{out-Json};
 ghost use Rattle.vl_spec.specs.declared.filters.Filter.TheVariants as filter;
 ghost use Rattle.vl_building.specs.Inside.{member_gives};
-ghost use Rattle.vl_building.specs.Filters.{param_test_of, bound_in, range_in, later_comparison, comparison_of, field_test_of, as_filter, text_filter, filters_given, object_filter, filter_of, filters_of, needed_filter};
+ghost use Rattle.vl_building.specs.Filters.{param_test_of, bound_in, range_in, later_comparison, comparison_of, field_test_of, as_filter, text_filter};
+ghost use Rattle.vl_building.specs.Filters.{filters_given, object_filter, filter_of, filters_of, needed_filter};
 
 use crate::cells::needed_scalar;
 use crate::fields::needed_field;
 use crate::parts::{Items, expression_or_null, needed_each};
+use crate::several::both;
 use crate::tables::time_unit_at;
 use cell_value::Cell;
 use expr_syntax::Expr;
@@ -26,10 +28,9 @@ use vl_spec::{Comparison, FieldTest, Filter, ParamTest};
 pub fn param_test_of(alloc: Global, members: &[Member]) -> Result<ParamTest, OutOfMemory>
     ensures { IfOk result (λ test. test ≡ param_test_of members.now) }
 {
-    let empty = tree_readers::flag_at(members, "empty");
     Ok(ParamTest {
         param: needed_text(alloc, members, "param")?,
-        empty,
+        empty: tree_readers::flag_at(members, "empty"),
     })
 }
 
@@ -102,12 +103,13 @@ fn comparison_of(alloc: Global, members: &[Member]) -> Result<Comparison, OutOfM
 fn field_test_of(alloc: Global, members: &[Member]) -> Result<Filter, OutOfMemory>
     ensures { IfOk result (λ test. test ≡ filter.Field (field_test_of members.now)) }
 {
-    let time_unit = time_unit_at(members, "timeUnit");
-    let field = needed_field(alloc, members, "field")?;
-    let comparison = comparison_of(alloc, members)?;
+    let (field, comparison) = both(
+        needed_field(alloc, members, "field"),
+        comparison_of(alloc, members),
+    )?;
     Ok(Filter::Field(FieldTest {
         field,
-        time_unit,
+        time_unit: time_unit_at(members, "timeUnit"),
         comparison,
     }))
 }

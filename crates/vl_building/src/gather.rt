@@ -5,6 +5,7 @@ ghost use Rattle.vl_building.specs.Gather.{place_of, param_at, params_in, data_b
 use crate::data::{DataAt, ParamAt, data_at};
 use crate::marks::param_of;
 use crate::places::child;
+use crate::several::both;
 use json_exact::Json;
 use spec_walk::{Visitor, walk};
 use std::alloc::Global;
@@ -85,8 +86,10 @@ fn param_at(
 ) -> Result<ParamAt, OutOfMemory>
     ensures { IfOk result (λ found. found ≡ param_at place.now (number, tree.now)) }
 {
-    let place = child(alloc, place, number)?;
-    let param = param_of(alloc, members_of(tree))?;
+    let (place, param) = both(
+        child(alloc, place, number),
+        param_of(alloc, members_of(tree)),
+    )?;
     Ok(ParamAt { place, param })
 }
 
@@ -222,7 +225,9 @@ pub fn gathered<T: Found + Drop>(alloc: Global, tree: &Json) -> Result<Seq<T>, O
         trail: Seq::new(alloc),
         parts: Seq::new(alloc),
     };
-    walk(alloc, &schema, tree, 0, TOP, &mut gathering)?;
+    let walked = walk(alloc, &schema, tree, 0, TOP, &mut gathering);
+    drop(schema);
+    walked?;
     let Gathering { trail: _, parts } = gathering;
     Ok(parts)
 }

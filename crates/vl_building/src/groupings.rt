@@ -1,7 +1,8 @@
 // Transforms over several rows.
 ghost use Rattle.std.specs.Prelude.{◌≡◌, IfOk};
 ghost use Rattle.vl_spec.specs.declared.transforms.Transform.TheVariants as variant;
-ghost use Rattle.vl_building.specs.Transforms.{operation_of, aggregate_of, sort_field_of, window_operation_of, frame_number, frame_end, frame_end_of, frame_in, frame_at, window_of, lookup_from, lookup_of};
+ghost use Rattle.vl_building.specs.Transforms.{operation_of, aggregate_of, sort_field_of, window_operation_of, frame_end, frame_end_of, frame_in};
+ghost use Rattle.vl_building.specs.Transforms.{frame_at, window_of, lookup_from, lookup_of};
 
 use crate::fields::{Fields, field_at, needed_field};
 use crate::filters::bound_in;
@@ -9,6 +10,7 @@ use crate::names::named_at;
 use crate::numbers::{count_between, is_whole};
 use crate::parts;
 use crate::parts::{Object, Objects, each_at, needed_each};
+use crate::several::{all_four, all_three, both};
 use crate::tables::{operation_at, window_operation_at};
 use fixed_num::Num;
 use json_exact::{Json, Member};
@@ -26,10 +28,15 @@ impl Object for Operation {
 
     #[tactic(auto, unfolding(crate::specs::Transforms::operation_of))]
     fn of_members(alloc: Global, members: &[Member]) -> Result<Operation, OutOfMemory> {
-        let op = operation_at(members, "op").unwrap_or(0);
-        let field = field_at(alloc, members, "field")?;
-        let as_ = needed_text(alloc, members, "as")?;
-        Ok(Operation { op, field, as_ })
+        let (field, as_) = both(
+            field_at(alloc, members, "field"),
+            needed_text(alloc, members, "as"),
+        )?;
+        Ok(Operation {
+            op: operation_at(members, "op").unwrap_or(0),
+            field,
+            as_,
+        })
     }
 }
 
@@ -42,8 +49,10 @@ pub fn aggregate_of(
 ) -> Result<AggregateTransform, OutOfMemory>
     ensures { IfOk result (λ aggregate. aggregate ≡ aggregate_of name.now members.now) }
 {
-    let groupby = each_at::<Text, Fields>(alloc, members, "groupby")?;
-    let aggregate = needed_each::<Operation, Objects>(alloc, members, name)?;
+    let (groupby, aggregate) = both(
+        each_at::<Text, Fields>(alloc, members, "groupby"),
+        needed_each::<Operation, Objects>(alloc, members, name),
+    )?;
     Ok(AggregateTransform { aggregate, groupby })
 }
 
@@ -53,10 +62,9 @@ impl Object for SortField {
 
     #[tactic(auto, unfolding(crate::specs::Transforms::sort_field_of))]
     fn of_members(alloc: Global, members: &[Member]) -> Result<SortField, OutOfMemory> {
-        let order = named_at(members, "order");
         Ok(SortField {
             field: needed_field(alloc, members, "field")?,
-            order,
+            order: named_at(members, "order"),
         })
     }
 }
@@ -67,27 +75,16 @@ impl Object for WindowOperation {
 
     #[tactic(auto, unfolding(crate::specs::Transforms::window_operation_of))]
     fn of_members(alloc: Global, members: &[Member]) -> Result<WindowOperation, OutOfMemory> {
-        let op = window_operation_at(members, "op").unwrap_or(0);
-        let param = count_between(members, "param", 0, MOST_NUMBER);
-        let field = field_at(alloc, members, "field")?;
-        let as_ = needed_text(alloc, members, "as")?;
+        let (field, as_) = both(
+            field_at(alloc, members, "field"),
+            needed_text(alloc, members, "as"),
+        )?;
         Ok(WindowOperation {
-            op,
+            op: window_operation_at(members, "op").unwrap_or(0),
+            param: count_between(members, "param", 0, MOST_NUMBER),
             field,
-            param,
             as_,
         })
-    }
-}
-
-// A number that is an end of a frame.
-fn frame_number(number: Num) -> Option<Option<Num>>
-    ensures { result ≡ frame_number number }
-{
-    if is_whole(number) {
-        Some(Some(number))
-    } else {
-        None
     }
 }
 
@@ -96,7 +93,13 @@ fn frame_end(end: Option<Num>) -> Option<Option<Num>>
     ensures { result ≡ frame_end end }
 {
     match end {
-        Some(number) => frame_number(number),
+        Some(number) => {
+            if is_whole(number) {
+                Some(Some(number))
+            } else {
+                None
+            }
+        }
         None => Some(None),
     }
 }
@@ -132,17 +135,17 @@ fn frame_at(members: &[Member], name: &str) -> Option<Frame>
 pub fn window_of(alloc: Global, members: &[Member]) -> Result<Transform, OutOfMemory>
     ensures { IfOk result (λ t. t ≡ variant.Window (window_of members.now)) }
 {
-    let frame = frame_at(members, "frame");
-    let ignore_peers = flag_at(members, "ignorePeers");
-    let groupby = each_at::<Text, Fields>(alloc, members, "groupby")?;
-    let sort = each_at::<SortField, Objects>(alloc, members, "sort")?;
-    let window = needed_each::<WindowOperation, Objects>(alloc, members, "window")?;
+    let (groupby, sort, window) = all_three(
+        each_at::<Text, Fields>(alloc, members, "groupby"),
+        each_at::<SortField, Objects>(alloc, members, "sort"),
+        needed_each::<WindowOperation, Objects>(alloc, members, "window"),
+    )?;
     Ok(Transform::Window(WindowTransform {
         window,
         groupby,
         sort,
-        frame,
-        ignore_peers,
+        frame: frame_at(members, "frame"),
+        ignore_peers: flag_at(members, "ignorePeers"),
     }))
 }
 
@@ -155,9 +158,11 @@ fn lookup_from(
 ) -> Result<LookupFrom, OutOfMemory>
     ensures { IfOk result (λ from. from ≡ lookup_from source.now members.now) }
 {
-    let data_ = Copies::copied(source, alloc)?;
-    let key = needed_field(alloc, members, "key")?;
-    let fields = needed_each::<Text, Fields>(alloc, members, "fields")?;
+    let (data_, key, fields) = all_three(
+        Copies::copied(source, alloc),
+        needed_field(alloc, members, "key"),
+        needed_each::<Text, Fields>(alloc, members, "fields"),
+    )?;
     Ok(LookupFrom { data_, key, fields })
 }
 
@@ -170,10 +175,12 @@ pub fn lookup_of(
 ) -> Result<Transform, OutOfMemory>
     ensures { IfOk result (λ t. t ≡ variant.Lookup (lookup_of source.now members.now)) }
 {
-    let lookup = needed_field(alloc, members, "lookup")?;
-    let from = lookup_from(alloc, source, needed_members(members, "from"))?;
-    let as_ = parts::found_at(alloc, members, "as")?;
-    let default = parts::found_at(alloc, members, "default")?;
+    let (lookup, as_, default, from) = all_four(
+        needed_field(alloc, members, "lookup"),
+        parts::found_at(alloc, members, "as"),
+        parts::found_at(alloc, members, "default"),
+        lookup_from(alloc, source, needed_members(members, "from")),
+    )?;
     Ok(Transform::Lookup(LookupTransform {
         lookup,
         from,

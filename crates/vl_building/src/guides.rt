@@ -11,7 +11,7 @@ ghost use Rattle.vl_building.specs.Guides.{axis_of, legend_of, header_of, param_
 use crate::names::named_at;
 use crate::numbers::{angle_at, count_between, share_at};
 use crate::parts::{Items, Object, Reads, Value, each};
-use crate::several::{three_parts, two_parts};
+use crate::several::{both, three_parts, two_parts};
 use crate::tables::{channel_at, scale_kind_at};
 use crate::{numbers, parts};
 use cell_value::Cell;
@@ -29,24 +29,17 @@ impl Object for Axis {
 
     #[tactic(auto, unfolding(crate::specs::Guides::axis_of))]
     fn of_members(alloc: Global, members: &[Member]) -> Result<Axis, OutOfMemory> {
-        let labels = flag_at(members, "labels");
-        let ticks = flag_at(members, "ticks");
-        let domain = flag_at(members, "domain");
-        let grid = flag_at(members, "grid");
-        let label_angle = angle_at(members, "labelAngle");
-        let tick_count = count_between(members, "tickCount", LEAST_COUNT, MOST_TICKS);
-        let orient = named_at(members, "orient");
         let (title, format, values) = three_parts(alloc, members, "title", "format", "values")?;
         Ok(Axis {
             title,
-            labels,
-            ticks,
-            domain,
-            grid,
-            label_angle,
-            tick_count,
+            labels: flag_at(members, "labels"),
+            ticks: flag_at(members, "ticks"),
+            domain: flag_at(members, "domain"),
+            grid: flag_at(members, "grid"),
+            label_angle: angle_at(members, "labelAngle"),
+            tick_count: count_between(members, "tickCount", LEAST_COUNT, MOST_TICKS),
             values,
-            orient,
+            orient: named_at(members, "orient"),
             format,
         })
     }
@@ -78,10 +71,9 @@ impl Object for Header {
 fn param_domain_of(alloc: Global, members: &[Member]) -> Result<Option<Domain>, OutOfMemory>
     ensures { IfOk result (λ of. of ≡ Some (domain.Param (param_domain_of members.now))) }
 {
-    let encoding = channel_at(members, "encoding");
     Ok(Some(Domain::Param(ParamDomain {
         param: needed_text(alloc, members, "param")?,
-        encoding,
+        encoding: channel_at(members, "encoding"),
     })))
 }
 
@@ -171,27 +163,21 @@ impl Object for Scale {
 
     #[tactic(auto, unfolding(crate::specs::Guides::scale_of))]
     fn of_members(alloc: Global, members: &[Member]) -> Result<Scale, OutOfMemory> {
-        let type_ = scale_kind_at(members, "type");
-        let scheme = named_at(members, "scheme");
-        let zero = flag_at(members, "zero");
-        let nice = flag_at(members, "nice");
-        let padding = share_at(members, "padding");
-        let padding_inner = share_at(members, "paddingInner");
-        let padding_outer = share_at(members, "paddingOuter");
-        let reverse = flag_at(members, "reverse");
-        let range = range_at(alloc, members, "range")?;
-        let domain = parts::found_at(alloc, members, "domain")?;
+        let (range, domain) = both(
+            range_at(alloc, members, "range"),
+            parts::found_at(alloc, members, "domain"),
+        )?;
         Ok(Scale {
-            type_,
+            type_: scale_kind_at(members, "type"),
             domain,
             range,
-            scheme,
-            zero,
-            nice,
-            padding,
-            padding_inner,
-            padding_outer,
-            reverse,
+            scheme: named_at(members, "scheme"),
+            zero: flag_at(members, "zero"),
+            nice: flag_at(members, "nice"),
+            padding: share_at(members, "padding"),
+            padding_inner: share_at(members, "paddingInner"),
+            padding_outer: share_at(members, "paddingOuter"),
+            reverse: flag_at(members, "reverse"),
         })
     }
 }

@@ -3,14 +3,15 @@ ghost use Rattle.std.specs.Prelude.{◌≡◌, Some, IfOk};
 ghost use Rattle.vl_spec.specs.declared.marks.Mark.TheVariants as mark;
 ghost use Rattle.vl_spec.specs.declared.params.Select.TheVariants as select;
 ghost use Rattle.vl_spec.specs.declared.params.ParamKind.TheVariants as kind;
-ghost use Rattle.vl_building.specs.Marks.{is_sign, sign_size_at, mark_definition_of, mark_named, mark_in, mark_at, clear_in, toggle_in, select_definition_of, select_named, select_in, selection_of, param_kind_of, param_of};
+ghost use Rattle.vl_building.specs.Marks.{is_sign, sign_size_at, mark_definition_of, mark_named, mark_in, mark_at, clear_in, toggle_in, select_definition_of};
+ghost use Rattle.vl_building.specs.Marks.{select_named, select_in, selection_of, param_kind_of, param_of};
 
 use crate::fields::Fields;
 use crate::names::{ByName, named_at, select_event_at};
 use crate::numbers::{count_at, number_between, share_at};
 use crate::parts;
 use crate::parts::{Items, Plain, Value, each_at, needed_expression, plain_at};
-use crate::several::Part;
+use crate::several::{Part, both};
 use crate::tables::channels_at;
 use cell_value::Cell;
 use fixed_num::Num;
@@ -56,32 +57,20 @@ fn mark_definition_of(members: &[Member]) -> Result<Option<Mark>, OutOfMemory>
     ensures { IfOk result (λ of. of ≡ Some (mark.Definition (mark_definition_of members.now))) }
 {
     let type_ = named_at(members, "type").unwrap_or(MarkType::Bar);
-    let opacity = share_at(members, "opacity");
-    let filled = flag_at(members, "filled");
-    let point = flag_at(members, "point");
-    let size = sign_size_at(type_, members, "size");
-    let stroke_width = number_between(members, "strokeWidth", 0, MOST_LOOK);
-    let align = named_at(members, "align");
-    let baseline = named_at(members, "baseline");
-    let dx = number_between(members, "dx", LEAST_SHIFT, MOST_SHIFT);
-    let dy = number_between(members, "dy", LEAST_SHIFT, MOST_SHIFT);
-    let font_size = count_at(members, "fontSize");
-    let interpolate = named_at(members, "interpolate");
-    let color = text_at(members, "color")?;
     Ok(Some(Mark::Definition(MarkDefinition {
+        color: text_at(members, "color")?,
         type_,
-        color,
-        opacity,
-        filled,
-        point,
-        size,
-        stroke_width,
-        align,
-        baseline,
-        dx,
-        dy,
-        font_size,
-        interpolate,
+        opacity: share_at(members, "opacity"),
+        filled: flag_at(members, "filled"),
+        point: flag_at(members, "point"),
+        size: sign_size_at(type_, members, "size"),
+        stroke_width: number_between(members, "strokeWidth", 0, MOST_LOOK),
+        align: named_at(members, "align"),
+        baseline: named_at(members, "baseline"),
+        dx: number_between(members, "dx", LEAST_SHIFT, MOST_SHIFT),
+        dy: number_between(members, "dy", LEAST_SHIFT, MOST_SHIFT),
+        font_size: count_at(members, "fontSize"),
+        interpolate: named_at(members, "interpolate"),
     })))
 }
 
@@ -167,18 +156,17 @@ fn select_definition_of(alloc: Global, members: &[Member]) -> Result<Option<Sele
     ensures { IfOk result (λ of. of ≡ Some (select.Definition (select_definition_of members.now))) }
 {
     let type_ = named_at(members, "type").unwrap_or(SelectType::Point);
-    let on = select_event_at(members, type_, "on");
-    let clear = plain_at(members, "clear");
-    let toggle = plain_at(members, "toggle");
-    let encodings = channels_at(alloc, members, "encodings")?;
-    let fields = each_at::<Text, Fields>(alloc, members, "fields")?;
+    let (encodings, fields) = both(
+        channels_at(alloc, members, "encodings"),
+        each_at::<Text, Fields>(alloc, members, "fields"),
+    )?;
     Ok(Some(Select::Definition(SelectDefinition {
         type_,
         fields,
         encodings,
-        on,
-        clear,
-        toggle,
+        on: select_event_at(members, type_, "on"),
+        clear: plain_at(members, "clear"),
+        toggle: plain_at(members, "toggle"),
     })))
 }
 
@@ -207,8 +195,10 @@ impl Value for Select {
 fn selection_of(alloc: Global, members: &[Member]) -> Result<ParamKind, OutOfMemory>
     ensures { IfOk result (λ of. of ≡ kind.Select (selection_of members.now)) }
 {
-    let views = each_at::<Text, Items>(alloc, members, "views")?;
-    let select = parts::found_at(alloc, members, "select")?;
+    let (views, select) = both(
+        each_at::<Text, Items>(alloc, members, "views"),
+        parts::found_at(alloc, members, "select"),
+    )?;
     Ok(ParamKind::Select(Selection {
         views,
         select: select.unwrap_or(Select::Type(SelectType::Point)),
@@ -234,7 +224,9 @@ fn param_kind_of(alloc: Global, members: &[Member]) -> Result<ParamKind, OutOfMe
 pub fn param_of(alloc: Global, members: &[Member]) -> Result<ParamOf, OutOfMemory>
     ensures { IfOk result (λ param. param ≡ param_of members.now) }
 {
-    let name = needed_text(alloc, members, "name")?;
-    let kind = param_kind_of(alloc, members)?;
+    let (name, kind) = both(
+        needed_text(alloc, members, "name"),
+        param_kind_of(alloc, members),
+    )?;
     Ok(ParamOf { name, kind })
 }

@@ -1,7 +1,9 @@
 // What names stand for.
 ghost use Rattle.std.specs.Prelude.{◌≡◌};
 ghost use Rattle.vl_spec.specs.declared.params.SelectType.TheVariants as select_type;
-ghost use Rattle.vl_building.specs.Names.{named_at, named_in, order_named, offset_named, format_kind_named, parse_kind_named, mark_type_named, align_named, baseline_named, interpolate_named, select_type_named, select_event_named, field_type_named, scheme_named, sharing_named, side_named, autosize_named};
+ghost use Rattle.vl_building.specs.Names.{named_at, named_in, order_named, offset_named, format_kind_named, parse_kind_named, mark_type_named, align_named};
+ghost use Rattle.vl_building.specs.Names.{baseline_named, interpolate_named, select_type_named, select_event_named, field_type_named, scheme_named};
+ghost use Rattle.vl_building.specs.Names.{sharing_named, side_named, autosize_named};
 
 use crate::words::{Word, word_in};
 use json_exact::{Json, Member};

@@ -145,18 +145,6 @@ pub fn given_by<T: OfMember + Drop>(
     Ok(out)
 }
 
-/// What an object of these members is, and a value.
-pub fn object_with<A: Object, T: Drop>(
-    alloc: Global,
-    members: &[Member],
-    value: T,
-) -> Result<(A, T), OutOfMemory>
-    ensures { IfOk result (λ both. both ≡ (A.built members.now, value)) }
-{
-    let object = A::of_members(alloc, members)?;
-    Ok((object, value))
-}
-
 /// What each item of the list under a name is in a reading.
 pub fn each_at<T: Drop, R: Reads<Json, T>>(
     alloc: Global,

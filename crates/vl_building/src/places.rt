@@ -2,7 +2,8 @@
 ghost use Rattle.std.specs.Prelude.{◌≡◌, ◌++◌, [], IfOk, OnOk};
 ghost use Rattle.std.specs.Option.{option_map, option_to_list, unwrap_or};
 ghost use Rattle.vl_building.specs.Transforms.{transform_of};
-ghost use Rattle.vl_building.specs.Views.{child, member_number, member_place, source_of, lookup_source, transform_at, transforms_in, param_number, numbers_in, list_given};
+ghost use Rattle.vl_building.specs.Views.{child, member_number, member_place, source_of, lookup_source, transform_at, transforms_in, param_number, numbers_in};
+ghost use Rattle.vl_building.specs.Views.{list_given};
 ghost use Rattle.vl_building.specs.inner.Named.{shown};
 
 use crate::naming::{Named, param_at, source_at};

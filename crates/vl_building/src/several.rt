@@ -1,5 +1,5 @@
 // What stands under several names at once.
-ghost use Rattle.std.specs.Prelude.{◌≡◌, IfOk};
+ghost use Rattle.std.specs.Prelude.{◌≡◌, Ok, IfOk};
 ghost use Rattle.tree_readers.specs.Parts.{list_at, object_at, text_at};
 
 use crate::parts;
@@ -75,50 +75,48 @@ pub fn three_parts<A: Part + Drop, B: Part + Drop, C: Part>(
     Ok((a, b, C::part_at(alloc, members, c)?))
 }
 
-/// What stands under four names.
-pub fn four_parts<A: Part + Drop, B: Part + Drop, C: Part + Drop, D: Part>(
-    alloc: Global,
-    members: &[Member],
-    a: &str,
-    b: &str,
-    c: &str,
-    d: &str,
-) -> Result<(A, B, C, D), OutOfMemory>
-    ensures { IfOk result (λ parts. parts ≡ (A.part members.now a.now, B.part members.now b.now, C.part members.now c.now, D.part members.now d.now)) }
+/// Two values, where both are there.
+#[inline(never)]
+pub fn both<A: Drop, B: Drop>(
+    a: Result<A, OutOfMemory>,
+    b: Result<B, OutOfMemory>,
+) -> Result<(A, B), OutOfMemory>
+    ensures first { IfOk result (λ all. a ≡ Ok all.0) }
+    ensures second { IfOk result (λ all. b ≡ Ok all.1) }
 {
-    let (a, b) = two_parts(alloc, members, a, b)?;
-    let (c, d) = two_parts(alloc, members, c, d)?;
-    Ok((a, b, c, d))
+    let a = a?;
+    Ok((a, b?))
 }
 
-/// What stands under six names.
-pub fn six_parts<
-    A: Part + Drop,
-    B: Part + Drop,
-    C: Part + Drop,
-    D: Part + Drop,
-    E: Part + Drop,
-    F: Part,
->(
-    alloc: Global,
-    members: &[Member],
-    a: &str,
-    b: &str,
-    c: &str,
-    d: &str,
-    e: &str,
-    f: &str,
-) -> Result<(A, B, C, D, E, F), OutOfMemory>
-    ensures { IfOk result (λ parts. parts ≡ (
-      A.part members.now a.now,
-      B.part members.now b.now,
-      C.part members.now c.now,
-      D.part members.now d.now,
-      E.part members.now e.now,
-      F.part members.now f.now,
-    )) }
+/// Three values, where all are there.
+#[inline(never)]
+pub fn all_three<A: Drop, B: Drop, C: Drop>(
+    a: Result<A, OutOfMemory>,
+    b: Result<B, OutOfMemory>,
+    c: Result<C, OutOfMemory>,
+) -> Result<(A, B, C), OutOfMemory>
+    ensures first { IfOk result (λ all. a ≡ Ok all.0) }
+    ensures second { IfOk result (λ all. b ≡ Ok all.1) }
+    ensures third { IfOk result (λ all. c ≡ Ok all.2) }
 {
-    let (a, b, c) = three_parts(alloc, members, a, b, c)?;
-    let (d, e, f) = three_parts(alloc, members, d, e, f)?;
-    Ok((a, b, c, d, e, f))
+    let (a, b) = both(a, b)?;
+    Ok((a, b, c?))
+}
+
+/// Four values, where all are there.
+#[inline(never)]
+pub fn all_four<A: Drop, B: Drop, C: Drop, D: Drop>(
+    a: Result<A, OutOfMemory>,
+    b: Result<B, OutOfMemory>,
+    c: Result<C, OutOfMemory>,
+    d: Result<D, OutOfMemory>,
+) -> Result<(A, B, C, D), OutOfMemory>
+    ensures first { IfOk result (λ all. a ≡ Ok all.0) }
+    ensures second { IfOk result (λ all. b ≡ Ok all.1) }
+    ensures third { IfOk result (λ all. c ≡ Ok all.2) }
+    ensures fourth { IfOk result (λ all. d ≡ Ok all.3) }
+{
+    let (a, b) = both(a, b)?;
+    let (c, d) = both(c, d)?;
+    Ok((a, b, c, d))
 }

@@ -1,7 +1,8 @@
 // The sources that data names.
 ghost use Rattle.std.specs.Prelude.{◌≡◌, ◌++◌, ◌==◌, false, [], ◌∷◌, IfOk, OnOk};
 ghost use Rattle.std.specs.Option.{option_copied, option_map_or, option_to_list};
-ghost use Rattle.vl_building.specs.Sources.{gives, is_unnamed, source_name, name_behind, count_behind, named_behind, named_from, of_dataset, of_data, giver_or, source_for, first_source, source_at, sources_with, sources_of};
+ghost use Rattle.vl_building.specs.Sources.{gives, is_unnamed, source_name, name_behind, count_behind, named_behind, named_from, of_dataset, of_data, giver_or};
+ghost use Rattle.vl_building.specs.Sources.{source_for, first_source, source_at, sources_with, sources_of};
 ghost use Rattle.vl_building.specs.inner.Index.{at_number};
 ghost use Rattle.vl_building.specs.inner.Finding.{rows_numbered, first_numbered, found_by, Finds};
 
@@ -9,10 +10,11 @@ use crate::data::DataAt;
 use crate::index::{DatasetNames, GiverNames, SourceNames, indexed, name_numbers};
 use crate::keyed::{Keyed, number_at};
 use crate::naming::NamedData;
+use crate::several::{all_three, both};
 use json_exact::{Json, Member};
 use std::alloc::Global;
-use text_kit::{Copies, OutOfMemory, Seq, Text};
-use vl_spec::{Format, SourceOf};
+use text_kit::{Copies, OutOfMemory, Seq, Text, copied_three, copied_two};
+use vl_spec::SourceOf;
 
 /// Whether data gives rows, and isn't a name alone.
 pub fn gives(at: &DataAt) -> bool
@@ -63,18 +65,6 @@ fn count_behind(number: usize, at: &DataAt) -> Result<usize, OutOfMemory>
     }
 }
 
-// The name of the source of data, and how many unnamed ones stand before the next.
-fn next_source(
-    alloc: Global,
-    number: usize,
-    at: &DataAt,
-) -> Result<(Option<Text>, usize), OutOfMemory>
-    ensures { IfOk result (λ next. next ≡ (name_behind number at.now, count_behind number at.now)) }
-{
-    let count = count_behind(number, at)?;
-    Ok((name_behind(alloc, number, at)?, count))
-}
-
 // Adds data with the name of its source. The number is that of the unnamed ones before the next.
 fn push_named(
     alloc: Global,
@@ -85,7 +75,7 @@ fn push_named(
     ensures added { OnOk result (out.new ≡ out.old ++ named_behind number at ∷ []) }
     ensures count { IfOk result (λ count. count ≡ count_behind number at) }
 {
-    let (source, count) = next_source(alloc, number, &at)?;
+    let (source, count) = both(name_behind(alloc, number, &at), count_behind(number, &at))?;
     out.push(NamedData { source, data_: at })?;
     Ok(count)
 }
@@ -112,18 +102,6 @@ fn copied_rows(alloc: Global, rows: &Option<Json>) -> Result<Option<Json>, OutOf
     }
 }
 
-// Copies of a name and a format.
-fn name_and_format(
-    alloc: Global,
-    name: &Text,
-    format: &Option<Format>,
-) -> Result<(Text, Option<Format>), OutOfMemory>
-    ensures { IfOk result (λ copies. copies ≡ (name.now, format.now)) }
-{
-    let name = name.copy()?;
-    Ok((name, Copies::copied(format, alloc)?))
-}
-
 // The source of a name that a dataset gives.
 fn of_dataset(
     alloc: Global,
@@ -133,11 +111,10 @@ fn of_dataset(
 ) -> Result<SourceOf, OutOfMemory>
     ensures { IfOk result (λ source. source ≡ of_dataset name.now first.now rows.now) }
 {
-    let (name, format) = name_and_format(alloc, name, &first.format)?;
-    let values = rows.copy(alloc)?;
+    let ((name, format), rows) = both(copied_two(alloc, name, &first.format), rows.copy(alloc))?;
     Ok(SourceOf {
         name,
-        values: Some(values),
+        values: Some(rows),
         url: None,
         format,
     })
@@ -147,9 +124,10 @@ fn of_dataset(
 fn of_data(alloc: Global, name: &Text, at: &DataAt) -> Result<SourceOf, OutOfMemory>
     ensures { IfOk result (λ source. source ≡ of_data name.now at.now) }
 {
-    let (name, format) = name_and_format(alloc, name, &at.format)?;
-    let url = Copies::copied(&at.url, alloc)?;
-    let values = copied_rows(alloc, &at.values)?;
+    let ((name, format, url), values) = both(
+        copied_three(alloc, name, &at.format, &at.url),
+        copied_rows(alloc, &at.values),
+    )?;
     Ok(SourceOf {
         name,
         values,
@@ -173,9 +151,11 @@ pub struct Finders {
 fn finders_of(alloc: Global, datasets: &[Member], all: &[NamedData]) -> Result<Finders, OutOfMemory>
     ensures { IfOk result (λ finders. Finds datasets.now all.now finders) }
 {
-    let names = indexed::<NamedData, SourceNames>(alloc, all)?;
-    let givers = indexed::<NamedData, GiverNames>(alloc, all)?;
-    let datasets = indexed::<Member, DatasetNames>(alloc, datasets)?;
+    let (names, givers, datasets) = all_three(
+        indexed::<NamedData, SourceNames>(alloc, all),
+        indexed::<NamedData, GiverNames>(alloc, all),
+        indexed::<Member, DatasetNames>(alloc, datasets),
+    )?;
     Ok(Finders {
         datasets,
         names,

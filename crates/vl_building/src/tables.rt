@@ -2,7 +2,8 @@
 ghost use Rattle.std.specs.Prelude.{◌≡◌, ◌++◌, IfOk, OnOk};
 ghost use Rattle.std.specs.Option.{option_to_list};
 ghost use Rattle.std.specs.List.{filter_map};
-ghost use Rattle.vl_building.specs.Names.{named_at, named_in, below, operation_named, window_operation_named, time_unit_named, scale_kind_named, channel_named, channels_at};
+ghost use Rattle.vl_building.specs.Names.{named_at, named_in, below, operation_named, window_operation_named, time_unit_named, scale_kind_named, channel_named};
+ghost use Rattle.vl_building.specs.Names.{channels_at};
 
 use json_exact::{Json, Member};
 use std::alloc::Global;

@@ -10,6 +10,7 @@ use crate::filters::needed_filter;
 use crate::groupings::{aggregate_of, lookup_of, window_of};
 use crate::names::named_at;
 use crate::parts::{Objects, each_at, needed_each, needed_expression};
+use crate::several::{all_four, both};
 use crate::tables::time_unit_at;
 use crate::words::first_among;
 use json_exact::Member;
@@ -26,8 +27,10 @@ use vl_spec::{
 fn calculate_of(alloc: Global, members: &[Member]) -> Result<Transform, OutOfMemory>
     ensures { IfOk result (λ t. t ≡ variant.Calculate (calculate_of members.now)) }
 {
-    let as_ = needed_text(alloc, members, "as")?;
-    let calculate = needed_expression(alloc, members, "calculate")?;
+    let (as_, calculate) = both(
+        needed_text(alloc, members, "as"),
+        needed_expression(alloc, members, "calculate"),
+    )?;
     Ok(Transform::Calculate(CalculateTransform { as_, calculate }))
 }
 
@@ -46,10 +49,15 @@ fn needed_bin(members: &[Member], name: &str) -> Bin
 fn bin_of(alloc: Global, members: &[Member]) -> Result<Transform, OutOfMemory>
     ensures { IfOk result (λ t. t ≡ variant.Bin (bin_of members.now)) }
 {
-    let bin = needed_bin(members, "bin");
-    let field = needed_field(alloc, members, "field")?;
-    let as_ = needed_names(alloc, members, "as")?;
-    Ok(Transform::Bin(BinTransform { bin, field, as_ }))
+    let (field, as_) = both(
+        needed_field(alloc, members, "field"),
+        needed_names(alloc, members, "as"),
+    )?;
+    Ok(Transform::Bin(BinTransform {
+        bin: needed_bin(members, "bin"),
+        field,
+        as_,
+    }))
 }
 
 // `timeUnit`
@@ -57,11 +65,12 @@ fn bin_of(alloc: Global, members: &[Member]) -> Result<Transform, OutOfMemory>
 fn time_unit_of(alloc: Global, members: &[Member]) -> Result<Transform, OutOfMemory>
     ensures { IfOk result (λ t. t ≡ variant.TimeUnit (time_unit_of members.now)) }
 {
-    let time_unit = time_unit_at(members, "timeUnit").unwrap_or(0);
-    let field = needed_field(alloc, members, "field")?;
-    let as_ = needed_text(alloc, members, "as")?;
+    let (field, as_) = both(
+        needed_field(alloc, members, "field"),
+        needed_text(alloc, members, "as"),
+    )?;
     Ok(Transform::TimeUnit(TimeUnitTransform {
-        time_unit,
+        time_unit: time_unit_at(members, "timeUnit").unwrap_or(0),
         field,
         as_,
     }))
@@ -72,16 +81,17 @@ fn time_unit_of(alloc: Global, members: &[Member]) -> Result<Transform, OutOfMem
 fn stack_of(alloc: Global, members: &[Member]) -> Result<Transform, OutOfMemory>
     ensures { IfOk result (λ t. t ≡ variant.Stack (stack_of members.now)) }
 {
-    let offset = named_at(members, "offset");
-    let groupby = each_at::<Text, Fields>(alloc, members, "groupby")?;
-    let sort = each_at::<SortField, Objects>(alloc, members, "sort")?;
-    let stack = needed_field(alloc, members, "stack")?;
-    let as_ = needed_names(alloc, members, "as")?;
+    let (stack, groupby, sort, as_) = all_four(
+        needed_field(alloc, members, "stack"),
+        each_at::<Text, Fields>(alloc, members, "groupby"),
+        each_at::<SortField, Objects>(alloc, members, "sort"),
+        needed_names(alloc, members, "as"),
+    )?;
     Ok(Transform::Stack(StackTransform {
         stack,
         groupby,
         sort,
-        offset,
+        offset: named_at(members, "offset"),
         as_,
     }))
 }
@@ -91,8 +101,10 @@ fn stack_of(alloc: Global, members: &[Member]) -> Result<Transform, OutOfMemory>
 fn fold_of(alloc: Global, members: &[Member]) -> Result<Transform, OutOfMemory>
     ensures { IfOk result (λ t. t ≡ variant.Fold (fold_of members.now)) }
 {
-    let fold = needed_each::<Text, Fields>(alloc, members, "fold")?;
-    let as_ = two_texts_at(alloc, members, "as")?;
+    let (fold, as_) = both(
+        needed_each::<Text, Fields>(alloc, members, "fold"),
+        two_texts_at(alloc, members, "as"),
+    )?;
     Ok(Transform::Fold(FoldTransform { fold, as_ }))
 }
 

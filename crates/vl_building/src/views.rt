@@ -2,18 +2,18 @@
 ghost use Rattle.std.specs.Prelude.{◌≡◌, ◌++◌, map, codes, IfOk, OnOk};
 ghost use Rattle.vl_spec.specs.declared.views.Facet.TheVariants as facet;
 ghost use Rattle.vl_spec.specs.declared.views.ViewKind.TheVariants as view_kind;
-ghost use Rattle.tree_readers.specs.Parts.{object_at};
 ghost use Rattle.vl_building.specs.Inside.{member_gives};
-ghost use Rattle.vl_building.specs.Channels.{channel_of, encoding_of};
-ghost use Rattle.vl_building.specs.Views.{child, other_word, view_word, cross_of, facet_of, unit_of, layer_with, faceted_with, joined_with, as_view, views_given, view_given, kind_by, object_view, views_in, view_of, views_of, no_view};
+ghost use Rattle.vl_building.specs.Channels.{channel_of};
+ghost use Rattle.vl_building.specs.Views.{child, other_word, view_word, cross_of, facet_of, unit_of, layer_with, faceted_with, joined_with, as_view};
+ghost use Rattle.vl_building.specs.Views.{views_given, view_given, kind_by, object_view, views_in, view_of, views_of, no_view};
 ghost use Rattle.vl_building.specs.inner.Named.{shown};
-ghost use Rattle.vl_building.specs.inner.Heads.{head_of, view_of_head, views_inside};
+ghost use Rattle.vl_building.specs.inner.Heads.{head_of, views_inside};
 
 use crate::naming::Named;
 use crate::numbers::{count_at, space_at};
-use crate::parts::{Object, object_with, plain_at};
+use crate::parts::{Object, plain_at};
 use crate::places::{numbers_at, source_of, transforms_at};
-use crate::several::{three_parts, two_parts};
+use crate::several::{all_four, both, three_parts, two_parts};
 use crate::words::first_among;
 use crate::{parts, places};
 use json_exact::{Json, Member};
@@ -21,8 +21,8 @@ use std::alloc::Global;
 use text_kit::{Boxed, OutOfMemory, Seq, Text};
 use tree_readers::{has_member, needed_members};
 use vl_spec::{
-    Channel, CrossFacet, Encoding, Facet, Faceted, Joined, Joining, Layer, Resolve, Size,
-    Transform, Unit, View, ViewKind,
+    Channel, CrossFacet, Facet, Faceted, Joined, Joining, Layer, Resolve, Size, Transform, Unit,
+    View, ViewKind,
 };
 
 // The members of which the first decides what a view is.
@@ -48,6 +48,7 @@ fn view_word(members: &[Member]) -> &str
 }
 
 // How rows are parted into rows and columns.
+#[inline(never)]
 #[tactic(auto, unfolding(crate::specs::Views::cross_of))]
 fn cross_of(alloc: Global, members: &[Member]) -> Result<Facet, OutOfMemory>
     ensures { IfOk result (λ parted. parted ≡ facet.Cross (cross_of members.now)) }
@@ -57,6 +58,7 @@ fn cross_of(alloc: Global, members: &[Member]) -> Result<Facet, OutOfMemory>
 }
 
 // How rows are parted by one field.
+#[inline(never)]
 fn one_facet(alloc: Global, members: &[Member]) -> Result<Facet, OutOfMemory>
     ensures { IfOk result (λ parted. parted ≡ facet.One (channel_of members.now)) }
 {
@@ -80,24 +82,13 @@ impl Object for Facet {
 }
 
 // One mark.
+#[inline(never)]
 #[tactic(auto, unfolding(crate::specs::Views::unit_of))]
 fn unit_of(alloc: Global, members: &[Member]) -> Result<ViewKind, OutOfMemory>
     ensures { IfOk result (λ kind. kind ≡ view_kind.Unit (unit_of members.now)) }
 {
     let (mark, encoding) = two_parts(alloc, members, "mark", "encoding")?;
     Ok(ViewKind::Unit(Unit { mark, encoding }))
-}
-
-// The channels of a layer, and a value.
-fn encoding_with<T: Drop>(
-    alloc: Global,
-    members: &[Member],
-    value: T,
-) -> Result<(Option<Encoding>, T), OutOfMemory>
-    ensures { IfOk result (λ both. both ≡ (object_at encoding_of members.now (codes "encoding"), value)) }
-{
-    let encoding = parts::object_at(alloc, members, "encoding")?;
-    Ok((encoding, value))
 }
 
 /// What a view has of its own.
@@ -131,12 +122,12 @@ fn head_of(
 ) -> Result<Head, OutOfMemory>
     ensures { IfOk result (λ head. head ≡ head_of (shown named.now) members.now place.now) }
 {
-    let width = plain_at(members, "width");
-    let height = plain_at(members, "height");
-    let data_ = source_of(alloc, named, place, members)?;
-    let params = numbers_at(alloc, named, place, members, "params")?;
-    let transform = transforms_at(alloc, named, place, members, "transform")?;
-    let (name, title, resolve) = three_parts(alloc, members, "name", "title", "resolve")?;
+    let (data_, params, transform, (name, title, resolve)) = all_four(
+        source_of(alloc, named, place, members),
+        numbers_at(alloc, named, place, members, "params"),
+        transforms_at(alloc, named, place, members, "transform"),
+        three_parts(alloc, members, "name", "title", "resolve"),
+    )?;
     Ok(Head {
         name,
         title,
@@ -144,53 +135,13 @@ fn head_of(
         resolve,
         params,
         transform,
-        width,
-        height,
+        width: plain_at(members, "width"),
+        height: plain_at(members, "height"),
     })
 }
 
-// The same, and a value.
-fn head_with<T: Drop>(
-    alloc: Global,
-    named: &Named,
-    members: &[Member],
-    place: &[usize],
-    value: T,
-) -> Result<(Head, T), OutOfMemory>
-    ensures { IfOk result (λ both. both ≡ (head_of (shown named.now) members.now place.now, value)) }
-{
-    let head = head_of(alloc, named, members, place)?;
-    Ok((head, value))
-}
-
-// A view of this kind.
-fn view_with(head: Head, kind: ViewKind) -> View
-    ensures { result ≡ view_of_head head kind }
-{
-    let Head {
-        name,
-        title,
-        data_,
-        resolve,
-        params,
-        transform,
-        width,
-        height,
-    } = head;
-    View {
-        name,
-        title,
-        data_,
-        transform,
-        params,
-        width,
-        height,
-        resolve,
-        kind,
-    }
-}
-
 // A view without members.
+#[inline(never)]
 #[tactic(auto, unfolding(crate::specs::Views::no_view))]
 fn no_view(alloc: Global) -> View
     ensures { result ≡ no_view }
@@ -241,9 +192,31 @@ fn object_view(
     ensures { IfOk result (λ view. view
         ≡ object_view (shown named.now) members.now (member_gives (as_view (shown named.now)) members.now) place.now) }
 {
-    let kind = kind_by(alloc, named, view_word(members), members, place)?;
-    let (head, kind) = head_with(alloc, named, members, place, kind)?;
-    Ok(view_with(head, kind))
+    let (kind, head) = both(
+        kind_by(alloc, named, view_word(members), members, place),
+        head_of(alloc, named, members, place),
+    )?;
+    let Head {
+        name,
+        title,
+        data_,
+        resolve,
+        params,
+        transform,
+        width,
+        height,
+    } = head;
+    Ok(View {
+        name,
+        title,
+        data_,
+        transform,
+        params,
+        width,
+        height,
+        resolve,
+        kind,
+    })
 }
 
 // What a view is, by the member that decides.
@@ -280,8 +253,10 @@ fn layer_of(
     ensures { IfOk result (λ kind. kind
         ≡ view_kind.Layer (layer_with members.now (views_given (views_inside (shown named.now) members.now place.now (codes "layer"))))) }
 {
-    let layer = views_at(alloc, named, members, place, "layer")?;
-    let (encoding, layer) = encoding_with(alloc, members, layer)?;
+    let (layer, encoding) = both(
+        views_at(alloc, named, members, place, "layer"),
+        parts::object_at(alloc, members, "encoding"),
+    )?;
     Ok(ViewKind::Layer(Layer { layer, encoding }))
 }
 
@@ -297,15 +272,15 @@ fn faceted_of(
     ensures { IfOk result (λ kind. kind
         ≡ view_kind.Facet (faceted_with members.now (view_given (views_inside (shown named.now) members.now place.now (codes "spec"))))) }
 {
-    let columns = count_at(members, "columns");
-    let spacing = space_at(members, "spacing");
-    let view = view_at(alloc, named, members, place)?;
-    let (facet, view) = object_with(alloc, needed_members(members, "facet"), view)?;
+    let (spec, facet) = both(
+        view_at(alloc, named, members, place),
+        Facet::of_members(alloc, needed_members(members, "facet")),
+    )?;
     Ok(ViewKind::Facet(Faceted {
         facet,
-        columns,
-        spacing,
-        spec: view,
+        columns: count_at(members, "columns"),
+        spacing: space_at(members, "spacing"),
+        spec,
     }))
 }
 
@@ -323,14 +298,11 @@ fn joined_of(
     ensures { IfOk result (λ kind. kind
         ≡ view_kind.Joined (joined_with joining members.now (views_given (views_inside (shown named.now) members.now place.now name.now)))) }
 {
-    let columns = count_at(members, "columns");
-    let spacing = space_at(members, "spacing");
-    let views = views_at(alloc, named, members, place, name)?;
     Ok(ViewKind::Joined(Joined {
+        views: views_at(alloc, named, members, place, name)?,
         joining,
-        columns,
-        spacing,
-        views,
+        columns: count_at(members, "columns"),
+        spacing: space_at(members, "spacing"),
     }))
 }
 
@@ -346,25 +318,11 @@ fn view_at(
 {
     for (number, member) in members.iter().enumerate() {
         if member.name.as_str() == "spec" {
-            return boxed_view(alloc, named, &member.value, place, number);
+            let view = child_view(alloc, named, &member.value, place, number)?;
+            return Boxed::new(alloc, view);
         }
     }
     Boxed::new(alloc, no_view(alloc))
-}
-
-// The view that a child of an object at a place is, in a box.
-#[cycle(views)]
-fn boxed_view(
-    alloc: Global,
-    named: &Named,
-    tree: &Json,
-    place: &[usize],
-    number: usize,
-) -> Result<Boxed<View>, OutOfMemory>
-    ensures { IfOk result (λ view. view ≡ view_of (shown named.now) tree.now (child place.now number)) }
-{
-    let view = child_view(alloc, named, tree, place, number)?;
-    Boxed::new(alloc, view)
 }
 
 // The view that a child of a value at a place is.

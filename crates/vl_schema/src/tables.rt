@@ -1,5 +1,5 @@
 //! Tables of several objects, and several lists of names, written in the program, as values.
-ghost use Rattle.std.specs.Prelude.{◌≡◌, ◌++◌, map, IfOk, OnOk};
+ghost use Rattle.std.specs.Prelude.{◌≡◌, ◌++◌, map, OnOk};
 ghost use Rattle.vl_schema.specs.inner.Tables.{layout_of};
 
 use spec_schema::{Layout, Row, When, layout_by, names_by};
@@ -19,17 +19,6 @@ pub struct Table<'a> {
     pub others: Option<u16>,
 }
 
-// The layouts that tables write.
-fn layouts_of(alloc: Global, tables: &[Table]) -> Result<Seq<Layout>, OutOfMemory>
-    ensures { IfOk result (λ l. l ≡ map layout_of tables.now) }
-{
-    let mut out = Seq::with_capacity(alloc, tables.len())?;
-    for table in tables {
-        out.push(layout_by(alloc, table.object, table.whens, table.rows, table.others)?)?;
-    }
-    Ok(out)
-}
-
 /// Adds the layouts that tables write.
 pub fn push_layouts(
     alloc: Global,
@@ -38,18 +27,10 @@ pub fn push_layouts(
 ) -> Result<(), OutOfMemory>
     ensures { OnOk result (out.new ≡ out.old ++ map layout_of tables.now) }
 {
-    out.append(layouts_of(alloc, tables)?)
-}
-
-// Lists of names.
-fn lists_by(alloc: Global, lists: &[&[&str]]) -> Result<Seq<Seq<Text>>, OutOfMemory>
-    ensures { IfOk result (λ l. l ≡ map (λ names. map (λ name. name.now) names.now) lists.now) }
-{
-    let mut out = Seq::with_capacity(alloc, lists.len())?;
-    for names in lists {
-        out.push(names_by(alloc, names)?)?;
+    for table in tables {
+        out.push(layout_by(alloc, table.object, table.whens, table.rows, table.others)?)?;
     }
-    Ok(out)
+    Ok(())
 }
 
 /// Adds lists of names.
@@ -60,5 +41,8 @@ pub fn push_lists(
 ) -> Result<(), OutOfMemory>
     ensures { OnOk result (out.new ≡ out.old ++ map (λ names. map (λ name. name.now) names.now) lists.now) }
 {
-    out.append(lists_by(alloc, lists)?)
+    for names in lists {
+        out.push(names_by(alloc, names)?)?;
+    }
+    Ok(())
 }

@@ -97,22 +97,6 @@ fn view(
     layout_of_rules(alloc, object, tests, rules, None)
 }
 
-// The layouts of views of some kinds.
-fn kinds_of(
-    alloc: Global,
-    object: u16,
-    top: bool,
-    kinds: &[Kind],
-) -> Result<Seq<Layout>, OutOfMemory>
-    ensures { IfOk result (λ l. l ≡ map (view_of object top) kinds.now) }
-{
-    let mut out = Seq::with_capacity(alloc, kinds.len())?;
-    for kind in kinds {
-        out.push(view(alloc, object, top, kind.whens, kind.rows)?)?;
-    }
-    Ok(out)
-}
-
 /// Adds the layouts of views of some kinds, at the top or not.
 pub fn push_kinds(
     alloc: Global,
@@ -123,7 +107,10 @@ pub fn push_kinds(
 ) -> Result<(), OutOfMemory>
     ensures { OnOk result (out.new ≡ out.old ++ map (view_of object top) kinds.now) }
 {
-    out.append(kinds_of(alloc, object, top, kinds)?)
+    for kind in kinds {
+        out.push(view(alloc, object, top, kind.whens, kind.rows)?)?;
+    }
+    Ok(())
 }
 
 /// Adds the views of a place.

@@ -1,11 +1,10 @@
--- A view in two parts: what it has of its own, and what it is.
+-- What a view has of its own, and what its members hold.
 use Rattle.std.specs.Prelude.{ℕ, Option, List, [], codes}
 use Rattle.std.specs.Option.{option_map, option_and_then, unwrap_or}
 use Rattle.std.specs.List.{position_from}
 use Rattle.std.specs.Str.{bytes_eq}
 use Rattle.json_exact.specs.declared.json.Member.{Member}
-use Rattle.vl_spec.specs.declared.views.View.{View, roll-View}
-use Rattle.vl_spec.specs.declared.views.ViewKind.{ViewKind}
+use Rattle.vl_spec.specs.declared.views.View.{View}
 use Rattle.vl_building.specs.declared.views.Head.{Head}
 use Rattle.tree_readers.specs.Parts.{object_at, text_at}
 use Rattle.vl_building.specs.Inside.{member_gives}
@@ -24,20 +23,6 @@ head_of naming members place = record {
   width = size_at members (codes "width");
   height = size_at members (codes "height");
 }
-
--- a view of what it has of its own, and of what it is
-abbrev pub view_of_head : Head → ViewKind → View
-view_of_head head kind = roll-View (record {
-  name = head.name;
-  title = head.title;
-  data_ = head.data_;
-  transform = head.transform;
-  params = head.params;
-  width = head.width;
-  height = head.height;
-  resolve = head.resolve;
-  kind = kind;
-})
 
 -- what the members of a view hold
 abbrev pub views_inside : Naming → List Member → Place → List ℕ → Option (View × List View)

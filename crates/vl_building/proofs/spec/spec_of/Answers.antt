@@ -7,5 +7,6 @@ use Rattle.vl_building.proofs.spec.spec_of.Goals as goal
 pub returns : goal.returns
 returns c =
     let is : VlSpec → Type 0 = λ y. IfOk c.spec_by.result (λ s. s ≡ y) in
-    subst is (spec_is c.args.tree.now c.in_ok-named.named c.in_ok-params.params _ c.as_slice.ensures c.in_ok-params.ensures c.in_ok-named.ensures.all c.in_ok-named.ensures.naming)
+    subst is (spec_is c.args.tree.now c.in_ok-named.named c.in_ok-params.params _ c.as_slice.ensures c.in_ok-params.ensures c.in_ok-named.ensures.all
+    c.in_ok-named.ensures.naming)
     c.spec_by.ensures

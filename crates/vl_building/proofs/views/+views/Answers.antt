@@ -14,7 +14,8 @@ view_of-returns-in-Object t c =
 pub views_of-returns-in-List : goal.views_of-returns-in-List
 views_of-returns-in-List t c =
     let is : List View → Type 0 = λ y. IfOk c.views_in.result (λ vs. vs ≡ y) in
-    subst is (list_is (shown c.args.named.now) c.args.tree.now c.in-List.items _ (child c.args.place.now c.args.number) c.in-List.is c.as_slice.ensures) c.views_in.ensures
+    subst is (list_is (shown c.args.named.now) c.args.tree.now c.in-List.items _ (child c.args.place.now c.args.number) c.in-List.is
+    c.as_slice.ensures) c.views_in.ensures
 
 pub push_views-loop-number-preserved : goal.push_views-loop-number-preserved
 push_views-loop-number-preserved t c =

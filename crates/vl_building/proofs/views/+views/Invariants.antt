@@ -16,9 +16,6 @@ decreases-views_of l = 10 * size-Json l.tree.now + 1
 abbrev pub decreases-child_view : goal.decreases-child_view
 decreases-child_view l = 10 * size-Json l.tree.now + 1
 
-abbrev pub decreases-boxed_view : goal.decreases-boxed_view
-decreases-boxed_view l = 10 * size-Json l.tree.now + 2
-
 abbrev pub decreases-object_view : goal.decreases-object_view
 decreases-object_view l = 10 * goal.size-object_view l + 8
 

@@ -1,5 +1,0 @@
-use Rattle.std.proofs.Common.{◌≡◌, take, map}
-use Rattle.vl_schema.proofs.tables.lists_by.Given as goal
-
-abbrev pub invariant-loop-names : goal.invariant-loop-names
-invariant-loop-names l = l.out ≡ map (λ names. map (λ name. name.now) names.now) (take l.names-index l.lists)

@@ -1,6 +1,0 @@
-use Rattle.std.proofs.Common.{◌≡◌, take, map}
-use Rattle.vl_schema.specs.inner.Tables.{view_of}
-use Rattle.vl_schema.proofs.views.kinds_of.Given as goal
-
-abbrev pub invariant-loop-kind : goal.invariant-loop-kind
-invariant-loop-kind l = l.out ≡ map (view_of l.object l.top) (take l.kind-index l.kinds)
