@@ -3,7 +3,9 @@ use Rattle.std.proofs.Common.{◌≡◌, ℕ, List, [], ◌∷◌, map, refl, sy
 use Rattle.std.specs.Prelude.{Option, Some, None, Bool, true, false, if◌then◌else◌, codes}
 use Rattle.std.specs.Option.{option_map, option_and_then, unwrap_or}
 use Rattle.std.specs.Str.{bytes_eq}
-use Rattle.json_exact.specs.declared.json.Json.{Json, out-Json, out-roll-Json, Row_of-Json, end_of-Json, more_of-Json, items-the_row-Json, items_hidden-the_row-Json-0, Row_of-Member, end_of-Member, more_of-Member, items-the_row-Member, items_hidden-the_row-Member-1}
+use Rattle.json_exact.specs.declared.json.Json.{Json, out-Json, out-roll-Json, Row_of-Json, end_of-Json, more_of-Json, items-the_row-Json}
+use Rattle.json_exact.specs.declared.json.Json.{items_hidden-the_row-Json-0, Row_of-Member, end_of-Member, more_of-Member}
+use Rattle.json_exact.specs.declared.json.Json.{items-the_row-Member, items_hidden-the_row-Member-1}
 use Rattle.json_exact.specs.declared.json.Json.TheBlock.{hidden-the_row-Json-0, hidden-the_row-Member-1}
 use Rattle.json_exact.specs.declared.json.Json.TheVariants as json
 use Rattle.json_exact.specs.declared.json.Json.TheVariants.{rolls-Object}
@@ -20,7 +22,8 @@ items-are n end_of-Json = refl
 items-are n (more_of-Json item others) = ap (λ (marks : List VgMark). mark_of item ∷ marks) (items-are _ others)
 
 pub marks_in-List : (items : List Json) → marks_in (json.List items) ≡ Some (map mark_of items)
-marks_in-List items = ap (λ (marks : List VgMark). Some marks) (items-are _ (hidden-the_row-Json-0 items) ∙ ap (map mark_of) (items_hidden-the_row-Json-0 items))
+marks_in-List items = ap (λ (marks : List VgMark). Some marks)
+    (items-are _ (hidden-the_row-Json-0 items) ∙ ap (map mark_of) (items_hidden-the_row-Json-0 items))
 
 -- a member, or else the others
 one_more : (b : Bool) (value : Json) (here : Member) (found : Option Member) (others : Option (List VgMark)) → here.value ≡ value →
@@ -36,7 +39,8 @@ among-are n (more_of-Member name value others) = one_more (bytes_eq name (codes 
 
 pub mark_of-Object : (members : List Member) → mark_of (json.Object members) ≡ mark_with members (marks_at members (codes "marks"))
 mark_of-Object members =
-    let inside : members_of (json.Object members) ≡ members = ap (λ t. unwrap_or (members_in t) []) (ap out-Json (sym (rolls-Object members)) ∙ out-roll-Json (level.Object members)) in
+    let inside : members_of (json.Object members) ≡ members =
+    ap (λ t. unwrap_or (members_in t) []) (ap out-Json (sym (rolls-Object members)) ∙ out-roll-Json (level.Object members)) in
     ap (λ ms. mark_with ms (marks_among (hidden-the_row-Member-1 members))) inside
     ∙ ap (mark_with members) (among-are _ (hidden-the_row-Member-1 members) ∙ ap (λ ms. marks_at ms (codes "marks")) (items_hidden-the_row-Member-1 members))
 

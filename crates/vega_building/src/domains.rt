@@ -1,7 +1,8 @@
 // Domains of scales.
 ghost use Rattle.std.specs.Prelude.{◌≡◌, IfOk};
 ghost use Rattle.json_exact.specs.declared.json.Json.{out-Json};
-ghost use Rattle.vega_building.specs.Domains.{reference_of, domain_order_of, domain_order_in, domain_order_at, field_domain_of, needed_references, fields_domain_of, domain_of, domain_in, domain_at, needed_domain};
+ghost use Rattle.vega_building.specs.Domains.{reference_of, domain_order_of, domain_order_in, domain_order_at, field_domain_of};
+ghost use Rattle.vega_building.specs.Domains.{needed_references, fields_domain_of, domain_of, domain_in, domain_at, needed_domain};
 
 use crate::names::order_at;
 use crate::parts::{

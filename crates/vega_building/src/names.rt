@@ -1,6 +1,8 @@
 // What names stand for.
 ghost use Rattle.std.specs.Prelude.{◌≡◌};
-ghost use Rattle.vega_building.specs.Names.{named_at, named_in, order_named, order_of, format_kind_named, parse_kind_named, parse_kind_of, offset_named, selector_named, needed_selector, mark_type_named, needed_mark_type, header_named, maybe_header, side_named, needed_side, edge_named, autosize_named};
+ghost use Rattle.vega_building.specs.Names.{named_at, named_in, order_named, order_of, format_kind_named, parse_kind_named, parse_kind_of};
+ghost use Rattle.vega_building.specs.Names.{offset_named, selector_named, needed_selector, mark_type_named, needed_mark_type, header_named};
+ghost use Rattle.vega_building.specs.Names.{maybe_header, side_named, needed_side, edge_named, autosize_named};
 
 use crate::parts::{Item, word_at};
 use crate::values::text_in;

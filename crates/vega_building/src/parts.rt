@@ -3,7 +3,9 @@ ghost use Rattle.std.specs.Prelude.{◌≡◌, map, IfOk, codes};
 ghost use Rattle.std.specs.Option.{option_copied};
 ghost use Rattle.json_exact.specs.Inside.{items_in, members_in};
 ghost use Rattle.json_exact.specs.Path.{member_value};
-ghost use Rattle.vega_building.specs.Parts.{found_at, has_member, list_at, object_at, members_of, text_of, cell_of, flag_at, number_at, text_at, cell_at, needed_text, needed_texts, two_texts, two_texts_at, expression_at, needed_expression, signal_at};
+ghost use Rattle.vega_building.specs.Parts.{found_at, has_member, list_at, object_at, members_of, text_of, cell_of, flag_at, number_at};
+ghost use Rattle.vega_building.specs.Parts.{text_at, cell_at, needed_text, needed_texts, two_texts, two_texts_at, expression_at};
+ghost use Rattle.vega_building.specs.Parts.{needed_expression, signal_at};
 
 use crate::values::{
     cell_in, flag_in, items_in, member_value, members_in, members_of, number_in, text_in, text_of,

@@ -1,5 +1,5 @@
 // Marks, groups and whole specifications.
-ghost use Rattle.std.specs.Prelude.{◌≡◌, map, codes, IfOk};
+ghost use Rattle.std.specs.Prelude.{◌≡◌, ◌∷◌, ◌++◌, [], map, codes, IfOk, OnOk};
 ghost use Rattle.json_exact.specs.declared.json.Json.{out-Json};
 ghost use Rattle.vega_building.specs.Parts.{object_at};
 ghost use Rattle.vega_building.specs.Orders.{sort_of};
@@ -94,25 +94,44 @@ fn mark_with(
     })
 }
 
-// The mark that a value is; one that is no object is a mark without members.
+// Adds the mark of these members, the marks inside it being these. A mark is wide, so it stands on the stack only here, where nothing
+// inside it is read any more.
+#[inline(never)]
+fn push_mark(
+    alloc: Global,
+    members: &[Member],
+    inside: Option<Seq<VgMark>>,
+    marks: &mut Seq<VgMark>,
+) -> Result<(), OutOfMemory>
+    ensures { OnOk result (marks.new ≡ marks.old ++ mark_with members.now inside ∷ []) }
+{
+    let mark = mark_with(alloc, members, inside)?;
+    marks.push(mark)
+}
+
+// Adds the mark that a value is; one that is no object is a mark without members.
 #[cycle(marks)]
-fn mark_of(alloc: Global, tree: &Json) -> Result<VgMark, OutOfMemory>
-    ensures { IfOk result (λ mark. mark ≡ mark_of tree.now) }
+fn push_mark_of(alloc: Global, tree: &Json, marks: &mut Seq<VgMark>) -> Result<(), OutOfMemory>
+    ensures { OnOk result (marks.new ≡ marks.old ++ mark_of tree.now ∷ []) }
 {
     match tree {
-        Json::Object(members) => object_mark(alloc, members.as_slice()),
+        Json::Object(members) => push_object_mark(alloc, members.as_slice(), marks),
         Json::Null | Json::Flag(_) | Json::Number(_) | Json::Huge | Json::Text(_) | Json::List(_) =>
-            mark_with(alloc, &[], None),
+            push_mark(alloc, &[], None, marks),
     }
 }
 
-// The mark of these members.
+// Adds the mark of these members.
 #[cycle(marks)]
-fn object_mark(alloc: Global, members: &[Member]) -> Result<VgMark, OutOfMemory>
-    ensures { IfOk result (λ mark. mark ≡ mark_with members.now (marks_at members.now (codes "marks"))) }
+fn push_object_mark(
+    alloc: Global,
+    members: &[Member],
+    marks: &mut Seq<VgMark>,
+) -> Result<(), OutOfMemory>
+    ensures { OnOk result (marks.new ≡ marks.old ++ mark_with members.now (marks_at members.now (codes "marks")) ∷ []) }
 {
-    let marks = marks_at(alloc, members)?;
-    mark_with(alloc, members, marks)
+    let inside = marks_at(alloc, members)?;
+    push_mark(alloc, members, inside, marks)
 }
 
 // The marks that each item is.
@@ -122,7 +141,7 @@ fn marks_of(alloc: Global, items: &[Json]) -> Result<Seq<VgMark>, OutOfMemory>
 {
     let mut marks = Seq::new(alloc);
     for tree in items {
-        marks.push(mark_of(alloc, tree)?)?;
+        push_mark_of(alloc, tree, &mut marks)?;
     }
     Ok(marks)
 }

@@ -2,7 +2,8 @@
 ghost use Rattle.std.specs.Prelude.{◌≡◌, IfOk};
 ghost use Rattle.json_exact.specs.declared.json.Json.{out-Json};
 ghost use Rattle.vega_building.specs.Parts.{members_of};
-ghost use Rattle.vega_building.specs.Transforms.{filter_of, formula_of, extent_of, numbers_in, extent_signal, bin_extent_in, bin_extent_at, needed_bin_extent, bin_of, time_unit_of, stack_of, fold_of, transform_by, transform_of};
+ghost use Rattle.vega_building.specs.Transforms.{filter_of, formula_of, extent_of, numbers_in, extent_signal, bin_extent_in, bin_extent_at};
+ghost use Rattle.vega_building.specs.Transforms.{needed_bin_extent, bin_of, time_unit_of, stack_of, fold_of, transform_by, transform_of};
 
 use crate::groupings::{aggregate_of, lookup_of, window_of};
 use crate::names::offset_at;

@@ -4,11 +4,11 @@ use Rattle.json_exact.specs.declared.json.Json.{size-Json}
 use Rattle.vega_building.specs.Spec.{mark_of, marks_at}
 use Rattle.vega_building.proofs.spec.+marks.Given as goal
 
-abbrev pub decreases-mark_of : goal.decreases-mark_of
-decreases-mark_of l = 6 * size-Json l.tree.now
+abbrev pub decreases-push_mark_of : goal.decreases-push_mark_of
+decreases-push_mark_of l = 6 * size-Json l.tree.now
 
-abbrev pub decreases-object_mark : goal.decreases-object_mark
-decreases-object_mark l = 6 * goal.size-object_mark l + 3
+abbrev pub decreases-push_object_mark : goal.decreases-push_object_mark
+decreases-push_object_mark l = 6 * goal.size-push_object_mark l + 3
 
 abbrev pub decreases-marks_at : goal.decreases-marks_at
 decreases-marks_at l = 6 * goal.size-marks_at l + 2
