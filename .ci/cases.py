@@ -1,5 +1,6 @@
 #!/usr/bin/env python3
-"""Replays the cases of cases/ on the built program, many at once: python3 .ci/cases.py [PROGRAM [FILE..]].
+"""Replays the cases of cases/ on the built program, many at once: python3 .ci/cases.py [PROGRAM [FILE..]]; FILE=NAME replays those of a file
+whose name has NAME in it.
 
 A file of cases is a description, parts that all of its cases share, and cases. `=== NAME` begins a case, `--- HEAD` a part:
 - `--- $ COMMAND` is run by sh, `chart` being the program: its lines behind `> ` are its standard input, the others what it has to write.
@@ -137,17 +138,17 @@ def main(words):
     if not os.access(program, os.X_OK):
         sys.exit(f"cases: there is no program {program}: ./chart --prove builds it")
     env = {**os.environ, "PROGRAM": os.path.abspath(program)}
-    files = words[1:]
-    if not files:
+    wanted = [word.partition("=")[::2] for word in words[1:]]
+    if not wanted:
         for folder, _, names in sorted(os.walk(f"{TOP}/cases")):
-            files += [f"{folder}/{it}" for it in sorted(names) if it.endswith(".cases")]
+            wanted += [(f"{folder}/{it}", "") for it in sorted(names) if it.endswith(".cases")]
     jobs = []
     with ThreadPoolExecutor(2 * (os.cpu_count() or 1)) as pool:
-        for file in files:
+        for file, name in wanted:
             with open(file, "rb") as it:
                 shared, cases = parts_of(it.read())
             shown = os.path.relpath(file, TOP)
-            jobs += [pool.submit(replay, shown, shared, case, env) for case in cases]
+            jobs += [pool.submit(replay, shown, shared, case, env) for case in cases if name in case[0]]
         told = [job.result() for job in jobs]
     failed = [it for it in told if it]
     for lines in failed:

@@ -28,5 +28,6 @@ few_made f rows p q =
     let size = product (length rows) (length f.fields) q p in
     omega (arith, length_folded f rows, fits, size)
 
-pub made_below : (f : FoldOf) (rows : List Keyed) (most : ℕ) (out : List Keyed) → BranchesBelow most rows → out ≡ folded f rows → BranchesBelow (most * length f.fields) out
+pub made_below : (f : FoldOf) (rows : List Keyed) (most : ℕ) (out : List Keyed)
+    → BranchesBelow most rows → out ≡ folded f rows → BranchesBelow (most * length f.fields) out
 made_below f rows most out h e = subst (BranchesBelow (most * length f.fields)) (sym e) (branches_below f most rows h)

@@ -1,6 +1,6 @@
 //! A table of calls. A line has what is expected, a tab, the name of a call, a tab, and what the call is told, in words between tabs:
 //! `tick` and `time` with what is asked of them, `layout` and `titles` a tree of boxes, and the calls over rows, whose rows stand last. It
-//! writes each line of which something else is found, and how many lines there were. `bench/call_table.py` writes the table.
+//! writes each line of which something else is found, and how many lines there were. `oracles/call_table.py` writes the table.
 #![tactic(auto)]
 
 mod bins;

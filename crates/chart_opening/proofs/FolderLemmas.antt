@@ -11,8 +11,8 @@ use Rattle.chart_io.specs.Outside.{Files, Kept, Rose}
 use Rattle.chart_opening.specs.declared.refusal.Refusal.{Refusal}
 use Rattle.chart_opening.specs.declared.refusal.OpenStop.{OpenStop}
 use Rattle.chart_opening.specs.declared.refusal.OpenStop.TheVariants as outer
-use Rattle.chart_opening.specs.declared.refusal.Stop.{Stop}
-use Rattle.chart_opening.specs.declared.refusal.Stop.TheVariants as stop
+use Rattle.chart_opening.specs.declared.refusal.StepStop.{StepStop}
+use Rattle.chart_opening.specs.declared.refusal.StepStop.TheVariants as stop
 use Rattle.chart_opening.specs.Answers.{cause, Opens}
 use Rattle.chart_opening.specs.Sources.{all_of}
 use Rattle.chart_opening.specs.inner.Folders.{IsReadFault, IsRead}
@@ -115,7 +115,7 @@ module _ {X : Type 0} (a : ℕ) (told : Option Files) (given : Result X Refusal)
     told_here : {P : Type 0} → P → IfSome told (λ files. P)
     told_here {P} p = elim told as (λ o. IfSome o (λ files. P)) [ None ↦ tt | Some files ↦ p ]
 
-  quiet_stop : (why : Stop) → IsFault (refusal_of why) given → IsRead {X = X} a a told told (Err (open_stop why)) (λ files. given)
+  quiet_stop : (why : StepStop) → IsFault (refusal_of why) given → IsRead {X = X} a a told told (Err (open_stop why)) (λ files. given)
   quiet_stop (stop.Refused why) is = record {
     counted = omega arith;
     stays = kept_still told;
@@ -129,7 +129,7 @@ module _ {X : Type 0} (a : ℕ) (told : Option Files) (given : Result X Refusal)
     is = elim told as (λ o. IfSome o (λ files. Unit {0})) [ None ↦ tt | Some files ↦ tt ];
   }
 
-  pub quiet_fault : (e : OpenStop) (why : Stop) → e ≡ open_stop why → IsFault (refusal_of why) given
+  pub quiet_fault : (e : OpenStop) (why : StepStop) → e ≡ open_stop why → IsFault (refusal_of why) given
       → IsRead {X = X} a a told told (Err e) (λ files. given)
   quiet_fault e why same is =
       let at : OpenStop → Type 0 = λ r. IsRead {X = X} a a told told (Err r) (λ files. given) in
@@ -229,13 +229,13 @@ pub no_memory_from : (X : Type 0) (a b : ℕ) (told tells : Option Files) (given
 no_memory_from X a b told tells given (Ok x) is counted stays = absurd is
 no_memory_from X a b told tells given (Err e) is counted stays = no_memory_as X a b told tells given e is counted stays
 
-pub quiet_from : {X : Type 0} (a : ℕ) (told : Option Files) (given : Result X Refusal) (why : Stop) (result : Result X OpenStop)
+pub quiet_from : {X : Type 0} (a : ℕ) (told : Option Files) (given : Result X Refusal) (why : StepStop) (result : Result X OpenStop)
     → IsErrAnd result (λ e. e ≡ open_stop why) → IsFault (refusal_of why) given → IsRead a a told told result (λ files. given)
 quiet_from a told given why (Ok x) is fault = absurd is
 quiet_from a told given why (Err e) is fault = quiet_fault a told given e why is fault
 
 -- a step that reads no file stopped, and so the whole
-pub stopped_from : {X Y : Type 0} (a : ℕ) (told : Option Files) (given : Result X Refusal) (next : Files → X → Result Y Refusal) (why : Stop)
+pub stopped_from : {X Y : Type 0} (a : ℕ) (told : Option Files) (given : Result X Refusal) (next : Files → X → Result Y Refusal) (why : StepStop)
     (result : Result Y OpenStop) → IsErrAnd result (λ e. e ≡ open_stop why) → IsFault (refusal_of why) given
     → IsRead a a told told result (λ files. given >>= next files)
 stopped_from a told given next why (Ok x) is fault = absurd is

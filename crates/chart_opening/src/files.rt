@@ -10,7 +10,7 @@ ghost use Rattle.chart_opening.specs.inner.Reading.{the_reading};
 ghost use Rattle.chart_opening.specs.inner.Stops.{Gives};
 ghost use Rattle.chart_opening.specs.inner.Trees.{IsFileTree};
 
-use crate::refusal::{OpenStop, Refusal, Stop};
+use crate::refusal::{OpenStop, Refusal, StepStop};
 use chart_io::{Failed, Folder, Got, zeros};
 use json_exact::{Json, JsonError};
 use std::alloc::{AllocError, Global};
@@ -96,17 +96,17 @@ pub fn read_file<F: Folder>(alloc: Global, folder: &mut F, name: &str) -> Result
 }
 
 // The tree of bytes that a file of this name has.
-fn tree_in(alloc: Global, name: &str, bytes: &[u8]) -> Result<Json, Stop>
+fn tree_in(alloc: Global, name: &str, bytes: &[u8]) -> Result<Json, StepStop>
     ensures value { Gives result (tree_in the_reading name.now bytes.now) }
     ensures reads { IfOk result (Reads bytes.now) }
 {
     match json_exact::read(alloc, bytes) {
         Ok(tree) => Ok(tree),
-        Err(JsonError::Fault { at }) => Err(Stop::Refused(Refusal::Json(
+        Err(JsonError::Fault { at }) => Err(StepStop::Refused(Refusal::Json(
             Text::of(alloc, name)?,
             at,
         ))),
-        Err(JsonError::Memory) => Err(Stop::Memory),
+        Err(JsonError::Memory) => Err(StepStop::Memory),
     }
 }
 

@@ -9,7 +9,7 @@ ghost use Rattle.chart_opening.specs.inner.Reading.{the_reading};
 ghost use Rattle.chart_opening.specs.inner.Rows.{state_read};
 ghost use Rattle.chart_opening.specs.inner.Stops.{Gives};
 
-use crate::refusal::{OpenStop, Refusal, Stop};
+use crate::refusal::{OpenStop, Refusal, StepStop};
 use crate::rows::{all_read, all_rows, count_rows};
 use crate::sources::source_sets;
 use crate::states::state_with;
@@ -25,14 +25,14 @@ fn state_within(
     g: &VgSpec,
     sets: &[&DataSet],
     rows: Seq<Seq<Row>>,
-) -> Result<ChartState, Stop>
+) -> Result<ChartState, StepStop>
     requires sets { map (λ s. s.now) sets.now ≡ source_sets g.now }
     requires number { length rows ≡ length sets.now }
     ensures { Gives result (state_within g.now rows) }
 {
     match count_rows(rows.as_slice()) {
         Some(count) => Ok(state_with(alloc, g, sets, rows, count)?),
-        None => Err(Stop::Refused(Refusal::Rows)),
+        None => Err(StepStop::Refused(Refusal::Rows)),
     }
 }
 
@@ -42,7 +42,7 @@ fn state_read(
     g: &VgSpec,
     sets: &[&DataSet],
     read: Seq<Result<Seq<Row>, Refusal>>,
-) -> Result<ChartState, Stop>
+) -> Result<ChartState, StepStop>
     requires sets { map (λ s. s.now) sets.now ≡ source_sets g.now }
     requires number { length read ≡ length sets.now }
     ensures { Gives result (state_read g.now read) }

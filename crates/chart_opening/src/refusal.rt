@@ -1,7 +1,7 @@
 //! Why files are refused.
 ghost use Rattle.std.specs.Prelude.{◌≡◌};
 ghost use Rattle.chart_opening.specs.declared.refusal.OpenStop.TheVariants as outer;
-ghost use Rattle.chart_opening.specs.declared.refusal.Stop.TheVariants as stop;
+ghost use Rattle.chart_opening.specs.declared.refusal.StepStop.TheVariants as stop;
 ghost use Rattle.chart_opening.specs.inner.Stops.{open_stop};
 
 use json_exact::SpecKind;
@@ -42,26 +42,26 @@ pub enum OpenStop {
 
 /// Why a step that reads no file stops.
 #[derive(Debug, Drop)]
-pub enum Stop {
+pub enum StepStop {
     /// What was read is refused.
     Refused(Refusal),
     /// Memory was refused.
     Memory,
 }
 
-impl From<OutOfMemory> for Stop {
+impl From<OutOfMemory> for StepStop {
     ghost from_gives = { λ _ e. e ≡ stop.Memory };
 
-    fn from(_: OutOfMemory) -> Stop {
-        Stop::Memory
+    fn from(_: OutOfMemory) -> StepStop {
+        StepStop::Memory
     }
 }
 
-impl From<AllocError> for Stop {
+impl From<AllocError> for StepStop {
     ghost from_gives = { λ _ e. e ≡ stop.Memory };
 
-    fn from(_: AllocError) -> Stop {
-        Stop::Memory
+    fn from(_: AllocError) -> StepStop {
+        StepStop::Memory
     }
 }
 
@@ -89,13 +89,13 @@ impl<T: Drop> From<AllocFailed<T>> for OpenStop {
     }
 }
 
-impl From<Stop> for OpenStop {
+impl From<StepStop> for OpenStop {
     ghost from_gives = { λ why e. e ≡ open_stop why };
 
-    fn from(why: Stop) -> OpenStop {
+    fn from(why: StepStop) -> OpenStop {
         match why {
-            Stop::Refused(why) => OpenStop::Refused(why),
-            Stop::Memory => OpenStop::Memory,
+            StepStop::Refused(why) => OpenStop::Refused(why),
+            StepStop::Memory => OpenStop::Memory,
         }
     }
 }

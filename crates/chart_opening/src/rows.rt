@@ -9,7 +9,7 @@ ghost use Rattle.chart_opening.specs.inner.Rows.{rows_of_values, rows_of_table, 
 ghost use Rattle.chart_opening.specs.inner.Stops.{Gives};
 
 use crate::files::read_file;
-use crate::refusal::{OpenStop, Refusal, Stop};
+use crate::refusal::{OpenStop, Refusal, StepStop};
 use crate::sources::is_csv;
 use cell_value::Row;
 use chart_io::Folder;
@@ -107,18 +107,18 @@ fn rows_in_text(
     set: &DataSet,
     name: &str,
     bytes: &[u8],
-) -> Result<Result<Seq<Row>, Refusal>, Stop>
+) -> Result<Result<Seq<Row>, Refusal>, StepStop>
     ensures { Gives result (rows_in_text the_reading set.now name.now bytes.now) }
 {
     let kinds = parse_of(alloc, set)?;
     match rows_of_text(alloc, bytes, &kinds) {
         Ok(rows) => Ok(Ok(rows)),
         Err(TextError::Fault { row, field }) => Ok(Err(bad_row(set, row, field)?)),
-        Err(TextError::Json { at }) => Err(Stop::Refused(Refusal::Json(
+        Err(TextError::Json { at }) => Err(StepStop::Refused(Refusal::Json(
             Text::of(alloc, name)?,
             at,
         ))),
-        Err(TextError::Memory) => Err(Stop::Memory),
+        Err(TextError::Memory) => Err(StepStop::Memory),
     }
 }
 
@@ -128,7 +128,7 @@ fn rows_of_file(
     set: &DataSet,
     name: &str,
     bytes: &[u8],
-) -> Result<Result<Seq<Row>, Refusal>, Stop>
+) -> Result<Result<Seq<Row>, Refusal>, StepStop>
     ensures { Gives result (rows_of_file the_reading set.now name.now bytes.now) }
 {
     if is_csv(set) {
@@ -195,7 +195,10 @@ pub fn all_read<F: Folder>(
 }
 
 /// The rows of all sources, or the first refusal among them.
-pub fn all_rows(alloc: Global, read: Seq<Result<Seq<Row>, Refusal>>) -> Result<Seq<Seq<Row>>, Stop>
+pub fn all_rows(
+    alloc: Global,
+    read: Seq<Result<Seq<Row>, Refusal>>,
+) -> Result<Seq<Seq<Row>>, StepStop>
     ensures rows { Gives result (all_of read) }
     ensures number { IfOk result (λ rows. length rows ≡ length read) }
 {
@@ -203,7 +206,7 @@ pub fn all_rows(alloc: Global, read: Seq<Result<Seq<Row>, Refusal>>) -> Result<S
     for one in read.into_vec() {
         match one {
             Ok(of_source) => rows.push(of_source)?,
-            Err(why) => return Err(Stop::Refused(why)),
+            Err(why) => return Err(StepStop::Refused(why)),
         }
     }
     Ok(rows)

@@ -8,10 +8,10 @@ ghost use Rattle.first_form.specs.FirstForm.{form_of};
 ghost use Rattle.chart_opening.specs.Compiled.{if_readable, compiled_vl, compiled_of};
 ghost use Rattle.chart_opening.specs.Specs.{not_drawn_yet, vega_read, is_kept, if_kept, compiled_form, vl_read, vl_spec_of, spec_of};
 ghost use Rattle.chart_opening.specs.declared.refusal.Refusal.TheVariants.{Spec};
-ghost use Rattle.chart_opening.specs.declared.refusal.Stop.TheVariants.{Refused};
+ghost use Rattle.chart_opening.specs.declared.refusal.StepStop.TheVariants.{Refused};
 ghost use Rattle.chart_opening.specs.inner.Stops.{Gives};
 
-use crate::refusal::{Refusal, Stop};
+use crate::refusal::{Refusal, StepStop};
 use crate::schemas::is_vega;
 use first_form::{bars_of, first_form};
 use json_exact::{Json, SpecError, SpecKind};
@@ -24,20 +24,20 @@ use vega_spec::VgSpec;
 use vl_spec::VlSpec;
 
 // Why a Vega-Lite specification is refused whose chart isn't drawn yet.
-fn not_drawn_yet(alloc: Global) -> Stop
+fn not_drawn_yet(alloc: Global) -> StepStop
     ensures { result ≡ Refused not_drawn_yet }
 {
-    Stop::Refused(Refusal::Spec(SpecKind::Unsupported, Text::new(alloc)))
+    StepStop::Refused(Refusal::Spec(SpecKind::Unsupported, Text::new(alloc)))
 }
 
 // The Vega specification that a tree says, or its first fault.
-fn vega_read(alloc: Global, tree: &Json) -> Result<VgSpec, Stop>
+fn vega_read(alloc: Global, tree: &Json) -> Result<VgSpec, StepStop>
     ensures { Gives result (vega_read (read_of tree.now)) }
 {
     match vega_model::read(alloc, tree) {
         Ok(g) => Ok(g),
-        Err(SpecError::Fault { path, kind }) => Err(Stop::Refused(Refusal::Spec(kind, path))),
-        Err(SpecError::Memory) => Err(Stop::Memory),
+        Err(SpecError::Fault { path, kind }) => Err(StepStop::Refused(Refusal::Spec(kind, path))),
+        Err(SpecError::Memory) => Err(StepStop::Memory),
     }
 }
 
@@ -53,7 +53,7 @@ fn is_kept(alloc: Global, g: &VgSpec) -> Result<bool, OutOfMemory>
 }
 
 // A specification, where it keeps what charts ask.
-fn if_kept(alloc: Global, g: VgSpec) -> Result<VgSpec, Stop>
+fn if_kept(alloc: Global, g: VgSpec) -> Result<VgSpec, StepStop>
     ensures { Gives result (if_kept g) }
 {
     if is_kept(alloc, &g)? {
@@ -65,7 +65,7 @@ fn if_kept(alloc: Global, g: VgSpec) -> Result<VgSpec, Stop>
 
 // The Vega specification to which a Vega-Lite specification is compiled, where it keeps what charts ask.
 #[tactic(auto, unfolding(crate::specs::Specs::compiled_form))]
-fn compiled_form(alloc: Global, s: &VlSpec) -> Result<VgSpec, Stop>
+fn compiled_form(alloc: Global, s: &VlSpec) -> Result<VgSpec, StepStop>
     ensures { Gives result (compiled_form s.now) }
 {
     let g = assemble(alloc, s)?;
@@ -73,7 +73,7 @@ fn compiled_form(alloc: Global, s: &VlSpec) -> Result<VgSpec, Stop>
 }
 
 // The Vega specification of a Vega-Lite specification that a tree says.
-fn vl_drawn(alloc: Global, s: &VlSpec, tree: &Json) -> Result<VgSpec, Stop>
+fn vl_drawn(alloc: Global, s: &VlSpec, tree: &Json) -> Result<VgSpec, StepStop>
     ensures { Gives result (vl_read (Ok s.now) (form_of tree.now)) }
 {
     match first_form(alloc, tree)? {
@@ -83,18 +83,18 @@ fn vl_drawn(alloc: Global, s: &VlSpec, tree: &Json) -> Result<VgSpec, Stop>
 }
 
 // The Vega specification that a Vega-Lite tree says, or its first fault.
-fn vl_spec_of(alloc: Global, tree: &Json) -> Result<VgSpec, Stop>
+fn vl_spec_of(alloc: Global, tree: &Json) -> Result<VgSpec, StepStop>
     ensures { Gives result (vl_spec_of tree.now) }
 {
     match vl_model::read(alloc, tree) {
         Ok(s) => vl_drawn(alloc, &s, tree),
-        Err(SpecError::Fault { path, kind }) => Err(Stop::Refused(Refusal::Spec(kind, path))),
-        Err(SpecError::Memory) => Err(Stop::Memory),
+        Err(SpecError::Fault { path, kind }) => Err(StepStop::Refused(Refusal::Spec(kind, path))),
+        Err(SpecError::Memory) => Err(StepStop::Memory),
     }
 }
 
 /// The Vega specification of a tree: its own where it says that it is one, else that of a Vega-Lite specification. The tree is let go.
-pub fn spec_of(alloc: Global, tree: Json) -> Result<VgSpec, Stop>
+pub fn spec_of(alloc: Global, tree: Json) -> Result<VgSpec, StepStop>
     ensures { Gives result (spec_of tree) }
 {
     if is_vega(&tree) {
@@ -105,11 +105,11 @@ pub fn spec_of(alloc: Global, tree: Json) -> Result<VgSpec, Stop>
 }
 
 // Why a Vega specification isn't compiled.
-fn not_compiled(alloc: Global) -> Result<VgSpec, Stop>
+fn not_compiled(alloc: Global) -> Result<VgSpec, StepStop>
     ensures { Gives result (Err (Spec Wrong (codes "/$schema"))) }
 {
     let path = Text::of(alloc, "/$schema")?;
-    Err(Stop::Refused(Refusal::Spec(SpecKind::Wrong, path)))
+    Err(StepStop::Refused(Refusal::Spec(SpecKind::Wrong, path)))
 }
 
 // Whether the tree that is written of a specification has no fault.
@@ -121,7 +121,7 @@ fn is_readable(alloc: Global, g: &VgSpec) -> Result<bool, OutOfMemory>
 }
 
 // A compiled specification, unless the tree that is written of it has a fault.
-fn if_readable(alloc: Global, g: VgSpec) -> Result<VgSpec, Stop>
+fn if_readable(alloc: Global, g: VgSpec) -> Result<VgSpec, StepStop>
     ensures { Gives result (if_readable g) }
 {
     if is_readable(alloc, &g)? {
@@ -132,7 +132,7 @@ fn if_readable(alloc: Global, g: VgSpec) -> Result<VgSpec, Stop>
 }
 
 // The Vega specification to which a Vega-Lite tree is compiled.
-fn compiled_vl(alloc: Global, tree: &Json) -> Result<VgSpec, Stop>
+fn compiled_vl(alloc: Global, tree: &Json) -> Result<VgSpec, StepStop>
     ensures { Gives result (compiled_vl tree.now) }
 {
     match vl_spec_of(alloc, tree) {
@@ -142,7 +142,7 @@ fn compiled_vl(alloc: Global, tree: &Json) -> Result<VgSpec, Stop>
 }
 
 /// The Vega specification to which a tree is compiled. A Vega specification isn't compiled, whatever else it holds. The tree is let go.
-pub fn compiled_of(alloc: Global, tree: Json) -> Result<VgSpec, Stop>
+pub fn compiled_of(alloc: Global, tree: Json) -> Result<VgSpec, StepStop>
     ensures { Gives result (compiled_of tree) }
 {
     if is_vega(&tree) {

@@ -11,8 +11,8 @@ use Rattle.chart_opening.specs.declared.refusal.Refusal.{Refusal}
 use Rattle.chart_opening.specs.declared.refusal.Refusal.TheVariants as refusal
 use Rattle.chart_opening.specs.Texts.{Reading}
 use Rattle.chart_opening.specs.inner.Reading.{the_reading}
-use Rattle.chart_run.specs.declared.stop.Stop.{Stop}
-use Rattle.chart_run.specs.declared.stop.Stop.TheVariants as stop
+use Rattle.chart_run.specs.declared.stop.RunStop.{RunStop}
+use Rattle.chart_run.specs.declared.stop.RunStop.TheVariants as stop
 use Rattle.chart_run.specs.Words.{Ask, Render, Play, Compile, reads_script}
 use Rattle.chart_run.specs.Refusals.{refusal_status, opened_for, IsRefused}
 use Rattle.chart_run.specs.Wanted.{IsAccepted, IsAnswered, IsRepliedTo, MayFail, script_for}
@@ -36,7 +36,7 @@ accepted_not_refused : (ask : Ask) (files : Files) (why : Refusal) → IsAccepte
 accepted_not_refused ask files why (opened, is) refused = not_both (opened_for the_reading ask files) opened why is refused
 
 -- what holds of the end before the telling, and of want of memory, holds of the end after it
-told_by : (P : End → Type 0) (cause : Option Stop) (end : End) → IsTold cause end → P (end_of cause) → P NoMemory → P end
+told_by : (P : End → Type 0) (cause : Option RunStop) (end : End) → IsTold cause end → P (end_of cause) → P NoMemory → P end
 told_by P None end is holds memory = subst P (sym is) holds
 told_by P (Some stop.Words) end is holds memory = subst P (sym is) holds
 told_by P (Some (stop.Refused why)) end (inl is) holds memory = subst P (sym is) holds
@@ -48,20 +48,20 @@ told_by P (Some stop.ScriptSize) end is holds memory = subst P (sym is) holds
 
 -- the end of a run, told on the notes, says what the end before the telling says
 pub told_end : (asked : Option Ask) (told : Option Files) (script left : Option (List ℕ)) (Untouched Silent FolderRose ScriptRose OutRose : Type 0)
-    (cause : Option Stop) (end : End) → IsTold cause end
+    (cause : Option RunStop) (end : End) → IsTold cause end
     → IsEnd the_reading asked told script left Untouched Silent FolderRose ScriptRose OutRose (end_of cause)
     → IsEnd the_reading asked told script left Untouched Silent FolderRose ScriptRose OutRose end
 told_end asked told script left Untouched Silent FolderRose ScriptRose OutRose cause end is holds =
     told_by (λ (e : End). IsEnd the_reading asked told script left Untouched Silent FolderRose ScriptRose OutRose e) cause end is holds tt
 
 -- the end of a run that was stopped so
-pub end_so : (done : Result (Unit {0}) Stop) (field cause : Stop) (end : End) → done ≡ Err field → field ≡ cause → IsTold (Some cause) end
+pub end_so : (done : Result (Unit {0}) RunStop) (field cause : RunStop) (end : End) → done ≡ Err field → field ≡ cause → IsTold (Some cause) end
     → IsTold (result_err done) end
-end_so done field cause end is same told = subst (λ (r : Result (Unit {0}) Stop). IsTold (result_err r) end) (sym (is ∙ ap Err same)) told
+end_so done field cause end is same told = subst (λ (r : Result (Unit {0}) RunStop). IsTold (result_err r) end) (sym (is ∙ ap Err same)) told
 
 -- the end of a run that was done
-pub end_done : (done : Result (Unit {0}) Stop) (field : Unit {0}) → done ≡ Ok field → IsTold (result_err done) Done
-end_done done field is = subst (λ (r : Result (Unit {0}) Stop). IsTold (result_err r) Done) (sym is) refl
+pub end_done : (done : Result (Unit {0}) RunStop) (field : Unit {0}) → done ≡ Ok field → IsTold (result_err done) Done
+end_done done field is = subst (λ (r : Result (Unit {0}) RunStop). IsTold (result_err r) Done) (sym is) refl
 
 -- a refusal brings its status
 pub refused_comes : (asked : Option Ask) (files : Files) (script left : Option (List ℕ)) (Untouched Silent FolderRose ScriptRose OutRose : Type 0)
@@ -114,7 +114,7 @@ module _ (ask : Ask) (files : Files) (told left : Option (List ℕ)) (Untouched 
 
 -- what is done is wanted
 pub answered : (ask : Ask) (files : Files) (script : List ℕ) (left : Option (List ℕ)) (status : ℕ) (old now : Option (List ℕ)) (Fault : Type 0)
-    (r : Result (Unit {0}) Stop) (end : End)
+    (r : Result (Unit {0}) RunStop) (end : End)
     → IsTold (result_err r) end → status ≡ end_status end → IsTexted ask files script r old now
     → ((why : Refusal) → end ≡ Refused why → ⊥)
     → (reads_script ask ≡ true → IsCutOff r → IsRepliedTo the_reading ask files script left old now)
@@ -142,7 +142,7 @@ answered ask files script left status old now Fault r end told e is unrefused re
     refused_status refusal.Overflow = (5, refl)
     refused_status (refusal.Panels count) = (10, refl)
 
-    only_done : (r : Result (Unit {0}) Stop) → IsTold (result_err r) end → OnOk r (Appended old now is.text)
+    only_done : (r : Result (Unit {0}) RunStop) → IsTold (result_err r) end → OnOk r (Appended old now is.text)
         → status ≡ 0 → Appended old now is.text
     only_done (Ok done) told is zero = is
     only_done (Err stop.Words) told is zero = absurd (other 0 Words told refl zero)
@@ -160,7 +160,7 @@ answered ask files script left status old now Fault r end told e is unrefused re
     neither n end' same s not_7 not_10 (inr is_10) = let t = ap end_status same in not_10 (omega arith)
 
     -- these two come where a run was cut off
-    is_cut : (r : Result (Unit {0}) Stop) → IsTold (result_err r) end → (status ≡ 7) ⊎ (status ≡ 10) → IsCutOff r
+    is_cut : (r : Result (Unit {0}) RunStop) → IsTold (result_err r) end → (status ≡ 7) ⊎ (status ≡ 10) → IsCutOff r
     is_cut (Ok done) told stopped = absurd (neither 0 Done told refl (omega arith) (omega arith) stopped)
     is_cut (Err stop.Words) told stopped = absurd (neither 1 Words told refl (omega arith) (omega arith) stopped)
     is_cut (Err (stop.Refused why)) (inl told) stopped = absurd (unrefused why told)
@@ -194,7 +194,7 @@ told_refused asked (Some files) script left Untouched Silent FolderRose ScriptRo
 -- what is wanted is answered
 pub told_answered : (asked : Option Ask) (told : Option Files) (script left : Option (List ℕ))
     (Untouched Silent FolderRose ScriptRose OutRose : Type 0) (status : ℕ)
-    (r : Result (Unit {0}) Stop) (end : End) (old now : Option (List ℕ))
+    (r : Result (Unit {0}) RunStop) (end : End) (old now : Option (List ℕ))
     → IsTold (result_err r) end → status ≡ end_status end
     → IsEnd the_reading asked told script left Untouched Silent FolderRose ScriptRose OutRose end
     → Told asked told (λ ask files. IfSome (script_for ask script) (λ bytes. IsAccepted the_reading ask files → IsTexted ask files bytes r old now))
@@ -224,11 +224,11 @@ told_answered (Some ask) (Some files) script left Untouched Silent FolderRose Sc
         (complete_end ask files script left Untouched Silent FolderRose ScriptRose OutRose status bytes same end e is accepted)
 
 -- status 1 comes for wrong words alone
-pub words_status : (r : Result (Unit {0}) Stop) (end : End) (status : ℕ) → IsTold (result_err r) end → status ≡ end_status end
+pub words_status : (r : Result (Unit {0}) RunStop) (end : End) (status : ℕ) → IsTold (result_err r) end → status ≡ end_status end
     → (r ≡ Err stop.Words) ↔ (status ≡ 1)
 words_status r end status told e = (λ is. from_words r told is, λ one. to_words r told one)
   where
-    from_words : (r : Result (Unit {0}) Stop) → IsTold (result_err r) end → r ≡ Err stop.Words → status ≡ 1
+    from_words : (r : Result (Unit {0}) RunStop) → IsTold (result_err r) end → r ≡ Err stop.Words → status ≡ 1
     from_words (Ok done) told is = absurd cc
     from_words (Err stop.Words) told is = e ∙ ap end_status told
     from_words (Err (stop.Refused why)) told is = absurd cc
@@ -250,7 +250,7 @@ words_status r end status told e = (λ is. from_words r told is, λ one. to_word
     not_one refusal.Overflow e = absurd (omega arith)
     not_one (refusal.Panels count) e = absurd (omega arith)
 
-    to_words : (r : Result (Unit {0}) Stop) → IsTold (result_err r) end → status ≡ 1 → r ≡ Err stop.Words
+    to_words : (r : Result (Unit {0}) RunStop) → IsTold (result_err r) end → status ≡ 1 → r ≡ Err stop.Words
     to_words (Ok done) told one = absurd (other 0 Done told refl (λ x. omega arith) one)
     to_words (Err stop.Words) told one = refl
     to_words (Err (stop.Refused why)) (inl told) one = absurd (other (refusal_status why) (Refused why) told refl (not_one why) one)

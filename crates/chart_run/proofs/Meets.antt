@@ -23,8 +23,8 @@ use Rattle.chart_opening.specs.Specs.{opened_by}
 use Rattle.chart_opening.specs.Texts.{Reading, ReadsJson}
 use Rattle.chart_opening.specs.inner.Reading.{the_reading}
 use Rattle.chart_opening.proofs.JsonLemmas.{right}
-use Rattle.chart_run.specs.declared.stop.Stop.{Stop}
-use Rattle.chart_run.specs.declared.stop.Stop.TheVariants as stop
+use Rattle.chart_run.specs.declared.stop.RunStop.{RunStop}
+use Rattle.chart_run.specs.declared.stop.RunStop.TheVariants as stop
 use Rattle.chart_run.proofs.OpenedLemmas.{refused_is}
 use Rattle.chart_run.specs.inner.Stops.{Meets, meant, meant_of, refusal_of, stop_at}
 
@@ -60,7 +60,7 @@ module _ (opened : Opened) where
 
 module _ (name : List ℕ) where
   -- what is drawn of what was opened is what is drawn of the file
-  pub drawn_told : (told : Option Files) (opened : Opened) (r : Result PlainEngine Stop)
+  pub drawn_told : (told : Option Files) (opened : Opened) (r : Result PlainEngine RunStop)
       → IfSome told (λ files. (reading : Reading) → ReadsJson reading → Opens (Ok opened) (opened_by reading files name))
       → Meets meaning_of r (meant_of (drawn_of opened))
       → IfSome told (λ files. Meets meaning_of r (meant_of (drawn_by the_reading files name)))
@@ -98,7 +98,7 @@ module _ (name : List ℕ) where
   compile_refused (Some files) opening.Memory why is given = absurd cc
 
   -- why nothing is drawn, where a cause refuses the files
-  pub draw_refused : (told : Option Files) (cause : Stop) (why : Refusal) → cause ≡ stop.Refused why
+  pub draw_refused : (told : Option Files) (cause : RunStop) (why : Refusal) → cause ≡ stop.Refused why
       → IfSome told (λ files. Meets {X = PlainEngine} meaning_of (Err cause) (meant_of (drawn_by the_reading files name)))
       → IfSome told (λ files. drawn_by the_reading files name ≡ Err why)
   draw_refused None cause why is given = tt

@@ -18,7 +18,7 @@ use Rattle.chart_run.specs.Words.{Ask, Play, reads_script}
 use Rattle.chart_run.specs.Wanted.{AreRepliesFrom, IsRepliedTo}
 use Rattle.chart_run.specs.inner.Stops.{handed, meant, IsCutOff}
 use Rattle.chart_run.specs.inner.Runs.{IsRepliedSo}
-use Rattle.chart_run.specs.declared.stop.Stop.{Stop}
+use Rattle.chart_run.specs.declared.stop.RunStop.{RunStop}
 use Rattle.chart_run.proofs.OpenedLemmas.{opened_is}
 use Rattle.chart_run.proofs.Texts.{Opens}
 
@@ -64,7 +64,7 @@ opened_replied (Some files) name (Some bytes) (Some rest) taken old held meaning
     λ accepted reads cut. cut_replied name files opened given meaning now is bytes taken rest split old held r played cut
 
 -- Where opening a file stops a run, no byte was taken, and no line has ended.
-pub unopened_replied : (told : Option Files) (name : List ℕ) (cause : Stop) (script old : Option (List ℕ))
+pub unopened_replied : (told : Option Files) (name : List ℕ) (cause : RunStop) (script old : Option (List ℕ))
     → IfSome told (λ files. IfSome script (λ bytes. IsRepliedSo (Play name) files bytes script (Err cause) old old))
 unopened_replied None name cause script old = tt
 unopened_replied (Some files) name cause None old = tt
@@ -72,7 +72,7 @@ unopened_replied (Some files) name cause (Some bytes) old = λ accepted reads cu
     (accepted.0, accepted.1, [], refl, [], ([], state_of accepted.0.state, no_line (state_of accepted.0.state) 1), nothing_more old)
 
 -- where no script is read there is nothing to say
-pub unread_replied : (told : Option Files) (ask : Ask) (bytes : List ℕ) (left : Option (List ℕ)) (r : Result (Unit {0}) Stop)
+pub unread_replied : (told : Option Files) (ask : Ask) (bytes : List ℕ) (left : Option (List ℕ)) (r : Result (Unit {0}) RunStop)
     (old now : Option (List ℕ)) → reads_script ask ≡ false → IfSome told (λ files. IsRepliedSo ask files bytes left r old now)
 unread_replied None ask bytes left r old now none = tt
 unread_replied (Some files) ask bytes left r old now none = λ accepted reads cut. absurd (no_script (reads_script ask) none reads)

@@ -10,8 +10,8 @@ use Rattle.chart_opening.specs.declared.refusal.Refusal.{Refusal}
 use Rattle.chart_opening.specs.declared.refusal.OpenStop.{OpenStop}
 use Rattle.chart_opening.specs.declared.refusal.OpenStop.TheVariants as opening
 use Rattle.chart_opening.specs.inner.Reading.{the_reading}
-use Rattle.chart_run.specs.declared.stop.Stop.{Stop}
-use Rattle.chart_run.specs.declared.stop.Stop.TheVariants as stop
+use Rattle.chart_run.specs.declared.stop.RunStop.{RunStop}
+use Rattle.chart_run.specs.declared.stop.RunStop.TheVariants as stop
 use Rattle.chart_run.specs.Words.{Ask, Render, Play, Compile, reads_script}
 use Rattle.chart_run.specs.Refusals.{IsRefused, opened_for}
 use Rattle.chart_run.specs.Wanted.{IsAccepted}
@@ -19,12 +19,12 @@ use Rattle.chart_run.specs.Ends.{End, Done, IsEnd, Told, AsksScript, IsReadWhole
 use Rattle.chart_run.specs.inner.Stops.{stop_end, end_of, stop_at, handed, IsOpenStop, IsPrintStop, IsOpenOrPrintStop}
 
 -- where a cause refuses the files that are told, it is the refusal of what is asked for
-abbrev pub Refuses : Ask → Option Files → Stop → Type 0
+abbrev pub Refuses : Ask → Option Files → RunStop → Type 0
 Refuses ask told cause = (why : Refusal) → cause ≡ stop.Refused why → IfSome told (λ files. opened_for the_reading ask files ≡ Err why)
 
 module _ (ask : Ask) (told : Option Files) (script left : Option (List ℕ)) (Untouched Silent FolderRose ScriptRose OutRose : Type 0) where
   -- where opening stops a run, nothing was written and no script read
-  pub opened_end : (cause : Stop) → IsOpenStop cause → Refuses ask told cause
+  pub opened_end : (cause : RunStop) → IsOpenStop cause → Refuses ask told cause
       → Silent → Untouched → (cause ≡ stop.Read → FolderRose)
       → IsEnd the_reading (Some ask) told script left Untouched Silent FolderRose ScriptRose OutRose (stop_end cause)
   opened_end stop.Words is over silent same read = absurd is
@@ -36,7 +36,7 @@ module _ (ask : Ask) (told : Option Files) (script left : Option (List ℕ)) (Un
 
 module _ (ask : Ask) (told : Option Files) (Untouched Silent FolderRose ScriptRose OutRose : Type 0) where
   -- how the writing of a text ends a run that reads no script
-  pub written_end : (script left : Option (List ℕ)) (r : Result (Unit {0}) Stop) → (reads_script ask ≡ false) → IfSome told (IsAccepted the_reading ask)
+  pub written_end : (script left : Option (List ℕ)) (r : Result (Unit {0}) RunStop) → (reads_script ask ≡ false) → IfSome told (IsAccepted the_reading ask)
       → IfErr r IsPrintStop → (IsErrOf r stop.Write → OutRose)
       → IsEnd the_reading (Some ask) told script left Untouched Silent FolderRose ScriptRose OutRose (end_of (result_err r))
   written_end script left (Ok done) unread accepted stops write = (accepted, λ asks. absurd (apart asks))
@@ -106,7 +106,7 @@ read_stop opening.Read is = refl
 read_stop opening.Memory is = absurd cc
 
 -- what stops the writing of a text is among what stops a run of one
-pub print_stop : (r : Result (Unit {0}) Stop) → IfErr r IsPrintStop → IfErr r IsOpenOrPrintStop
+pub print_stop : (r : Result (Unit {0}) RunStop) → IfErr r IsPrintStop → IfErr r IsOpenOrPrintStop
 print_stop (Ok done) is = tt
 print_stop (Err stop.Words) is = absurd is
 print_stop (Err (stop.Refused why)) is = absurd is

@@ -23,7 +23,7 @@ use Rattle.chart_run.specs.Wanted.{IsAccepted, IsOutputFrom, IsWanted, vega_text
 use Rattle.chart_run.specs.Ends.{IsReadWhole}
 use Rattle.chart_run.specs.inner.Stops.{handed, meant, meant_of}
 use Rattle.chart_run.specs.inner.Runs.{IsTexted}
-use Rattle.chart_run.specs.declared.stop.Stop.{Stop}
+use Rattle.chart_run.specs.declared.stop.RunStop.{RunStop}
 use Rattle.chart_run.proofs.OpenedLemmas.{opened_is, drawn_is}
 use Rattle.chart_run.proofs.Pictures.{picture_is}
 use Rattle.chart_run.proofs.Prefixes.{appended_is_prefix, kept_is_prefix}
@@ -67,7 +67,7 @@ drawn_as o P text e is = subst (λ (x : Outcome (List ℕ)). IsDrawn x P) e is
 module _ (name : List ℕ) (files : Files) (opened : Opened) (given : drawn_by the_reading files name ≡ Ok opened) (meaning : Meaning)
     (opens : meant opened ≡ meaning) where
   -- what a print of the engine appends is the picture
-  pub printed_text : (r : Result (Unit {0}) Stop) (old now : Option (List ℕ)) → OnOk r (IsDrawn (chart_in meaning) (Appended old now))
+  pub printed_text : (r : Result (Unit {0}) RunStop) (old now : Option (List ℕ)) → OnOk r (IsDrawn (chart_in meaning) (Appended old now))
       → IsDrawn (chart_in meaning) (AppendedPrefix old now)
       → IsTexted (Render name) files [] r old now
   printed_text r old now whole begun =
@@ -80,7 +80,7 @@ module _ (name : List ℕ) (files : Files) (opened : Opened) (given : drawn_by t
         whole = on_ok r text chart whole;
       }
     where
-      on_ok : (r : Result (Unit {0}) Stop) (text : List ℕ) → chart_in meaning ≡ Drawn text
+      on_ok : (r : Result (Unit {0}) RunStop) (text : List ℕ) → chart_in meaning ≡ Drawn text
           → OnOk r (IsDrawn (chart_in meaning) (Appended old now)) → OnOk r (Appended old now text)
       on_ok (Ok done) text chart whole = drawn_as (chart_in meaning) (Appended old now) text chart whole
       on_ok (Err cause) text chart whole = tt
@@ -116,7 +116,7 @@ kept_itself None = tt
 kept_itself (Some held) = refl
 
 -- where opening a file stops a run, nothing was appended, which begins the text that is wanted
-module _ (name : List ℕ) (cause : Stop) where
+module _ (name : List ℕ) (cause : RunStop) where
   pub unopened_picture : (told : Option Files) (old : Option (List ℕ))
       → IfSome told (λ files. IsAccepted the_reading (Render name) files → IsTexted (Render name) files [] (Err cause) old old)
   unopened_picture None old = tt
@@ -152,7 +152,7 @@ pub play_accepted : (told : Option Files) (name : List ℕ) (meaning : Meaning) 
 play_accepted None name meaning opens = tt
 play_accepted (Some files) name meaning opens = let (opened, given, is) = opened_is (drawn_by the_reading files name) meaning opens in (opened, given)
 
-pub opened_picture : (told : Option Files) (name : List ℕ) (meaning : Meaning) (r : Result (Unit {0}) Stop) (old now : Option (List ℕ))
+pub opened_picture : (told : Option Files) (name : List ℕ) (meaning : Meaning) (r : Result (Unit {0}) RunStop) (old now : Option (List ℕ))
     → Opens told name meaning
     → OnOk r (IsDrawn (chart_in meaning) (Appended old now)) → IsDrawn (chart_in meaning) (AppendedPrefix old now)
     → IfSome told (λ files. IsAccepted the_reading (Render name) files → IsTexted (Render name) files [] r old now)
@@ -174,7 +174,7 @@ opened_output (Some files) name (Some bytes) (Some rest) taken old held meaning 
     λ accepted. played_text name files opened given meaning is now bytes taken rest split old held r played
 
 -- what a compiled text appends, where the files are told
-pub compiled_text : (told : Option Files) (name : List ℕ) (opened : Opened) (r : Result (Unit {0}) Stop) (old now : Option (List ℕ))
+pub compiled_text : (told : Option Files) (name : List ℕ) (opened : Opened) (r : Result (Unit {0}) RunStop) (old now : Option (List ℕ))
     → IfSome told (λ files. compiled_by the_reading files name ≡ Ok opened)
     → OnOk r (Appended old now (vega_text opened)) → AppendedPrefix old now (vega_text opened)
     → IfSome told (λ files. IsAccepted the_reading (Compile name) files → IsTexted (Compile name) files [] r old now)

@@ -9,7 +9,7 @@ ghost use Rattle.chart_opening.specs.inner.Reading.{the_reading};
 ghost use Rattle.chart_run.specs.inner.Stops.{end_of, IsPrintStop, IsOpenOrPrintStop};
 ghost use Rattle.chart_run.specs.inner.Runs.{IsTexted};
 
-use crate::stop::{Stop, stop_at};
+use crate::stop::{RunStop, stop_at};
 use chart_io::{Folder, Sink, WriteFault, write_all};
 use chart_opening::{Opened, compiled_file};
 use std::alloc::Global;
@@ -26,9 +26,9 @@ fn vega_text(alloc: Global, opened: &Opened) -> Result<Text, OutOfMemory>
 }
 
 // Writes the text of a Vega specification.
-fn written<K: Sink>(alloc: Global, opened: &Opened, out: &mut K) -> Result<(), Stop>
+fn written<K: Sink>(alloc: Global, opened: &Opened, out: &mut K) -> Result<(), RunStop>
     ensures counted { K.faults out.old ≤ K.faults out.new }
-    ensures write { IsErrOf result Stop.Write → Rose (K.faults out.old) (K.faults out.new) }
+    ensures write { IsErrOf result RunStop.Write → Rose (K.faults out.old) (K.faults out.new) }
     ensures stop { IfErr result IsPrintStop }
     ensures ok { OnOk result (Appended (K.held out.old) (K.held out.new) (vega_text opened.now)) }
     ensures prefix { AppendedPrefix (K.held out.old) (K.held out.new) (vega_text opened.now) }
@@ -36,7 +36,7 @@ fn written<K: Sink>(alloc: Global, opened: &Opened, out: &mut K) -> Result<(), S
     let text = vega_text(alloc, opened)?;
     match write_all(out, text.as_str().as_bytes()) {
         Ok(()) => Ok(()),
-        Err(WriteFault) => Err(Stop::Write),
+        Err(WriteFault) => Err(RunStop::Write),
     }
 }
 
@@ -48,7 +48,7 @@ pub fn compile<F: Folder, K: Sink>(
     name: &str,
     folder: &mut F,
     out: &mut K,
-) -> Result<(), Stop>
+) -> Result<(), RunStop>
     ensures folder_counted { F.faults folder.old ≤ F.faults folder.new }
     ensures out_counted { K.faults out.old ≤ K.faults out.new }
     ensures stays { Kept (F.files folder.old) (F.files folder.new) }

@@ -12,4 +12,4 @@ mod words;
 
 pub use laws::{compiled_opens_alike, forms_open_alike};
 pub use running::run;
-pub use stop::{Stop, refusal_line, refusal_status};
+pub use stop::{RunStop, refusal_line, refusal_status};

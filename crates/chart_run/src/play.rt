@@ -13,7 +13,7 @@ ghost use Rattle.chart_run.specs.inner.Stops.{end_of, handed, stop_of};
 ghost use Rattle.chart_run.specs.inner.Runs.{IsTexted, IsRepliedSo};
 
 use crate::opened::drawn_file;
-use crate::stop::Stop;
+use crate::stop::RunStop;
 use cell_value::Steps;
 use chart_io::{Folder, Sink, Source};
 use play_script::{Engine, PlayError};
@@ -22,19 +22,19 @@ use std::marker::Brand;
 use std::sync::ledger::{Blank, Ledger};
 
 // Why a run stops where playing stops so.
-fn stop_of(error: PlayError) -> Stop
+fn stop_of(error: PlayError) -> RunStop
     ensures { result ≡ stop_of error }
 {
     match error {
-        PlayError::Read => Stop::Read,
-        PlayError::Write => Stop::Write,
-        PlayError::Size => Stop::ScriptSize,
-        PlayError::Memory => Stop::Memory,
+        PlayError::Read => RunStop::Read,
+        PlayError::Write => RunStop::Write,
+        PlayError::Size => RunStop::ScriptSize,
+        PlayError::Memory => RunStop::Memory,
     }
 }
 
 // What playing answers, as what a run answers.
-fn handed(answer: Result<(), PlayError>) -> Result<(), Stop>
+fn handed(answer: Result<(), PlayError>) -> Result<(), RunStop>
     ensures { result ≡ handed answer }
 {
     match answer {
@@ -101,15 +101,15 @@ pub fn play<F: Folder, S: Source, K: Sink, N: Sink>(
     script: &mut S,
     out: &mut K,
     notes: &mut N,
-) -> Result<(), Stop>
+) -> Result<(), RunStop>
     ensures folder_counted { F.faults folder.old ≤ F.faults folder.new }
     ensures script_counted { S.faults script.old ≤ S.faults script.new }
     ensures out_counted { K.faults out.old ≤ K.faults out.new }
     ensures notes { notes.new ≡ notes.old }
     ensures stays { Kept (F.files folder.old) (F.files folder.new) }
-    ensures words { IsErrOf result Stop.Words → ⊥ }
+    ensures words { IsErrOf result RunStop.Words → ⊥ }
     ensures taken { (taken : List ℕ) × HasTaken (S.left script.old) (S.left script.new) taken }
-    ensures script_size { IfSome (S.left script.old) (λ bytes. (result ≡ Err Stop.ScriptSize) ↔ IsPastSize bytes (S.left script.new)) }
+    ensures script_size { IfSome (S.left script.old) (λ bytes. (result ≡ Err RunStop.ScriptSize) ↔ IsPastSize bytes (S.left script.new)) }
     ensures ends { IsEnd the_reading (Some (Play name.now)) (F.files folder.old) (S.left script.old) (S.left script.new) (script.new ≡ script.old)
         (Kept (K.held out.old) (K.held out.new)) (Rose (F.faults folder.old) (F.faults folder.new))
         (Rose (S.faults script.old) (S.faults script.new))

@@ -12,23 +12,23 @@ ghost use Rattle.chart_run.specs.inner.Stops.{end_of, IsPrintStop, IsOpenOrPrint
 ghost use Rattle.chart_run.specs.inner.Runs.{IsTexted};
 
 use crate::opened::drawn_file;
-use crate::stop::Stop;
+use crate::stop::RunStop;
 use chart_io::{Folder, Sink};
 use play_script::{Engine, PrintError};
 use std::alloc::Global;
 
 // Writes the chart of an engine.
-fn printed<E: Engine, K: Sink>(engine: &E, out: &mut K) -> Result<(), Stop>
+fn printed<E: Engine, K: Sink>(engine: &E, out: &mut K) -> Result<(), RunStop>
     ensures counted { K.faults out.old ≤ K.faults out.new }
-    ensures write { IsErrOf result Stop.Write → Rose (K.faults out.old) (K.faults out.new) }
+    ensures write { IsErrOf result RunStop.Write → Rose (K.faults out.old) (K.faults out.new) }
     ensures stop { IfErr result IsPrintStop }
     ensures ok { OnOk result (IsDrawn (chart_in (E.meaning engine.now)) (Appended (K.held out.old) (K.held out.new))) }
     ensures prefix { IsDrawn (chart_in (E.meaning engine.now)) (AppendedPrefix (K.held out.old) (K.held out.new)) }
 {
     match engine.print(out) {
         Ok(()) => Ok(()),
-        Err(PrintError::Write) => Err(Stop::Write),
-        Err(PrintError::Memory) => Err(Stop::Memory),
+        Err(PrintError::Write) => Err(RunStop::Write),
+        Err(PrintError::Memory) => Err(RunStop::Memory),
     }
 }
 
@@ -39,7 +39,7 @@ pub fn render<F: Folder, K: Sink>(
     name: &str,
     folder: &mut F,
     out: &mut K,
-) -> Result<(), Stop>
+) -> Result<(), RunStop>
     ensures folder_counted { F.faults folder.old ≤ F.faults folder.new }
     ensures out_counted { K.faults out.old ≤ K.faults out.new }
     ensures stays { Kept (F.files folder.old) (F.files folder.new) }

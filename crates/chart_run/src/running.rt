@@ -13,7 +13,7 @@ ghost use Rattle.chart_run.specs.inner.Runs.{IsTexted, IsRepliedSo};
 use crate::compile::compile;
 use crate::play::play;
 use crate::render::render;
-use crate::stop::Stop;
+use crate::stop::RunStop;
 use crate::words::{Asked, asked_of};
 use chart_io::{Folder, Sink, Source};
 use std::alloc::Global;
@@ -30,13 +30,13 @@ pub fn run<F: Folder, S: Source, K: Sink, N: Sink>(
     script: &mut S,
     out: &mut K,
     notes: &mut N,
-) -> Result<(), Stop>
+) -> Result<(), RunStop>
     ensures folder_counted { F.faults folder.old ≤ F.faults folder.new }
     ensures script_counted { S.faults script.old ≤ S.faults script.new }
     ensures out_counted { K.faults out.old ≤ K.faults out.new }
     ensures notes { notes.new ≡ notes.old }
     ensures stays { Kept (F.files folder.old) (F.files folder.new) }
-    ensures words { (result ≡ Err Stop.Words) ↔ (asked_in words.now.items ≡ None) }
+    ensures words { (result ≡ Err RunStop.Words) ↔ (asked_in words.now.items ≡ None) }
     ensures ends { IsEnd the_reading (asked_in words.now.items) (F.files folder.old) (S.left script.old) (S.left script.new)
         (script.new ≡ script.old)
         (Kept (K.held out.old) (K.held out.new)) (Rose (F.faults folder.old) (F.faults folder.new))
@@ -48,7 +48,7 @@ pub fn run<F: Folder, S: Source, K: Sink, N: Sink>(
         (λ bytes. IsRepliedSo ask files bytes (S.left script.new) result (K.held out.old) (K.held out.new))) }
     ensures nothing { Told (asked_in words.now.items) (F.files folder.old) (λ ask files. (IsAccepted the_reading ask files → ⊥)
         → Kept (K.held out.old) (K.held out.new) × (script.new ≡ script.old)) }
-    ensures script_size { IfSome (S.left script.old) (λ bytes. (result ≡ Err Stop.ScriptSize) ↔ IsPastSize bytes (S.left script.new)) }
+    ensures script_size { IfSome (S.left script.old) (λ bytes. (result ≡ Err RunStop.ScriptSize) ↔ IsPastSize bytes (S.left script.new)) }
     ensures taken { (taken : List ℕ) × HasTaken (S.left script.old) (S.left script.new) taken }
     ensures script { (AsksScript (asked_in words.now.items) → ⊥) → script.new ≡ script.old }
     ensures folder { asked_in words.now.items ≡ None → folder.new ≡ folder.old }
@@ -57,6 +57,6 @@ pub fn run<F: Folder, S: Source, K: Sink, N: Sink>(
         Some(Asked::Render(name)) => render(alloc, name, folder, out),
         Some(Asked::Play(name)) => play(alloc, name, folder, script, out, notes),
         Some(Asked::Compile(name)) => compile(alloc, name, folder, out),
-        None => Err(Stop::Words),
+        None => Err(RunStop::Words),
     }
 }

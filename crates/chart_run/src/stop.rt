@@ -2,7 +2,7 @@
 ghost use Rattle.std.specs.Prelude.{◌≡◌, ◌∷◌, [], ◌++◌, codes, IfOk};
 ghost use Rattle.std.specs.Fmt.{decimal};
 ghost use Rattle.json_exact.specs.Writing.{quoted};
-ghost use Rattle.chart_run.specs.declared.stop.Stop.TheVariants.{Memory};
+ghost use Rattle.chart_run.specs.declared.stop.RunStop.TheVariants.{Memory};
 ghost use Rattle.chart_run.specs.Refusals.{kind_name, refusal_status, refusal_text};
 ghost use Rattle.chart_run.specs.inner.Stops.{stop_at};
 
@@ -13,7 +13,7 @@ use text_kit::{OutOfMemory, Text};
 
 /// Why a run ends without its whole output.
 #[derive(Debug, Drop)]
-pub enum Stop {
+pub enum RunStop {
     /// The words are no form of words.
     Words,
     /// Files are refused.
@@ -28,38 +28,38 @@ pub enum Stop {
     ScriptSize,
 }
 
-impl From<OutOfMemory> for Stop {
+impl From<OutOfMemory> for RunStop {
     ghost from_gives = { λ _ e. e ≡ Memory };
 
-    fn from(_: OutOfMemory) -> Stop {
-        Stop::Memory
+    fn from(_: OutOfMemory) -> RunStop {
+        RunStop::Memory
     }
 }
 
-impl From<AllocError> for Stop {
+impl From<AllocError> for RunStop {
     ghost from_gives = { λ _ e. e ≡ Memory };
 
-    fn from(_: AllocError) -> Stop {
-        Stop::Memory
+    fn from(_: AllocError) -> RunStop {
+        RunStop::Memory
     }
 }
 
-impl<T: Drop> From<AllocFailed<T>> for Stop {
+impl<T: Drop> From<AllocFailed<T>> for RunStop {
     ghost from_gives = { λ _ e. e ≡ Memory };
 
-    fn from(_: AllocFailed<T>) -> Stop {
-        Stop::Memory
+    fn from(_: AllocFailed<T>) -> RunStop {
+        RunStop::Memory
     }
 }
 
 /// Why a run stops where opening stops so.
-pub fn stop_at(cause: OpenStop) -> Stop
+pub fn stop_at(cause: OpenStop) -> RunStop
     ensures { result ≡ stop_at cause }
 {
     match cause {
-        OpenStop::Refused(why) => Stop::Refused(why),
-        OpenStop::Read => Stop::Read,
-        OpenStop::Memory => Stop::Memory,
+        OpenStop::Refused(why) => RunStop::Refused(why),
+        OpenStop::Read => RunStop::Read,
+        OpenStop::Memory => RunStop::Memory,
     }
 }
 

@@ -2,7 +2,7 @@
 //! scales that are kept and the picture, or why nothing is drawn; or only that there is some picture. No selection holds anything. It writes
 //! each line of which something else is found, and how many lines there were. Each specification has to be written, read again and copied the
 //! same, too.
-//! `bench/chart_table.py` writes the table.
+//! `oracles/chart_table.py` writes the table.
 #![tactic(auto)]
 
 ghost use Rattle.std.specs.Prelude.{◌≡◌, true};

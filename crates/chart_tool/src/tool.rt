@@ -13,7 +13,7 @@ ghost use Rattle.chart_run.specs.inner.Stops.{IsTold};
 
 use chart_io::{Folder, Sink, Source, write_all};
 use chart_opening::Refusal;
-use chart_run::{Stop, refusal_line, refusal_status, run};
+use chart_run::{RunStop, refusal_line, refusal_status, run};
 use std::alloc::Global;
 use text_kit::OutOfMemory;
 
@@ -40,19 +40,19 @@ fn refused<N: Sink>(alloc: Global, why: &Refusal, notes: &mut N) -> u8
 }
 
 // The status of a run, and a line on the notes where it was stopped.
-fn ended<N: Sink>(alloc: Global, done: Result<(), Stop>, notes: &mut N) -> u8
+fn ended<N: Sink>(alloc: Global, done: Result<(), RunStop>, notes: &mut N) -> u8
     ensures counted { N.faults notes.old ≤ N.faults notes.new }
     ensures ended { (end : End) × IsTold (result_err done) end × (result ≡ end_status end)
         × IsNoted (N.faults notes.old) (N.faults notes.new) (N.held notes.old) (N.held notes.new) (end_note end) }
 {
     match done {
         Ok(()) => noted(0, b"", notes),
-        Err(Stop::Words) => noted(1, b"chart: words\n", notes),
-        Err(Stop::Refused(why)) => refused(alloc, &why, notes),
-        Err(Stop::Read) => noted(7, b"chart: read\n", notes),
-        Err(Stop::Write) => noted(8, b"chart: write\n", notes),
-        Err(Stop::Memory) => noted(9, b"chart: memory\n", notes),
-        Err(Stop::ScriptSize) => noted(10, b"chart: size script\n", notes),
+        Err(RunStop::Words) => noted(1, b"chart: words\n", notes),
+        Err(RunStop::Refused(why)) => refused(alloc, &why, notes),
+        Err(RunStop::Read) => noted(7, b"chart: read\n", notes),
+        Err(RunStop::Write) => noted(8, b"chart: write\n", notes),
+        Err(RunStop::Memory) => noted(9, b"chart: memory\n", notes),
+        Err(RunStop::ScriptSize) => noted(10, b"chart: size script\n", notes),
     }
 }
 

@@ -4,8 +4,8 @@ use Rattle.std.specs.Prelude.{IfSome, None, replicate}
 use Rattle.json_exact.specs.declared.json.Json.{Json}
 use Rattle.vega_spec.specs.declared.spec.Group.{Group, roll-Group}
 use Rattle.vega_spec.specs.declared.spec.VgMark.{roll-VgMark}
-use Rattle.vega_round_trip.specs.Parts.{Asked, Each, OfSpec, OfGroup, OfMark, OfChannel, OfChannels}
-use Rattle.vega_round_trip.specs.Law.{asked_codes, asked_readings, HasCodes, HasReadings}
+use Rattle.vega_model.specs.Codes.{Asked, Each, OfSpec, OfGroup, OfMark, OfChannel, OfChannels}
+use Rattle.vega_model.specs.RoundTrip.{asked_codes, asked_readings, HasCodes, HasReadings}
 use Rattle.compiled_bars.specs.Bars.{bars_over, bars_mark, channels, no_group, width}
 use Rattle.compiled_bars.proofs.Width.{width_is_read}
 

@@ -4,7 +4,7 @@ use Rattle.std.specs.Prelude.{None}
 use Rattle.expr_syntax.proofs.Grounds.{bytes_same}
 use Rattle.vega_rules.specs.Faults.{earliest}
 use Rattle.vega_rules.specs.Rules.{rule_faults}
-use Rattle.vega_needs.specs.Cycles.{first_cycle}
+use Rattle.vega_rules.specs.Cycles.{first_cycle}
 use Rattle.compiled_bars.proofs.Parts.{parts}
 
 pub no_fault : (name : List ℕ) → earliest (rule_faults (parts name)) ≡ None

@@ -9,14 +9,14 @@ use Rattle.vega_parts.specs.declared.part.Part.{Part}
 use Rattle.vega_parts.specs.Parts.{parts_of}
 use Rattle.vega_rules.specs.Faults.{sooner, earliest}
 use Rattle.vega_rules.specs.Rules.{rule_faults}
-use Rattle.vega_needs.specs.Cycles.{first_cycle}
+use Rattle.vega_rules.specs.Cycles.{first_cycle}
 use Rattle.expr_syntax.specs.Writing.{text_of}
 use Rattle.vega_writing.specs.Spec.{tree_of}
 use Rattle.vega_model.specs.Faults.{first_fault_of, fault_by_members, gathered, judged, with_path}
 use Rattle.vega_model.specs.Reading.{read_of, unless_fault}
 use Rattle.spec_schema.specs.declared.fault.Fault.{Fault}
 use Rattle.vega_spec.specs.declared.spec.VgSpec.{VgSpec}
-use Rattle.vega_round_trip.proofs.SpecBack.{built_again}
+use Rattle.vega_model.proofs.SpecBack.{built_again}
 use Rattle.compiled_bars.specs.Bars.{bars_over, width}
 use Rattle.compiled_bars.proofs.Tree.{tree}
 use Rattle.compiled_bars.proofs.Members as members

@@ -1,5 +1,6 @@
 -- Rows filled in the order of their names are those of the columns in turn.
-use Rattle.std.proofs.Common.{◌≡◌, ℕ, suc, ◌+◌, Bool, true, false, ◌&&◌, Option, Some, None, Ok, Err, List, [], ◌∷◌, ◌++◌, length, map, slice_get, nat_eq, refl, sym, ap, ◌∙◌, add-one, append_assoc, arith, if◌then◌else◌}
+use Rattle.std.proofs.Common.{◌≡◌, ℕ, suc, ◌+◌, Bool, true, false, ◌&&◌, Option, Some, None, Ok, Err, List, [], ◌∷◌, ◌++◌, length, map}
+use Rattle.std.proofs.Common.{slice_get, nat_eq, refl, sym, ap, ◌∙◌, add-one, append_assoc, arith, if◌then◌else◌}
 use Rattle.std.specs.Prelude.{fold, find, zip, unwrap_or}
 use Rattle.std.proofs.lemmas.List.{length-append}
 use Rattle.std.proofs.lemmas.Bool.{eq-eqb}
@@ -135,7 +136,8 @@ first_out (c ∷ cs) (f ∷ fs) name h = one_bad c cs f fs name (number_of f) re
 good_record : (columns : List Column) (fields : List (List ℕ)) → list_all is_utf8 fields ≡ true → length fields ≡ length columns
     → record_row columns fields ≡ result_map_both row_of (λ bad. bad) (all_fields (cells_under columns fields))
 good_record columns fields text same =
-    ap (λ b. if b && nat_eq (length fields) (length columns) then result_map_both row_of (λ bad. bad) (all_fields (cells_under columns fields)) else Err []) text
+    ap (λ b. if b && nat_eq (length fields) (length columns)
+    then result_map_both row_of (λ bad. bad) (all_fields (cells_under columns fields)) else Err []) text
     ∙ ap (λ b. if b then result_map_both row_of (λ bad. bad) (all_fields (cells_under columns fields)) else Err []) (eq-eqb _ _ same)
 
 -- a row of which no field is out of range

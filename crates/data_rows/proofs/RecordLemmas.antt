@@ -1,12 +1,15 @@
 -- The records that a reader has left, as it reads one.
-use Rattle.std.proofs.Common.{◌≡◌, ◌≢◌, ℕ, zero, suc, ◌+◌, ◌<◌, ◌≤◌, ◌⊎◌, inl, inr, Bool, true, false, cond, ◌&&◌, Option, Some, None, IsSome, List, [], ◌∷◌, ◌++◌, length, Bor, IsUtf8, refl, sym, ap, subst, ◌∙◌, arith, add-one, rules, if◌then◌else◌}
+use Rattle.std.proofs.Common.{◌≡◌, ◌≢◌, ℕ, zero, suc, ◌+◌, ◌<◌, ◌≤◌, ◌⊎◌, inl, inr, Bool, true, false, cond, ◌&&◌, Option, Some, None}
+use Rattle.std.proofs.Common.{IsSome, List, [], ◌∷◌, ◌++◌, length, Bor, IsUtf8, refl, sym, ap, subst, ◌∙◌, arith, add-one, rules}
+use Rattle.std.proofs.Common.{if◌then◌else◌}
 use Rattle.std.specs.List.{list_all}
 use Rattle.std.specs.Str.{is_utf8}
 use Rattle.std.proofs.lemmas.Str.{is_utf8-from_IsUtf8, IsUtf8-from_is_utf8}
 use Rattle.std.proofs.lemmas.Bool.{cases_Bool}
 use Rattle.csv.specs.Machine.{Read, next_record, ends_at_end, is_end, step, fields_after, field_after}
 use Rattle.csv.specs.Records.{AllText}
-use Rattle.csv.specs.Reading.{Reached, ReadRecord, ReadsNext, NextIs, TookRecord, ExplainsRead, records_from, records_next, default_config, source_of, pending_of, took_first, is_flexible}
+use Rattle.csv.specs.Reading.{Reached, ReadRecord, ReadsNext, NextIs, TookRecord, ExplainsRead, records_from, records_next, default_config}
+use Rattle.csv.specs.Reading.{source_of, pending_of, took_first, is_flexible}
 use Rattle.csv.specs.declared.parser.Config.{Config}
 use Rattle.csv.specs.declared.parser.State.{State}
 use Rattle.csv.specs.declared.parser.State.TheVariants as st
@@ -24,7 +27,8 @@ not_none : {A B : Type 0} (x : A) → None ≡ Some x → B
 not_none x e = absurd cc
 
 -- at the end of the bytes a record leaves none
-at_end : (cfg : Config) (s : State) (fields : List (List ℕ)) (field : List ℕ) (r : Read) → next_record cfg s fields field [] ≡ Some r → (r.1 ≡ st.StartRecord) × (r.2 ≡ [])
+at_end : (cfg : Config) (s : State) (fields : List (List ℕ)) (field : List ℕ) (r : Read)
+    → next_record cfg s fields field [] ≡ Some r → (r.1 ≡ st.StartRecord) × (r.2 ≡ [])
 unfolding next_record
 at_end cfg s fields field r e = elim (either (ends_at_end s) (fields ++ (field ∷ []), st.StartRecord, []) r None e) [
   | inl q ↦ (ap (λ (x : Read). x.1) (sym q), ap (λ (x : Read). x.2) (sym q))
@@ -32,7 +36,8 @@ at_end cfg s fields field r e = elim (either (ends_at_end s) (fields ++ (field �
 ]
 
 -- a record leaves no more bytes than there were
-within : (cfg : Config) (s : State) (fields : List (List ℕ)) (field : List ℕ) (xs : List ℕ) (r : Read) → next_record cfg s fields field xs ≡ Some r → length r.2 ≤ length xs
+within : (cfg : Config) (s : State) (fields : List (List ℕ)) (field : List ℕ) (xs : List ℕ) (r : Read)
+    → next_record cfg s fields field xs ≡ Some r → length r.2 ≤ length xs
 unfolding next_record
 within cfg s fields field [] r e = let l = ap (λ (ys : List ℕ). length ys) (at_end cfg s fields field r e).1 in omega arith
 within cfg s fields field (c ∷ rest) r e =
@@ -42,7 +47,8 @@ within cfg s fields field (c ∷ rest) r e =
     ]
 
 -- and fewer, where there were any
-fewer : (cfg : Config) (s : State) (fields : List (List ℕ)) (field : List ℕ) (c : ℕ) (rest : List ℕ) (r : Read) → next_record cfg s fields field (c ∷ rest) ≡ Some r → length r.2 ≤ length rest
+fewer : (cfg : Config) (s : State) (fields : List (List ℕ)) (field : List ℕ) (c : ℕ) (rest : List ℕ) (r : Read)
+    → next_record cfg s fields field (c ∷ rest) ≡ Some r → length r.2 ≤ length rest
 unfolding next_record
 fewer cfg s fields field c rest r e =
     elim (either (is_end (step cfg s c).1) (fields_after (step cfg s c).1 fields field, (step cfg s c).0, rest) r _ e) [
@@ -65,12 +71,14 @@ after_end cfg n m s p e =
     ap (λ t. records_from cfg n t p.2) state ∙ ap (records_from cfg n st.StartRecord) none ∙ none_left cfg n
     ∙ sym (ap (λ t. records_from cfg m t p.2) state ∙ ap (records_from cfg m st.StartRecord) none ∙ none_left cfg m)
 
-goes_on : (cfg : Config) (n m : ℕ) (s : State) (xs : List ℕ) (p : Read) → Enough cfg n m → length xs < suc n → length xs < suc m → next_record cfg s [] [] xs ≡ Some p
+goes_on : (cfg : Config) (n m : ℕ) (s : State) (xs : List ℕ) (p : Read) → Enough cfg n m
+    → length xs < suc n → length xs < suc m → next_record cfg s [] [] xs ≡ Some p
     → records_from cfg n p.1 p.2 ≡ records_from cfg m p.1 p.2
 goes_on cfg n m s [] p more a b e = after_end cfg n m s p e
 goes_on cfg n m s (c ∷ rest) p more a b e = let l = fewer cfg s [] [] c rest p e in more p.1 p.2 (omega arith) (omega arith)
 
-one_more : (cfg : Config) (n m : ℕ) (s : State) (xs : List ℕ) → Enough cfg n m → length xs < suc n → length xs < suc m → (o : Option Read) → next_record cfg s [] [] xs ≡ o
+one_more : (cfg : Config) (n m : ℕ) (s : State) (xs : List ℕ) → Enough cfg n m → length xs < suc n
+    → length xs < suc m → (o : Option Read) → next_record cfg s [] [] xs ≡ o
     → records_next (records_from cfg n) o ≡ records_next (records_from cfg m) o
 one_more cfg n m s xs more a b None e = refl
 one_more cfg n m s xs more a b (Some p) e = ap (λ l. p.0 ∷ l) (goes_on cfg n m s xs p more a b e)
@@ -82,7 +90,8 @@ enough cfg zero m s xs a b = absurd (omega arith)
 enough cfg (suc n) zero s xs a b = absurd (omega arith)
 enough cfg (suc n) (suc m) s xs a b = one_more cfg n m s xs (enough cfg n m) a b (next_record cfg s [] [] xs) refl
 
-rest_of : (cfg : Config) (s : State) (xs : List ℕ) (p : Read) → next_record cfg s [] [] xs ≡ Some p → records_from cfg (length xs) p.1 p.2 ≡ records_from cfg (length p.2 + 1) p.1 p.2
+rest_of : (cfg : Config) (s : State) (xs : List ℕ) (p : Read) → next_record cfg s [] [] xs ≡ Some p
+    → records_from cfg (length xs) p.1 p.2 ≡ records_from cfg (length p.2 + 1) p.1 p.2
 rest_of cfg s [] p e = after_end cfg 0 (length p.2 + 1) s p e
 rest_of cfg s (c ∷ rest) p e = let l = fewer cfg s [] [] c rest p e in enough cfg (suc (length rest)) (length p.2 + 1) p.1 p.2 (omega arith) (omega arith)
 
@@ -164,7 +173,8 @@ next_of cfg s t xs (Some ys) fields h = by (next_record cfg s [] [] xs) refl h
     by (Some p) e h = (p, e, h.1)
 
 -- a record that is no text is the next of those that were left
-pub next_is_no_text : (old new : BytesReader) (fields : List (List ℕ)) → IsReading old → TookRecord known old new fields → (AllText fields → ⊥) → IsNoText (left_of old)
+pub next_is_no_text : (old new : BytesReader) (fields : List (List ℕ)) → IsReading old
+    → TookRecord known old new fields → (AllText fields → ⊥) → IsNoText (left_of old)
 next_is_no_text old new fields reading took lacks =
     let (xs, at) = some_of (bytes_left old) reading.known in
     let reads : ReadsNext default_config old.state (Some xs) (pending_of (known new.rdr) new) true fields new.state =

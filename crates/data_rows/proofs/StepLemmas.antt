@@ -1,5 +1,6 @@
 -- How rows of CSV go on, field by field and record by record.
-use Rattle.std.proofs.Common.{◌≡◌, ℕ, suc, ◌+◌, Bool, true, false, ◌&&◌, Result, Ok, Err, List, [], ◌∷◌, ◌++◌, length, map, nat_eq, refl, sym, ap, ◌∙◌, add-one, append_assoc, length-append, if◌then◌else◌}
+use Rattle.std.proofs.Common.{◌≡◌, ℕ, suc, ◌+◌, Bool, true, false, ◌&&◌, Result, Ok, Err, List, [], ◌∷◌, ◌++◌, length, map, nat_eq, refl}
+use Rattle.std.proofs.Common.{sym, ap, ◌∙◌, add-one, append_assoc, length-append, if◌then◌else◌}
 use Rattle.std.specs.Prelude.{IsErrOf}
 use Rattle.std.specs.List.{list_all}
 use Rattle.std.specs.Str.{is_utf8}
@@ -56,7 +57,8 @@ module _ {X Y : Type 0} (f : X → Result Y (List ℕ)) where
 
   -- a row that is bad
   pub bad_row : (n : ℕ) (left : List X) (x : X) (others : List X) (rows : List Y) (whole : Result (List Y) Bad) (error : RowError)
-      → left ≡ x ∷ others → GivesRows {X = Y} (Err error) (numbered n (f x)) → rows_then rows (all_rows n (map f left)) ≡ whole → GivesRows {X = List Y} (Err error) whole
+      → left ≡ x ∷ others → GivesRows {X = Y} (Err error) (numbered n (f x))
+      → rows_then rows (all_rows n (map f left)) ≡ whole → GivesRows {X = List Y} (Err error) whole
   bad_row n left x others rows whole error is bad h =
       first_bad n x others rows whole error (f x) refl bad (ap (λ l. rows_then rows (all_rows n (map f l))) (sym is) ∙ h)
 
@@ -66,7 +68,8 @@ no_text_row columns fields e =
 
 -- a record that isn't there, or is no text
 pub no_record_row : (columns : List Column) (n : ℕ) (left : List (List (List ℕ))) (rows : List _) (whole : _) (error : RecordError)
-    → (IsErrOf {T = Bool} (Err error) cause.NoText → IsNoText left) → rows_then rows (all_rows n (map (record_row columns) left)) ≡ whole → GivesRows (Err (stopped n error)) whole
+    → (IsErrOf {T = Bool} (Err error) cause.NoText → IsNoText left)
+    → rows_then rows (all_rows n (map (record_row columns) left)) ≡ whole → GivesRows (Err (stopped n error)) whole
 no_record_row columns n left rows whole cause.Memory f h = tt
 no_record_row columns n left rows whole cause.NoText f h =
     let (fields, others, is, bad) = f refl in

@@ -32,13 +32,16 @@ some_by true n m h = refl
 some_by false n m h = absurd (cc h)
 
 -- each cell that is there is a true flag
-pub is_the_flag : (key : Key) (name : List ℕ) → IsSome (cell_in_unit (Some (the_row ∷ [])) key name) → cell_in_unit (Some (the_row ∷ [])) key name ≡ Some (Flag true)
+pub is_the_flag : (key : Key) (name : List ℕ) → IsSome (cell_in_unit (Some (the_row ∷ [])) key name)
+    → cell_in_unit (Some (the_row ∷ [])) key name ≡ Some (Flag true)
 is_the_flag key name h = by_key (has_key key the_row) (some_by (has_key key the_row) name [] h) name
 
 pub scales_are : (set : ScaleSet) → set ≡ the_scales → AreScales set
 scales_are set is =
     subst AreScales (sym is)
-    (All-cons (λ (s : ScaleIn). IsScale s.scale) _ [] (omega (arith, ints), ((omega (arith, ints), omega (arith, ints)), (omega (arith, ints), omega (arith, ints)))) (All-nil (λ (s : ScaleIn). IsScale s.scale)))
+    (All-cons (λ (s : ScaleIn). IsScale s.scale) _ []
+    (omega (arith, ints), ((omega (arith, ints), omega (arith, ints)), (omega (arith, ints), omega (arith, ints))))
+    (All-nil (λ (s : ScaleIn). IsScale s.scale)))
 
 circle_is_of_row : ItemIsOfRow (λ unit. Some (the_row ∷ [])) the_circle
 circle_is_of_row hit is name =

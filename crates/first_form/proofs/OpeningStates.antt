@@ -72,5 +72,6 @@ is_state_of form drawable =
       };
       sources = sym (named_sources form);
       params = ap (λ top. settable_names (map param_of (map parameter_of (signals_of top)))) (sym (opened_group form));
-      stores = subst (λ selections. AreStoresOf (temporal_of (bars_of form)) (plots_of (bars_of form)) (map plain_of selections) []) (sym (no_selections form)) tt;
+      stores = subst (λ selections. AreStoresOf (temporal_of (bars_of form)) (plots_of (bars_of form)) (map plain_of selections) [])
+          (sym (no_selections form)) tt;
     }

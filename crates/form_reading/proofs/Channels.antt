@@ -173,17 +173,23 @@ module _ (field kind : List ℕ) (type_ : FieldType) (plain : field_name field �
   orders : Orders Known (codes "field") (codes "type") (codes "axis")
   orders = record {
     abc = λ fv tv av told. of_values fv tv av _ (shown_fta fv tv av)
-        (λ v. (text_leaf (out-Json fv) field v.0, (text_leaf (out-Json tv) kind v.1, (null_leaf (out-Json av) v.2, tt)))) (values_told fv tv av told.none told.text told.its_kind told.null);
+        (λ v. (text_leaf (out-Json fv) field v.0, (text_leaf (out-Json tv) kind v.1, (null_leaf (out-Json av) v.2, tt))))
+        (values_told fv tv av told.none told.text told.its_kind told.null);
     acb = λ fv tv av told. of_values fv tv av _ (shown_fat fv tv av)
-        (λ v. (text_leaf (out-Json fv) field v.0, (null_leaf (out-Json av) v.2, (text_leaf (out-Json tv) kind v.1, tt)))) (values_told fv tv av told.none told.text told.its_kind told.null);
+        (λ v. (text_leaf (out-Json fv) field v.0, (null_leaf (out-Json av) v.2, (text_leaf (out-Json tv) kind v.1, tt))))
+        (values_told fv tv av told.none told.text told.its_kind told.null);
     bac = λ fv tv av told. of_values fv tv av _ (shown_tfa fv tv av)
-        (λ v. (text_leaf (out-Json tv) kind v.1, (text_leaf (out-Json fv) field v.0, (null_leaf (out-Json av) v.2, tt)))) (values_told fv tv av told.none told.text told.its_kind told.null);
+        (λ v. (text_leaf (out-Json tv) kind v.1, (text_leaf (out-Json fv) field v.0, (null_leaf (out-Json av) v.2, tt))))
+        (values_told fv tv av told.none told.text told.its_kind told.null);
     bca = λ fv tv av told. of_values fv tv av _ (shown_taf fv tv av)
-        (λ v. (text_leaf (out-Json tv) kind v.1, (null_leaf (out-Json av) v.2, (text_leaf (out-Json fv) field v.0, tt)))) (values_told fv tv av told.none told.text told.its_kind told.null);
+        (λ v. (text_leaf (out-Json tv) kind v.1, (null_leaf (out-Json av) v.2, (text_leaf (out-Json fv) field v.0, tt))))
+        (values_told fv tv av told.none told.text told.its_kind told.null);
     cab = λ fv tv av told. of_values fv tv av _ (shown_aft fv tv av)
-        (λ v. (null_leaf (out-Json av) v.2, (text_leaf (out-Json fv) field v.0, (text_leaf (out-Json tv) kind v.1, tt)))) (values_told fv tv av told.none told.text told.its_kind told.null);
+        (λ v. (null_leaf (out-Json av) v.2, (text_leaf (out-Json fv) field v.0, (text_leaf (out-Json tv) kind v.1, tt))))
+        (values_told fv tv av told.none told.text told.its_kind told.null);
     cba = λ fv tv av told. of_values fv tv av _ (shown_atf fv tv av)
-        (λ v. (null_leaf (out-Json av) v.2, (text_leaf (out-Json tv) kind v.1, (text_leaf (out-Json fv) field v.0, tt)))) (values_told fv tv av told.none told.text told.its_kind told.null);
+        (λ v. (null_leaf (out-Json av) v.2, (text_leaf (out-Json tv) kind v.1, (text_leaf (out-Json fv) field v.0, tt))))
+        (values_told fv tv av told.none told.text told.its_kind told.null);
   }
 
   known_of : (members : List Member)

@@ -1,5 +1,6 @@
 -- Why a text of the first form says the specification of its form.
-use Rattle.std.proofs.Common.{◌≡◌, ℕ, pos, ◌==◌, Bool, true, false, List, [], ◌∷◌, ◌++◌, length, Option, Some, None, if◌then◌else◌, codes, nat_le, refl, sym, ap, subst, ◌∙◌}
+use Rattle.std.proofs.Common.{◌≡◌, ℕ, pos, ◌==◌, Bool, true, false, List, [], ◌∷◌, ◌++◌, length, Option, Some, None, if◌then◌else◌, codes}
+use Rattle.std.proofs.Common.{nat_le, refl, sym, ap, subst, ◌∙◌}
 use Rattle.std.specs.Prelude.{map}
 use Rattle.std.specs.List.{filter_map}
 use Rattle.std.specs.Option.{option_map, option_map_or, option_and_then, unwrap_or}
@@ -235,7 +236,8 @@ module _ (tree : Json) (form : FirstForm) (k : TextKnown tree form) where
   -- ---- the specification
 
   no_datasets : needed_members k.members (codes "datasets") ≡ []
-  no_datasets = ap (λ (o : Option (List Member)). unwrap_or o []) (no_found k.members (codes "datasets") (k.top.others (codes "datasets") refl refl refl) members_in)
+  no_datasets = ap (λ (o : Option (List Member)). unwrap_or o [])
+      (no_found k.members (codes "datasets") (k.top.others (codes "datasets") refl refl refl) members_in)
 
   members_known : members_of tree ≡ k.members
   members_known = ap (λ (o : Opened). unwrap_or (members_in o) []) k.is
@@ -295,7 +297,8 @@ module _ (tree : Json) (found : List ℕ × List Json) (fields : List ℕ × Lis
       let (name, text, rest) = bind_some (found_at text_in source (codes "name")) _ found rest in
       let (rows, list, rest) = bind_some (found_at items_in source (codes "values")) _ found rest in
       let (few, same) = kept (nat_le (length rows) 1000) (name, rows) found rest in
-      let (source_is, source_passes) = object_known names (out-Json dv) source (found_known (object_of names) members (codes "data") dv source of_data top.data_is) in
+      let (source_is, source_passes) =
+      object_known names (out-Json dv) source (found_known (object_of names) members (codes "data") dv source of_data top.data_is) in
       let channels = codes "x" ∷ codes "y" ∷ [] in
       let (encoding, of_encoding, rest) = bind_some (found_at (object_of channels) members (codes "encoding")) _ fields fields_are in
       let (x, nominal, rest) = bind_some (field_at encoding (codes "x") (codes "nominal")) _ fields rest in

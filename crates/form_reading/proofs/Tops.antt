@@ -74,22 +74,28 @@ module _ {P : Type 0} (visit : Visiting Around P) (dv mv ev : Json) (given : ℕ
   e_part n = part_known top_unit trail n (codes "encoding") se ENCODING [] encoding_shape (found.of_encoding n)
 
   parts_dme : flat_map (member_parts top_unit trail) (enumerate_from 0 (seen_members vl_schema noted visit (d dv ∷ m mv ∷ e ev ∷ []))) ≡ given 0
-  parts_dme = three_parts top_unit trail (codes "data") (codes "mark") (codes "encoding") sd sm se (given 0) [] [] (d_part 0) (m_part 1) (e_part 2) ∙ append-nil (given 0)
+  parts_dme = three_parts top_unit trail (codes "data") (codes "mark") (codes "encoding") sd sm se
+      (given 0) [] [] (d_part 0) (m_part 1) (e_part 2) ∙ append-nil (given 0)
 
   parts_dem : flat_map (member_parts top_unit trail) (enumerate_from 0 (seen_members vl_schema noted visit (d dv ∷ e ev ∷ m mv ∷ []))) ≡ given 0
-  parts_dem = three_parts top_unit trail (codes "data") (codes "encoding") (codes "mark") sd se sm (given 0) [] [] (d_part 0) (e_part 1) (m_part 2) ∙ append-nil (given 0)
+  parts_dem = three_parts top_unit trail (codes "data") (codes "encoding") (codes "mark") sd se sm
+      (given 0) [] [] (d_part 0) (e_part 1) (m_part 2) ∙ append-nil (given 0)
 
   parts_mde : flat_map (member_parts top_unit trail) (enumerate_from 0 (seen_members vl_schema noted visit (m mv ∷ d dv ∷ e ev ∷ []))) ≡ given 1
-  parts_mde = three_parts top_unit trail (codes "mark") (codes "data") (codes "encoding") sm sd se [] (given 1) [] (m_part 0) (d_part 1) (e_part 2) ∙ append-nil (given 1)
+  parts_mde = three_parts top_unit trail (codes "mark") (codes "data") (codes "encoding") sm sd se
+      [] (given 1) [] (m_part 0) (d_part 1) (e_part 2) ∙ append-nil (given 1)
 
   parts_med : flat_map (member_parts top_unit trail) (enumerate_from 0 (seen_members vl_schema noted visit (m mv ∷ e ev ∷ d dv ∷ []))) ≡ given 2
-  parts_med = three_parts top_unit trail (codes "mark") (codes "encoding") (codes "data") sm se sd [] [] (given 2) (m_part 0) (e_part 1) (d_part 2) ∙ append-nil (given 2)
+  parts_med = three_parts top_unit trail (codes "mark") (codes "encoding") (codes "data") sm se sd
+      [] [] (given 2) (m_part 0) (e_part 1) (d_part 2) ∙ append-nil (given 2)
 
   parts_edm : flat_map (member_parts top_unit trail) (enumerate_from 0 (seen_members vl_schema noted visit (e ev ∷ d dv ∷ m mv ∷ []))) ≡ given 1
-  parts_edm = three_parts top_unit trail (codes "encoding") (codes "data") (codes "mark") se sd sm [] (given 1) [] (e_part 0) (d_part 1) (m_part 2) ∙ append-nil (given 1)
+  parts_edm = three_parts top_unit trail (codes "encoding") (codes "data") (codes "mark") se sd sm
+      [] (given 1) [] (e_part 0) (d_part 1) (m_part 2) ∙ append-nil (given 1)
 
   parts_emd : flat_map (member_parts top_unit trail) (enumerate_from 0 (seen_members vl_schema noted visit (e ev ∷ m mv ∷ d dv ∷ []))) ≡ given 2
-  parts_emd = three_parts top_unit trail (codes "encoding") (codes "mark") (codes "data") se sm sd [] [] (given 2) (e_part 0) (m_part 1) (d_part 2) ∙ append-nil (given 2)
+  parts_emd = three_parts top_unit trail (codes "encoding") (codes "mark") (codes "data") se sm sd
+      [] [] (given 2) (e_part 0) (m_part 1) (d_part 2) ∙ append-nil (given 2)
 
 -- ---- the top
 

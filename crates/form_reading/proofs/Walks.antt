@@ -4,7 +4,8 @@ use Rattle.std.specs.Prelude.{flat_map}
 use Rattle.std.specs.List.{enumerate_from}
 use Rattle.std.specs.Option.{option_map_or}
 use Rattle.std.proofs.lemmas.Bool.Decides.{nat_tests}
-use Rattle.json_exact.specs.declared.json.Json.{Json, out-Json, Null, Flag, Number, Huge, Text, List', Object', Row_of-Member, end_of-Member, more_of-Member, items-the_row-Member, items_shown-the_row-Member-1}
+use Rattle.json_exact.specs.declared.json.Json.{Json, out-Json, Null, Flag, Number, Huge, Text, List', Object', Row_of-Member}
+use Rattle.json_exact.specs.declared.json.Json.{end_of-Member, more_of-Member, items-the_row-Member, items_shown-the_row-Member-1}
 use Rattle.json_exact.specs.declared.json.Json.TheVariants.{outs-Null, outs-Flag, outs-Number, outs-Huge, outs-Text, outs-List', outs-Object'}
 use Rattle.json_exact.specs.declared.json.Json.TheOpen as level
 use Rattle.json_exact.specs.declared.json.Member.{Member}
@@ -155,7 +156,8 @@ module _ {P : Type 0} (visit : Visiting Around P) (notes : Notes visit) where
   leaf_seen (Number n) number shape round leaf = absurd leaf
   leaf_seen Huge number shape round leaf = absurd leaf
   leaf_seen (Text t) number shape round leaf =
-      unformed shape notes.shape (level.Text t) (visit (noted number shape (Text t) ∷ round) (Text t)) (notes.nothing number shape (Text t) round) (notes.no_text t)
+      unformed shape notes.shape (level.Text t) (visit (noted number shape (Text t) ∷ round) (Text t))
+      (notes.nothing number shape (Text t) round) (notes.no_text t)
   leaf_seen (List' size row) number shape round leaf = absurd leaf
   leaf_seen (Object' size row) number shape round leaf = absurd leaf
 
@@ -166,18 +168,24 @@ module _ {P : Type 0} (visit : Visiting Around P) (notes : Notes visit) where
   by_free o given inside none nothing = ap (λ taken. where_formed {P = P} taken (λ form. given ++ inside form)) (taken_free o) ∙ (λ i. none i ++ nothing i)
 
   pub free_seen : (tree : Json) (number : ℕ) (round : Trail) → seen_in vl_schema noted visit tree number FREE round ≡ []
-  free_seen Null number round = by_free (out-Json Null) (visit (noted number FREE Null ∷ round) Null) (λ form. []) (notes.nothing number FREE Null round notes.not_free) refl
-  free_seen (Flag b) number round = by_free (out-Json (Flag b)) (visit (noted number FREE (Flag b) ∷ round) (Flag b)) (λ form. []) (notes.nothing number FREE (Flag b) round notes.not_free) refl
-  free_seen (Number n) number round = by_free (out-Json (Number n)) (visit (noted number FREE (Number n) ∷ round) (Number n)) (λ form. []) (notes.nothing number FREE (Number n) round notes.not_free) refl
-  free_seen Huge number round = by_free (out-Json Huge) (visit (noted number FREE Huge ∷ round) Huge) (λ form. []) (notes.nothing number FREE Huge round notes.not_free) refl
-  free_seen (Text t) number round = by_free (out-Json (Text t)) (visit (noted number FREE (Text t) ∷ round) (Text t)) (λ form. []) (notes.nothing number FREE (Text t) round notes.not_free) refl
+  free_seen Null number round =
+      by_free (out-Json Null) (visit (noted number FREE Null ∷ round) Null) (λ form. []) (notes.nothing number FREE Null round notes.not_free) refl
+  free_seen (Flag b) number round = by_free (out-Json (Flag b)) (visit (noted number FREE (Flag b) ∷ round) (Flag b))
+      (λ form. []) (notes.nothing number FREE (Flag b) round notes.not_free) refl
+  free_seen (Number n) number round = by_free (out-Json (Number n)) (visit (noted number FREE (Number n) ∷ round) (Number n))
+      (λ form. []) (notes.nothing number FREE (Number n) round notes.not_free) refl
+  free_seen Huge number round =
+      by_free (out-Json Huge) (visit (noted number FREE Huge ∷ round) Huge) (λ form. []) (notes.nothing number FREE Huge round notes.not_free) refl
+  free_seen (Text t) number round = by_free (out-Json (Text t)) (visit (noted number FREE (Text t) ∷ round) (Text t))
+      (λ form. []) (notes.nothing number FREE (Text t) round notes.not_free) refl
   free_seen (List' size row) number round =
       by_free (out-Json (List' size row)) (visit (noted number FREE (List' size row) ∷ round) (List' size row))
       (λ form. list_parts (items_shape form) (seen_items vl_schema noted visit row) (noted number FREE (List' size row) ∷ round))
       (notes.nothing number FREE (List' size row) round notes.not_free) refl
   free_seen (Object' size row) number round =
       by_free (out-Json (Object' size row)) (visit (noted number FREE (Object' size row) ∷ round) (Object' size row))
-      (λ form. object_parts (layout_of vl_schema form (members_of (out-Json (Object' size row)))) (seen_row vl_schema noted visit row) (noted number FREE (Object' size row) ∷ round))
+      (λ form. object_parts (layout_of vl_schema form (members_of (out-Json (Object' size row))))
+      (seen_row vl_schema noted visit row) (noted number FREE (Object' size row) ∷ round))
       (notes.nothing number FREE (Object' size row) round notes.not_free) refl
 
   -- ---- an object of texts and nulls

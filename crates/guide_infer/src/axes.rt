@@ -3,7 +3,8 @@ ghost use Rattle.std.specs.Prelude.{◌≡◌, map, option_map, unwrap_or, IfOk}
 ghost use Rattle.std.specs.Option.{option_or};
 ghost use Rattle.guide_infer.specs.First.{first_given};
 ghost use Rattle.guide_infer.specs.Labels.{default_format};
-ghost use Rattle.guide_infer.specs.Axes.{is_line, edge_of, first_side, later_side, default_side, is_unbinned, default_grid, default_turn, turns, count_of, axis_said, axis_by};
+ghost use Rattle.guide_infer.specs.Axes.{is_line, edge_of, first_side, later_side, default_side, is_unbinned, default_grid, default_turn};
+ghost use Rattle.guide_infer.specs.Axes.{turns, count_of, axis_said, axis_by};
 
 use crate::labels;
 use crate::members::{

@@ -1,7 +1,8 @@
 // What definitions say of axes, legends and titles.
 ghost use Rattle.std.specs.Prelude.{◌≡◌, ◌++◌, ◌∷◌, [], map, option_copied, option_to_list, is_some, IfOk, OnOk, if◌then◌else◌, true};
 ghost use Rattle.std.specs.Option.{option_and_then, option_map_or};
-ghost use Rattle.guide_infer.specs.Said.{axis_in, legend_in, has_axis, has_legend, is_bare, with_axes, with_legends, axes_said, legends_said, is_field, first_field};
+ghost use Rattle.guide_infer.specs.Said.{axis_in, legend_in, has_axis, has_legend, is_bare, with_axes, with_legends, axes_said};
+ghost use Rattle.guide_infer.specs.Said.{legends_said, is_field, first_field};
 
 use std::alloc::Global;
 use text_kit::{OutOfMemory, Seq};

@@ -62,7 +62,8 @@ pub struct Styles<'a> {
     pub align: Seq<Scaled<'a>>,
     pub baseline: Seq<Scaled<'a>>,
     pub same: Option<TextStyle>,
-    ghost kept: { same ≡ fixed_style (scaled_all size) (scaled_all align) (scaled_all baseline) } by { Coded-set same-code same (fixed_style (scaled_all size) (scaled_all align) (scaled_all baseline)) },
+    ghost kept: { same ≡ fixed_style (scaled_all size) (scaled_all align) (scaled_all baseline) } by { Coded-set same-code same
+        (fixed_style (scaled_all size) (scaled_all align) (scaled_all baseline)) },
 }
 
 // How large the symbols of all rows are by values, where that is known to be the same.

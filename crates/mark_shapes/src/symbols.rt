@@ -2,8 +2,9 @@
 ghost use Rattle.std.specs.Prelude.{◌≡◌, IfOk};
 ghost use Rattle.std.specs.Str.{bytes_eq};
 ghost use Rattle.fixed_num.specs.Ranges.{in_range};
-ghost use Rattle.mark_shapes.specs.Symbols.{symbol_named, symbol_of, side_of, side_shown, rise_of, reach_at, reach_of, radius_of, place_before, circle_at, square_at};
-ghost use Rattle.mark_shapes.specs.Symbols.{symbol_path, diamond_over, triangle_over, square_about, diamond_about, triangle_about, symbol_about};
+ghost use Rattle.mark_shapes.specs.Symbols.{symbol_named, symbol_of, side_of, side_shown, rise_of, reach_at, reach_of, radius_of};
+ghost use Rattle.mark_shapes.specs.Symbols.{place_before, circle_at, square_at, symbol_path, diamond_over, triangle_over, square_about};
+ghost use Rattle.mark_shapes.specs.Symbols.{diamond_about, triangle_about, symbol_about};
 
 use crate::numbers::{difference, half, pixels, sum_of, times};
 use crate::shown::{Shown, or_default};

@@ -78,7 +78,8 @@ module _ (meaning : Semantics) (st : State) (h : IsMeaning meaning) (of : IsStat
   source_there : has_names meaning name change ≡ true → Place st.sources name
   source_there known =
       place_of st.sources name
-      (ap (list_any (λ other. bytes_eq other name)) of.sources ∙ left_true (has_source meaning name) (list_all (has_param meaning) (names_of_change change)) known)
+      (ap (list_any (λ other. bytes_eq other name)) of.sources
+      ∙ left_true (has_source meaning name) (list_all (has_param meaning) (names_of_change change)) known)
 
   module _ (place : Place st.sources name) where
     limit : is_past_limit (meaning.values st) st name change ≡ is_past (meaning.values st) st.next_id st.sources place.0 change

@@ -22,10 +22,10 @@ use Rattle.param_flow.specs.declared.reply.Reply.TheVariants.{Done, Refused}
 use Rattle.param_flow.specs.declared.reply.Cause.TheVariants as cause
 use Rattle.param_flow.specs.Change.{rows_after, stays, count_staying}
 use Rattle.param_flow.specs.Machine.{new_rows}
-use Rattle.row_edits.specs.declared.edits.Edits.{Edits}
-use Rattle.row_edits.specs.Edits.{edited, data_edited}
-use Rattle.row_edits.specs.Rows.{Fits}
-use Rattle.row_edits.proofs.EditLemmas.{one_if, count_next}
+use Rattle.plain_engine.specs.declared.edits.Edits.{Edits}
+use Rattle.plain_engine.specs.inner.Edits.{edited, data_edited}
+use Rattle.plain_engine.specs.inner.Fits.{Fits}
+use Rattle.plain_engine.proofs.EditLemmas.{one_if, count_next}
 use Rattle.vega_spec.specs.declared.spec.VgSpec.{VgSpec}
 use Rattle.vega_lists.specs.Held.{AreSources}
 use Rattle.vega_lists.proofs.StateLemmas.{sources_of_state}
@@ -85,7 +85,8 @@ module _ (stores : List StoreOf) (next_id : ℕ) (params signals : List (List �
   -- the limit
   pub past_is : (all others staying more : ℕ) (past : Bool) → all ≡ count_in (map dataset_of sources)
       → others + length (rows_at sources index) ≡ all
-      → staying ≡ count_staying (values_with (values_of_stores stores) signals []) change.remove (map datum_of (rows_at sources index)) → more ≡ length change.insert
+      → staying ≡ count_staying (values_with (values_of_stores stores) signals []) change.remove (map datum_of (rows_at sources index))
+      → more ≡ length change.insert
       → past ≡ (nat_lt most_rows ((others + staying) + more) || nat_lt (greatest_id + 1) (next_id + more))
       → past ≡ is_past stores next_id signals (map dataset_of sources) index change
   past_is all others staying more past is rest count long e =
@@ -98,7 +99,8 @@ module _ (stores : List StoreOf) (next_id : ℕ) (params signals : List (List �
 
   module _ (edits : Edits) (is : data_edited edits (rows_at sources index)
       ≡ rows_after (values_with (values_of_stores stores) signals []) change (map datum_of (rows_at sources index))) where
-    found : data_edited edits (rows_at sources index) ≡ rows_after (values_with (values_of_stores stores) signals []) change (data_at (map dataset_of sources) index)
+    found : data_edited edits (rows_at sources index)
+        ≡ rows_after (values_with (values_of_stores stores) signals []) change (data_at (map dataset_of sources) index)
     found = is ∙ ap (rows_after (values_with (values_of_stores stores) signals []) change) (read_at sources index)
 
     -- the sources after edits of which none is out of range

@@ -16,7 +16,7 @@ use Rattle.param_flow.specs.declared.command.ChangeOf.{ChangeOf}
 use Rattle.fixed_num.specs.Ranges.{◌>>=◌, all_found}
 use Rattle.cell_value.specs.Datum.{datum_with}
 use Rattle.param_flow.specs.Change.{with_cells, setting_of, removal_of, modified, row_after, rows_after, count_staying}
-use Rattle.row_edits.proofs.EditLemmas.{before, rows_after_next, one_if, is_gone, stays_is, count_next}
+use Rattle.plain_engine.proofs.EditLemmas.{before, rows_after_next, one_if, is_gone, stays_is, count_next}
 
 -- a row has the key of another, and reads the same id
 pub record IsSame (row new : Datum) : Type 0 where

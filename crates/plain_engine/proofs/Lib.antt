@@ -10,3 +10,5 @@ pub mod EventLemmas
 pub mod TopLemmas
 pub mod RowLemmas
 pub mod PrintLemmas
+mod EditLemmas
+mod SettleLemmas

@@ -22,10 +22,10 @@ use Rattle.expr_eval.specs.Values.{Values}
 use Rattle.param_flow.specs.declared.command.ChangeOf.{ChangeOf}
 use Rattle.param_flow.specs.Change.{rows_after, count_staying}
 use Rattle.param_flow.specs.Machine.{source_after, count_left}
-use Rattle.row_edits.specs.declared.edits.Edit.{Edit}
-use Rattle.row_edits.specs.declared.marks.Undo.{Undo}
-use Rattle.row_edits.specs.Edits.{edited}
-use Rattle.row_edits.specs.Marks.{taken_back}
+use Rattle.plain_engine.specs.declared.edits.Edit.{Edit}
+use Rattle.plain_engine.specs.declared.undo.Undo.{Undo}
+use Rattle.plain_engine.specs.inner.Edits.{edited}
+use Rattle.plain_engine.specs.inner.Undo.{taken_back}
 use Rattle.plain_engine.specs.inner.Sources.{rows_at, with_rows, data_at, with_data, count_in, AreApart}
 use Rattle.plain_engine.proofs.LeftRows.{pairs_first, pairs_rest}
 use Rattle.plain_engine.proofs.StateRows.{rows_in}

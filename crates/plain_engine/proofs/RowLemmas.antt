@@ -1,5 +1,6 @@
 -- The rows that marks draw, as they are listed copy after copy.
-use Rattle.std.proofs.Common.{◌≡◌, ℕ, zero, suc, ◌+◌, ◌<◌, ◌^◌, ◌≤◌, Bool, true, false, cond, Option, Some, None, List, [], ◌∷◌, ◌++◌, map, length, drop, get_or, Bor, refl, sym, ap, ◌∙◌, arith, subst, append-nil, append_assoc}
+use Rattle.std.proofs.Common.{◌≡◌, ℕ, zero, suc, ◌+◌, ◌<◌, ◌^◌, ◌≤◌, Bool, true, false, cond, Option, Some, None, List, [], ◌∷◌, ◌++◌, map}
+use Rattle.std.proofs.Common.{length, drop, get_or, Bor, refl, sym, ap, ◌∙◌, arith, subst, append-nil, append_assoc}
 use Rattle.std.specs.Prelude.{◌==◌, ◌&&◌, flat_map, filter, find, unwrap_or, if◌then◌else◌, IsSome}
 use Rattle.std.specs.Option.{option_map}
 use Rattle.std.specs.List.{All, AllZip}
@@ -31,7 +32,8 @@ use Rattle.vega_copies.specs.declared.names.Level.{Level}
 use Rattle.vega_copies.specs.declared.names.NamesAt.{NamesAt}
 use Rattle.vega_copies.specs.CopyNames.{names_in_copy}
 use Rattle.vega_copies.specs.Facets.{Copy, copies_of, columns_across}
-use Rattle.vega_copies.specs.Facts.{Facts, Found, FoundOf, NoCopies, CopyFound, copies_in, gathered, first_copies, behind_first, facts_here, copy_found, found_in, facts_of}
+use Rattle.vega_copies.specs.Facts.{Facts, Found, FoundOf, NoCopies, CopyFound, copies_in, gathered, first_copies, behind_first, facts_here}
+use Rattle.vega_copies.specs.Facts.{copy_found, found_in, facts_of}
 use Rattle.vega_copies.specs.Outlines.{Object, Marks, NoMarks, AMark, AGroup, PlainMark, Opened, numbered, count_marks, count_groups, outline_of}
 use Rattle.vega_copies.specs.Scopes.{Names, keeps_signals, names_at_top}
 use Rattle.vega_copies.specs.inner.Kept.{KeepsAll}
@@ -74,7 +76,8 @@ row_pushed unit rows i row old new whole lt at h is =
     ∙ ap (λ rest. old ++ entries_of_rows unit (data_of rest)) (sym (at_place rows i row lt at))
     ∙ h
 
-pub rows_ended : (unit : ℕ) (rows : List (Bor Keyed)) (old whole : List (ℕ × Datum)) → rows ≡ [] → old ++ entries_of_rows unit (data_of rows) ≡ whole → old ≡ whole
+pub rows_ended : (unit : ℕ) (rows : List (Bor Keyed)) (old whole : List (ℕ × Datum))
+    → rows ≡ [] → old ++ entries_of_rows unit (data_of rows) ≡ whole → old ≡ whole
 rows_ended unit rows old whole none h = sym (append-nil old) ∙ ap (λ rest. old ++ entries_of_rows unit (data_of rest)) (sym none) ∙ h
 
 -- the same of what comes of each of some elements
@@ -109,7 +112,8 @@ module _ (sources : List Named) (levels : List Level) (m : VgMark) where
       ∙ append-nil (entries_of_copies sources unit (out-VgMark m) levels (out-CopiesMade found).copies)
 
   pub plain_entries : (unit : ℕ) (found : CopiesMade) → is_group (out-VgMark m) ≡ false
-      → entries_of sources unit (marks_of (m ∷ [])) levels (found ∷ []) ≡ entries_of_mark unit (plain_of (out-VgMark m)) (scope_read (rows_under sources levels))
+      → entries_of sources unit (marks_of (m ∷ [])) levels (found ∷ [])
+      ≡ entries_of_mark unit (plain_of (out-VgMark m)) (scope_read (rows_under sources levels))
   plain_entries unit found e =
       ap (λ row. entries_of sources unit row levels (found ∷ [])) (plain_first m NoMarks e)
       ∙ append-nil (entries_of_mark unit (plain_of (out-VgMark m)) (scope_read (rows_under sources levels)))
@@ -121,7 +125,8 @@ module _ (sources : List Named) (levels : List Level) (m : VgMark) where
   first_entries unit ms found more = by_type (is_group (out-VgMark m)) refl
     where
       by_type : (b : Bool) → is_group (out-VgMark m) ≡ b → entries_of sources unit (marks_of (m ∷ ms)) levels (found ∷ more)
-          ≡ entries_of sources unit (marks_of (m ∷ [])) levels (found ∷ []) ++ entries_of sources (unit + count_marks (marks_of (m ∷ []))) (marks_of ms) levels more
+          ≡ entries_of sources unit (marks_of (m ∷ [])) levels (found ∷ [])
+          ++ entries_of sources (unit + count_marks (marks_of (m ∷ []))) (marks_of ms) levels more
       by_type true e =
           let counted : unit + count_marks (marks_of (m ∷ [])) ≡ unit + count_marks marks_inside =
           ap (λ row. unit + count_marks row) (group_first m NoMarks e) ∙ same_number unit (count_marks marks_inside) in
@@ -134,7 +139,8 @@ module _ (sources : List Named) (levels : List Level) (m : VgMark) where
           ∙ (λ i. sym (plain_entries unit found e) i ++ entries_of sources (sym counted i) (marks_of ms) levels more)
 
 -- What is left of marks while their rows are added, where so many were numbered and these rows added.
-pub record EntriesLeft (names : NamesAt) (whole : List (ℕ × Datum)) (marks : List VgMark) (made : List CopiesMade) (unit : ℕ) (out : List (ℕ × Datum)) : Type 0 where
+pub record EntriesLeft (names : NamesAt) (whole : List (ℕ × Datum)) (marks : List VgMark)
+    (made : List CopiesMade) (unit : ℕ) (out : List (ℕ × Datum)) : Type 0 where
   pub stand : HaveCopies names.stores.now names.sources.now names.levels.now marks made
   pub few : unit + count_marks (marks_of marks) < 2 ^ 32
   pub entries : out ++ entries_of names.sources.now unit (marks_of marks) (levels_behind names.levels.now) made ≡ whole
@@ -148,7 +154,8 @@ module _ (names : NamesAt) (whole : List (ℕ × Datum)) (all : List VgMark) (ev
   one_made = OneMade names.stores.now names.sources.now (levels_behind names.levels.now)
 
   -- none are left
-  pub entries_ended : (marks : List VgMark) (made : List CopiesMade) (unit : ℕ) (out : List (ℕ × Datum)) → marks ≡ [] → EntriesLeft names whole marks made unit out
+  pub entries_ended : (marks : List VgMark) (made : List CopiesMade) (unit : ℕ) (out : List (ℕ × Datum))
+      → marks ≡ [] → EntriesLeft names whole marks made unit out
       → out ≡ whole
   entries_ended marks made unit out none left =
       sym (append-nil out)
@@ -212,7 +219,8 @@ module _ (names : NamesAt) (whole : List (ℕ × Datum)) (all : List VgMark) (ev
 pub inside_few : (m : VgMark) (inside : List VgMark) (unit : ℕ) → is_group (out-VgMark m) ≡ true → inside ≡ marks_in (out-Group (out-VgMark m).group)
     → unit + count_marks (marks_of (m ∷ [])) < 2 ^ 32 → unit + count_marks (marks_of inside) < 2 ^ 32
 inside_few m inside unit e is few =
-    let whole : count_marks (marks_of (m ∷ [])) ≡ count_marks (marks_of (marks_in (out-Group (out-VgMark m).group))) + 0 = ap count_marks (group_first m NoMarks e) in
+    let whole : count_marks (marks_of (m ∷ [])) ≡ count_marks (marks_of (marks_in (out-Group (out-VgMark m).group))) + 0 =
+    ap count_marks (group_first m NoMarks e) in
     let part : count_marks (marks_of inside) ≡ count_marks (marks_of (marks_in (out-Group (out-VgMark m).group))) = ap (λ ms. count_marks (marks_of ms)) is in
     omega (arith, few, whole, part)
 
@@ -224,7 +232,8 @@ told_append (entry ∷ a) b unit = by_unit (entry.0 == unit) (told_append a b un
   where
     by_unit : (is : Bool) → told_of (a ++ b) unit ≡ told_of a unit ++ told_of b unit
         → map (λ (e : ℕ × Datum). e.1) (cond is (entry ∷ filter (λ (e : ℕ × Datum). e.0 == unit) (a ++ b)) (filter (λ (e : ℕ × Datum). e.0 == unit) (a ++ b)))
-        ≡ map (λ (e : ℕ × Datum). e.1) (cond is (entry ∷ filter (λ (e : ℕ × Datum). e.0 == unit) a) (filter (λ (e : ℕ × Datum). e.0 == unit) a)) ++ told_of b unit
+        ≡ map (λ (e : ℕ × Datum). e.1)
+        (cond is (entry ∷ filter (λ (e : ℕ × Datum). e.0 == unit) a) (filter (λ (e : ℕ × Datum). e.0 == unit) a)) ++ told_of b unit
     by_unit true same = ap (λ rest. entry.1 ∷ rest) same
     by_unit false same = same
 
@@ -335,7 +344,8 @@ module _ (stores : List StoreOf) (sources : List Named) (unit : ℕ) where
   copies_told o inside n number levels tells (c ∷ cs) found all e =
       let first = bind_some (copy_here o inside (names_under stores sources levels) (made_seen c))
       (λ x. all_found (map (copy_here o inside (names_under stores sources levels)) (map made_seen cs)) >>= λ xs. Some (x ∷ xs)) found e in
-      let rest = bind_some (all_found (map (copy_here o inside (names_under stores sources levels)) (map made_seen cs))) (λ xs. Some (first.0 ∷ xs)) found first.2 in
+      let rest = bind_some (all_found (map (copy_here o inside (names_under stores sources levels)) (map made_seen cs)))
+      (λ xs. Some (first.0 ∷ xs)) found first.2 in
       let one = All-head (IsMade stores sources o inside (AreMade stores sources inside) levels) c cs all in
       let others = All-tail (IsMade stores sources o inside (AreMade stores sources inside) levels) c cs all in
       told_append (entries_within inside n levels c) (flat_map (entries_within inside n levels) cs) unit
@@ -388,7 +398,8 @@ cell_found unit key name (row ∷ rows) = by_unit (row.unit == unit) (has_key ke
         ap (λ b. option_map (λ (d : Datum). d.cell name) (cond b (Some (datum_of row.keyed)) (find (has_key key) (told rows unit)))) e
         ∙ same
 
-pub cell_of_found : (unit : ℕ) (key : Key) (name : List ℕ) (rows : List DrawnRow) (row : DrawnRow) (cell : Cell) → Some row ≡ find (has_unit_and_key unit key) rows
+pub cell_of_found : (unit : ℕ) (key : Key) (name : List ℕ) (rows : List DrawnRow) (row : DrawnRow) (cell : Cell)
+    → Some row ≡ find (has_unit_and_key unit key) rows
     → cell ≡ cell_at row.keyed name → cell_in_unit (Some (told rows unit)) key name ≡ Some cell
 cell_of_found unit key name rows row cell found is =
     cell_found unit key name rows ∙ ap (option_map (λ (row : DrawnRow). cell_at row.keyed name)) (sym found) ∙ ap Some (sym is)

@@ -106,7 +106,8 @@ module _ (g : VgSpec) (st : ChartState) (name : List ℕ) (value : Cell) where
       → Refused cause.Name ≡ reply_to_set (vega_semantics g) (state_of st) name value
   reply_refused which e =
       let none : meaning.has_settable (vega_semantics g) name ≡ false =
-      same_settable (parameters_of g) name ∙ cannot (has_name (parameters_of g) name) (has_settable (parameters_of g) name) _ e (named (parameters_of g) name) in
+      same_settable (parameters_of g) name
+      ∙ cannot (has_name (parameters_of g) name) (has_settable (parameters_of g) name) _ e (named (parameters_of g) name) in
       sym (rw none refl)
     where
       cannot : (has can_be : Bool) (given : Params)

@@ -37,14 +37,18 @@ few_panels {A} n o a e = by_test (nat_lt most_panels n) e
     by_test false f = f
 
 -- what is drawn is drawn over names
-pub drawn_over : (g : VgSpec) (stores : Values) (params : Valued) (sources : List Dataset) (drawing : Drawing) → drawing_of g stores params sources ≡ Drawn drawing
+pub drawn_over : (g : VgSpec) (stores : Values) (params : Valued) (sources : List Dataset) (drawing : Drawing)
+    → drawing_of g stores params sources ≡ Drawn drawing
     → (names : Names) × (names_at_top stores params sources (top_of g).object ≡ Some names) × (drawing_over g sources (top_of g) names ≡ Some drawing)
 drawn_over g stores params sources drawing e =
     let top : Opened = top_of g in
     let first = reached (names_at_top stores params sources top.object) (drawn_within sources g) drawing (sym (from_top stores g params sources) ∙ e) in
     let second = reached (plots_in_facets sources top.marks false (is_some top.object.layout) first.0) (λ plots.
-    with_panels plots (in_reach (drawing_over g sources top first.0))) drawing first.2 in
-    (first.0, first.1, in_reach_is (drawing_over g sources top first.0) drawing (few_panels second.0 (in_reach (drawing_over g sources top first.0)) drawing second.2))
+    with_panels plots (in_reach (drawing_over g sources top first.0))) drawing first.2 in (
+      first.0,
+      first.1,
+      in_reach_is (drawing_over g sources top first.0) drawing (few_panels second.0 (in_reach (drawing_over g sources top first.0)) drawing second.2),
+    )
 
 -- ---- where nothing is drawn
 

@@ -6,3 +6,6 @@ pub mod Settings
 pub mod Pictures
 pub mod Drawn
 pub mod Rows
+pub mod Fits
+pub mod Edits
+pub mod Undo

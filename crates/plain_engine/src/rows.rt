@@ -23,7 +23,8 @@ ghost use Rattle.vega_charts.specs.inner.Outcomes.{drawn_within};
 ghost use Rattle.vega_charts.specs.inner.Topped.{names_on_top, rows_on_top};
 ghost use Rattle.vega_meaning.specs.UnitRows.{has_keys, unit_rows};
 ghost use Rattle.plain_engine.specs.inner.Drawn.{IsDrawnOver, StopsDrawing};
-ghost use Rattle.plain_engine.specs.inner.Rows.{entries_of, entries_of_copies, entries_of_copy, entries_of_mark, entries_of_rows, has_unit_and_key, seen, told, TellsRows};
+ghost use Rattle.plain_engine.specs.inner.Rows.{entries_of, entries_of_copies, entries_of_copy, entries_of_mark, entries_of_rows};
+ghost use Rattle.plain_engine.specs.inner.Rows.{has_unit_and_key, seen, told, TellsRows};
 
 use crate::drawn_row::DrawnRow;
 use cell_value::{Cell, Key, Keyed, Named, Steps, StoreOf};
@@ -265,7 +266,8 @@ fn rows_named(alloc: Global, g: &VgSpec, names: &NamesAt) -> Result<Seq<DrawnRow
     requires marks { MayStand (rows_at names.now.sources.now names.now.levels.now) (marks_in (out-Group g.now.group)) }
     ensures stops { StopsDrawing result (drawn_within (map dataset_of names.now.sources.now) g.now
         (names_at names.now.stores.now names.now.sources.now names.now.levels.now)) }
-    ensures rows { IfOk result (TellsRows (map dataset_of names.now.sources.now) g.now (names_at names.now.stores.now names.now.sources.now names.now.levels.now)) }
+    ensures rows { IfOk result
+        (TellsRows (map dataset_of names.now.sources.now) g.now (names_at names.now.stores.now names.now.sources.now names.now.levels.now)) }
 {
     match made_in(alloc, names, marks_in(&g.group)) {
         Ok(made) => Ok(rows_of_made(alloc, g, names, made.as_slice())?),

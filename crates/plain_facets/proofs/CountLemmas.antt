@@ -1,6 +1,6 @@
 -- Choices that are counted and not made.
-use Rattle.std.proofs.Common.{◌≡◌, ℕ, zero, suc, ◌+◌, ◌-◌, ◌*◌, ◌^◌, ◌<◌, ◌≤◌, min, Bool, true, false, cond, List, [], ◌∷◌, ◌++◌, map, flat_map, length, drop, get_or}
-use Rattle.std.proofs.Common.{leb, refl, sym, ap, ap₂, ◌∙◌, arith, mul-zero, zero-mul, mul-suc, suc-mul}
+use Rattle.std.proofs.Common.{◌≡◌, ℕ, zero, suc, ◌+◌, ◌-◌, ◌*◌, ◌^◌, ◌<◌, ◌≤◌, min, Bool, true, false, cond, List, [], ◌∷◌, ◌++◌, map}
+use Rattle.std.proofs.Common.{flat_map, length, drop, get_or, leb, refl, sym, ap, ap₂, ◌∙◌, arith, mul-zero, zero-mul, mul-suc, suc-mul}
 use Rattle.std.proofs.lemmas.Bool.{leb-true, leb-false}
 use Rattle.std.proofs.lemmas.List.{drop_all, drop_more, length-append, length-map}
 use Rattle.cell_value.specs.declared.cell.Cell.{Cell}
@@ -49,7 +49,8 @@ left_of_capped big most found n far = grind (arith, far)
 
 -- ---- how many choices there are
 
-length_crossed : (rests : List (List Cell)) (cells : List Cell) → length (flat_map (λ cell. map (λ rest. cell ∷ rest) rests) cells) ≡ length cells * length rests
+length_crossed : (rests : List (List Cell)) (cells : List Cell)
+    → length (flat_map (λ cell. map (λ rest. cell ∷ rest) rests) cells) ≡ length cells * length rests
 length_crossed rests [] = sym (zero-mul (length rests))
 length_crossed rests (c ∷ cs) =
     length-append (map (λ rest. c ∷ rest) rests) (flat_map (λ cell. map (λ rest. cell ∷ rest) rests) cs)

@@ -20,8 +20,8 @@ use Rattle.plain_rows.specs.declared.transforms.SortBy.{SortBy}
 use Rattle.plain_groups.specs.Groups.{firsts_behind, firsts}
 use Rattle.plain_groups.proofs.PlaceLemmas.{by_cases, same_are_equal, same_itself}
 use Rattle.plain_facets.specs.declared.copies.DividedBy.{DividedBy}
-use Rattle.plain_facets.specs.Facets.{key_of, is_key, AreDifferent, home_among, cells_in, pairs_in, by_beside, first_beside, cells_of_field, by_places, places_among}
-use Rattle.plain_facets.specs.Facets.{choices, cells_of_fields, cells_of_rows, cells_with_rows}
+use Rattle.plain_facets.specs.Facets.{key_of, is_key, AreDifferent, home_among, cells_in, pairs_in, by_beside, first_beside, cells_of_field}
+use Rattle.plain_facets.specs.Facets.{by_places, places_among, choices, cells_of_fields, cells_of_rows, cells_with_rows}
 use Rattle.plain_facets.specs.Laws.{CopiesAreDifferent, EachIsAtHome}
 use Rattle.plain_facets.proofs.OrderLemmas.{by_ordering}
 
@@ -72,7 +72,8 @@ module _ {X : Type 0} (same : X → X → Bool) (itself : (x : X) → same x x �
   firsts_not_seen before (x ∷ xs) =
       let later = firsts_behind same (before ++ x ∷ []) xs in
       let fewer : All (λ y. seen before y ≡ false) later =
-      All-weaker (λ y. seen (before ++ x ∷ []) y ≡ false) (λ y. seen before y ≡ false) (λ y e. (not_seen before x y e).0) later (firsts_not_seen (before ++ x ∷ []) xs) in
+      All-weaker (λ y. seen (before ++ x ∷ []) y ≡ false) (λ y. seen before y ≡ false)
+      (λ y e. (not_seen before x y e).0) later (firsts_not_seen (before ++ x ∷ []) xs) in
       cond_both (seen before x) later (x ∷ later) (All (λ y. seen before y ≡ false)) (λ _. fewer) (λ e. All-cons (λ y. seen before y ≡ false) x later e fewer)
 
   firsts_differ : (before xs : List X) → Differ (firsts_behind same before xs)
@@ -177,7 +178,8 @@ choices_differ (cells ∷ others) h =
 fields_differ : (d : DividedBy) (rows : List Datum) → All Differ (cells_of_fields d rows)
 fields_differ d rows =
     All-map Differ (λ (field : ℕ × List ℕ). cells_of_field rows (slice_get (unwrap_or d.sort []) field.0) field.1) (enumerate_from 0 d.fields)
-    (λ k field within. field_differs rows (slice_get (unwrap_or d.sort []) (get_or (enumerate_from 0 d.fields) k field).0) (get_or (enumerate_from 0 d.fields) k field).1)
+    (λ k field within. field_differs rows (slice_get (unwrap_or d.sort []) (get_or (enumerate_from 0 d.fields) k field).0)
+    (get_or (enumerate_from 0 d.fields) k field).1)
 
 pub by_places_total : (fields : List (List Cell)) → IsTotalOrder (by_places fields)
 by_places_total fields = then_total (on_total (places_among fields) nat_list_cmp_total) (lists_total cell_cmp_total)

@@ -38,7 +38,8 @@ pushed (b ∷ bs) c = ap (λ l. one b ∷ l) (pushed bs c)
 firsts_alone : (before cs : List Cell) → firsts_behind is_key (map one before) (map one cs) ≡ map one (firsts_behind same_cells before cs)
 firsts_alone before [] = refl
 firsts_alone before (c ∷ cs) =
-    ap (λ l. cond (list_any (λ other. is_key other (one c)) (map one before)) (firsts_behind is_key l (map one cs)) (one c ∷ firsts_behind is_key l (map one cs))) (pushed before c)
+    ap (λ l. cond (list_any (λ other. is_key other (one c)) (map one before))
+    (firsts_behind is_key l (map one cs)) (one c ∷ firsts_behind is_key l (map one cs))) (pushed before c)
     ∙ pick (list_any (λ other. is_key other (one c)) (map one before)) (list_any (λ other. same_cells other c) before) (any_one c before)
     (firsts_alone (before ++ c ∷ []) cs)
   where
@@ -85,13 +86,15 @@ module _ (fields : List (List Cell)) where
   abbrev behind : List Cell → List ℕ × List Cell
   behind key = (places_among fields key, key)
 
-  row_is : (before : List (List Cell)) (key : List Cell) (rest : List (List Cell)) → row_of (columns (before ++ key ∷ rest)) (length before) ≡ places_among fields key
+  row_is : (before : List (List Cell)) (key : List Cell) (rest : List (List Cell))
+      → row_of (columns (before ++ key ∷ rest)) (length before) ≡ places_among fields key
   row_is before key rest =
       map_after (column_of (before ++ key ∷ rest)) (λ column. unwrap_or (slice_get column (length before)) 0) (enumerate_from 0 fields)
       ∙ ap (λ (f : ℕ × List Cell → ℕ). map f (enumerate_from 0 fields))
       (λ i field. mapped_at (λ k. place_among field.1 (cell_of_key field.0 k)) before key rest i)
 
-  rows_are : (keys before rest : List (List Cell)) (n : ℕ) → keys ≡ before ++ rest → n ≡ length before → map (ranked (columns keys)) (enumerate_from n rest) ≡ map behind rest
+  rows_are : (keys before rest : List (List Cell)) (n : ℕ) → keys ≡ before ++ rest → n ≡ length before
+      → map (ranked (columns keys)) (enumerate_from n rest) ≡ map behind rest
   rows_are keys before [] n e at = refl
   rows_are keys before (key ∷ rest) n e at =
       ap₂ (λ row rows. (row, key) ∷ rows) (ap₂ (λ ks i. row_of (columns ks) i) e at ∙ row_is before key rest)

@@ -131,7 +131,8 @@ module _ (besides : BTreeMap Cell Cell) (pairs : List (Cell × Cell)) where
         ∙ seconds_of (by_beside true (beside_or_null besides)) falls (λ a b. refl)
 
   -- what a map tells of each cell is what stands beside it where it stands first
-  pub as_firsts : (descending : Bool) → ((q : Cell) → beside_at besides q ≡ first_found pairs q) → in_order_of descending besides pairs ≡ by_firsts descending pairs
+  pub as_firsts : (descending : Bool) → ((q : Cell) → beside_at besides q ≡ first_found pairs q)
+      → in_order_of descending besides pairs ≡ by_firsts descending pairs
   as_firsts descending tells =
       let same : beside_or_null besides ≡ first_beside pairs = λ i q. unwrap_or (tells q i) Null in
       ap (λ f. ascending (by_beside descending f) cells) same

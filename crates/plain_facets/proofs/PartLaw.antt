@@ -1,6 +1,6 @@
 -- Why the rows that belong to a copy are those that have its cells, and why such rows are a list of rows.
-use Rattle.std.proofs.Common.{◌≡◌, ℕ, zero, suc, ◌+◌, ◌<◌, ◌≤◌, Bool, true, false, cond, List, [], ◌∷◌, ◌++◌, map, filter, filter_map, length, get_or, slice_get, eqb}
-use Rattle.std.proofs.Common.{Some, All, AllPairs, refl, sym, ap, ap₂, ◌∙◌, arith}
+use Rattle.std.proofs.Common.{◌≡◌, ℕ, zero, suc, ◌+◌, ◌<◌, ◌≤◌, Bool, true, false, cond, List, [], ◌∷◌, ◌++◌, map, filter, filter_map}
+use Rattle.std.proofs.Common.{length, get_or, slice_get, eqb, Some, All, AllPairs, refl, sym, ap, ap₂, ◌∙◌, arith}
 use Rattle.std.proofs.lemmas.Bool.{eqb-true, cond_both}
 use Rattle.std.proofs.lemmas.List.{append_assoc, length-append}
 use Rattle.std.proofs.lemmas.List.Elements.{filter_agree, All-cons, All-head, All-tail}
@@ -25,7 +25,8 @@ pub rows_at_home : {X : Type 0} (rows : List X) (home : X → ℕ) (k i : ℕ) (
 rows_at_home rows home k i before [] e at = refl
 rows_at_home rows home k i before (row ∷ rest) e at =
     pick (eqb (home row) k)
-    (rows_at_home rows home k (i + 1) (before ++ row ∷ []) rest (e ∙ sym (append_assoc before (row ∷ []) rest)) (omega (arith, at, length-append before (row ∷ []))))
+    (rows_at_home rows home k (i + 1) (before ++ row ∷ []) rest
+    (e ∙ sym (append_assoc before (row ∷ []) rest)) (omega (arith, at, length-append before (row ∷ []))))
   where
     here : slice_get rows i ≡ Some row
     here = ap₂ slice_get e at ∙ found_there before row rest

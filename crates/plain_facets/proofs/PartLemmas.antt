@@ -1,6 +1,7 @@
 -- The rows of copies, by their places.
-use Rattle.std.proofs.Common.{◌≡◌, ℕ, zero, suc, ◌+◌, ◌<◌, ◌≤◌, Bool, true, false, cond, List, [], ◌∷◌, ◌++◌, map, filter, filter_map, length, take, drop, get_or, slice_get, eqb}
-use Rattle.std.proofs.Common.{Option, Some, None, option_to_list, All, refl, sym, ap, ap₂, subst, ◌∙◌, arith}
+use Rattle.std.proofs.Common.{◌≡◌, ℕ, zero, suc, ◌+◌, ◌<◌, ◌≤◌, Bool, true, false, cond, List, [], ◌∷◌, ◌++◌, map, filter, filter_map}
+use Rattle.std.proofs.Common.{length, take, drop, get_or, slice_get, eqb, Option, Some, None, option_to_list, All, refl, sym, ap, ap₂}
+use Rattle.std.proofs.Common.{subst, ◌∙◌, arith}
 use Rattle.std.specs.Borrow.{Bor}
 use Rattle.std.specs.List.{cons_option}
 use Rattle.std.proofs.lemmas.Bool.{cond_both}
@@ -84,7 +85,8 @@ module _ (fields : List (List ℕ)) where
       pick true h = ap (λ l. datum_of row.now ∷ l) h
       pick false h = h
 
-  pub parts_read : (copies : List (List Cell)) (rows : List (Bor Keyed)) (parts : List (List (Bor Keyed))) → parts ≡ map (λ key. part_shown fields key rows) copies
+  pub parts_read : (copies : List (List Cell)) (rows : List (Bor Keyed)) (parts : List (List (Bor Keyed)))
+      → parts ≡ map (λ key. part_shown fields key rows) copies
       → map data_of parts ≡ map (λ key. part_of fields key (data_of rows)) copies
   parts_read copies rows parts are =
       ap (map data_of) are ∙ map_after (λ key. part_shown fields key rows) data_of copies
@@ -94,7 +96,8 @@ module _ (fields : List (List ℕ)) where
       → parts ≡ map (λ key. part_shown fields key rows) copies → All HaveIds parts
   parts_have_ids copies rows parts have are =
       subst (All HaveIds) (sym are) (All-map HaveIds (λ key. part_shown fields key rows) copies
-      (λ k key below. All-filter (λ (row : Bor Keyed). is_key (key_of fields (datum_of row.now)) (get_or copies k key)) (λ (row : Bor Keyed). row.now.key.id ≤ greatest_id) rows have))
+      (λ k key below. All-filter (λ (row : Bor Keyed). is_key (key_of fields (datum_of row.now)) (get_or copies k key))
+      (λ (row : Bor Keyed). row.now.key.id ≤ greatest_id) rows have))
 
 same_keys : (rows : List (Bor Keyed)) → keys_read (data_of rows) ≡ keys_of (rows_shown rows)
 same_keys [] = refl

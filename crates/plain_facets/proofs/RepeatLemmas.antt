@@ -53,7 +53,8 @@ module _ {X : Type 0} (order : X → X → Ordering) (total : IsTotalOrder order
       (λ h. subst (λ w. placed_in order x (placed_in order w zs) ≡ placed_in order w (placed_in order x zs)) (exact x y h) refl)
       (λ h. sym (lesser_placed y x (total.antisymm y x ∙ ap ordering_reverse h) zs))
 
-  placed_through : (before : List X) (x : X) (found : List X) → placed_all order before (placed_in order x found) ≡ placed_in order x (placed_all order before found)
+  placed_through : (before : List X) (x : X) (found : List X)
+      → placed_all order before (placed_in order x found) ≡ placed_in order x (placed_all order before found)
   placed_through [] x found = refl
   placed_through (b ∷ bs) x found = ap (placed_in order b) (placed_through bs x found) ∙ placed_either_way b x (placed_all order bs found)
 
@@ -68,13 +69,15 @@ module _ {X : Type 0} (order : X → X → Ordering) (total : IsTotalOrder order
         (ap (placed_in order x) (placed_through bs x found) ∙ placed_twice x (placed_all order bs found)))
         (λ e. ap (placed_in order b) (placed_already bs x found (sym (ap (λ c. c || list_any (λ y. same y x) bs) e) ∙ seen)))
 
-    firsts_placed : (before xs : List X) → placed_all order before (ascending order (firsts_behind same before xs)) ≡ placed_all order before (ascending order xs)
+    firsts_placed : (before xs : List X)
+        → placed_all order before (ascending order (firsts_behind same before xs)) ≡ placed_all order before (ascending order xs)
     firsts_placed before [] = refl
     firsts_placed before (x ∷ xs) =
         let later : List X = firsts_behind same (before ++ x ∷ []) xs in
         let whole : List X = placed_all order before (ascending order (x ∷ xs)) in
         let here : placed_all order before (placed_in order x (ascending order later)) ≡ whole =
-        sym (placed_all-push order before x (ascending order later)) ∙ firsts_placed (before ++ x ∷ []) xs ∙ placed_all-push order before x (ascending order xs) in
+        sym (placed_all-push order before x (ascending order later))
+        ∙ firsts_placed (before ++ x ∷ []) xs ∙ placed_all-push order before x (ascending order xs) in
         by_cases (list_any (λ y. same y x) before)
         (λ e. ap (λ b. placed_all order before (ascending order (cond b later (x ∷ later)))) e ∙ sym (placed_already before x (ascending order later) e) ∙ here)
         (λ e. ap (λ b. placed_all order before (ascending order (cond b later (x ∷ later)))) e ∙ here)
@@ -89,7 +92,8 @@ last_equal Equal s e = e
 last_equal Greater s e = absurd (cc)
 
 -- keys in order are the different keys in order
-pub distinct_in_places : (fields : List (List Cell)) (keys : List (List Cell)) → ascending (by_places fields) (distinct_keys keys) ≡ ascending (by_places fields) keys
+pub distinct_in_places : (fields : List (List Cell)) (keys : List (List Cell))
+    → ascending (by_places fields) (distinct_keys keys) ≡ ascending (by_places fields) keys
 distinct_in_places fields keys =
     ascending_firsts (by_places fields) (by_places_total fields)
     (λ a b e. slice_cmp-IsAntisymmetric only_equal_cells_tie a b
@@ -110,11 +114,14 @@ firsts_mapped h same before (x ∷ xs) =
     pick (list_any (λ y. same (h y) (h x)) before) _ (any_mapped h same (h x) before)
     (firsts_mapped h same (before ++ x ∷ []) xs ∙ ap (λ l. firsts_behind same l (map h xs)) (map-append h before (x ∷ [])))
   where
-    pick : (a b : Bool) → a ≡ b → map h (firsts_behind (λ a b. same (h a) (h b)) (before ++ x ∷ []) xs) ≡ firsts_behind same (map h before ++ h x ∷ []) (map h xs)
+    pick : (a b : Bool) → a ≡ b
+        → map h (firsts_behind (λ a b. same (h a) (h b)) (before ++ x ∷ []) xs) ≡ firsts_behind same (map h before ++ h x ∷ []) (map h xs)
         → map h (cond a (firsts_behind (λ a b. same (h a) (h b)) (before ++ x ∷ []) xs) (x ∷ firsts_behind (λ a b. same (h a) (h b)) (before ++ x ∷ []) xs))
         ≡ cond b (firsts_behind same (map h before ++ h x ∷ []) (map h xs)) (h x ∷ firsts_behind same (map h before ++ h x ∷ []) (map h xs))
-    pick true b e rest = subst (λ c. map h (firsts_behind (λ a b. same (h a) (h b)) (before ++ x ∷ []) xs) ≡ cond c (firsts_behind same (map h before ++ h x ∷ []) (map h xs)) (h x ∷ firsts_behind same (map h before ++ h x ∷ []) (map h xs))) e rest
-    pick false b e rest = subst (λ c. h x ∷ map h (firsts_behind (λ a b. same (h a) (h b)) (before ++ x ∷ []) xs) ≡ cond c (firsts_behind same (map h before ++ h x ∷ []) (map h xs)) (h x ∷ firsts_behind same (map h before ++ h x ∷ []) (map h xs))) e (ap (λ l. h x ∷ l) rest)
+    pick true b e rest = subst (λ c. map h (firsts_behind (λ a b. same (h a) (h b)) (before ++ x ∷ []) xs)
+        ≡ cond c (firsts_behind same (map h before ++ h x ∷ []) (map h xs)) (h x ∷ firsts_behind same (map h before ++ h x ∷ []) (map h xs))) e rest
+    pick false b e rest = subst (λ c. h x ∷ map h (firsts_behind (λ a b. same (h a) (h b)) (before ++ x ∷ []) xs) ≡ cond c (firsts_behind same
+        (map h before ++ h x ∷ []) (map h xs)) (h x ∷ firsts_behind same (map h before ++ h x ∷ []) (map h xs))) e (ap (λ l. h x ∷ l) rest)
 
 module _ (cell : Cell) where
   abbrev has : Cell × Cell → Bool
@@ -134,7 +141,8 @@ module _ (cell : Cell) where
   found_among before [] none = refl
   found_among before (x ∷ xs) none =
       by_cases (has x)
-      (λ e. let unseen : list_any (λ y. alike_pairs y x) before ≡ false = ap (λ c. list_any (λ (y : Cell × Cell). same_cells y.0 c) before) ((same_cells_tell x.0 cell).0 e) ∙ none in
+      (λ e. let unseen : list_any (λ y. alike_pairs y x) before ≡ false =
+      ap (λ c. list_any (λ (y : Cell × Cell). same_cells y.0 c) before) ((same_cells_tell x.0 cell).0 e) ∙ none in
       ap (λ b. find has (cond b later (x ∷ later))) unseen ∙ ap (λ b. cond b (Some x) (find has later)) e ∙ sym (ap (λ b. cond b (Some x) (find has xs)) e))
       (λ e. either (list_any (λ y. alike_pairs y x) before) e ∙ found_among (before ++ x ∷ []) xs (any_pushed before x none e)
       ∙ sym (ap (λ b. cond b (Some x) (find has xs)) e))
@@ -156,5 +164,6 @@ first_pairs_serve descending pairs =
     let beside : first_beside (firsts alike_pairs pairs) ≡ first_beside pairs =
     λ i c. unwrap_or (option_map (λ (pair : Cell × Cell). pair.1) (found_among c [] pairs refl i)) Null in
     ap₂ (λ f cells. ascending (by_beside descending f) cells) beside (firsts_mapped (λ (pair : Cell × Cell). pair.0) same_cells [] pairs)
-    ∙ ascending_firsts (by_beside descending (first_beside pairs)) (by_beside_total descending (first_beside pairs)) (by_beside_exact descending (first_beside pairs))
+    ∙ ascending_firsts (by_beside descending (first_beside pairs))
+    (by_beside_total descending (first_beside pairs)) (by_beside_exact descending (first_beside pairs))
     same_cells (λ a b e. (same_cells_tell a b).0 e) (map (λ (pair : Cell × Cell). pair.0) pairs)

@@ -25,7 +25,8 @@ use Rattle.plain_rows.specs.declared.transforms.SortBy.{SortBy}
 use Rattle.plain_groups.specs.Groups.{firsts_behind, firsts}
 use Rattle.plain_groups.proofs.PlaceLemmas.{by_cases, same_are_equal, same_itself}
 use Rattle.plain_facets.specs.declared.copies.DividedBy.{DividedBy}
-use Rattle.plain_facets.specs.Facets.{key_of, is_key, part_of, AreDifferent, cells_in, pairs_in, by_beside, first_beside, cells_of_field, choices, cells_of_fields, cells_of_rows, distinct_keys}
+use Rattle.plain_facets.specs.Facets.{key_of, is_key, part_of, AreDifferent, cells_in, pairs_in, by_beside, first_beside, cells_of_field}
+use Rattle.plain_facets.specs.Facets.{choices, cells_of_fields, cells_of_rows, distinct_keys}
 use Rattle.plain_facets.specs.Laws.{total, CopiesAreSummed}
 use Rattle.plain_facets.proofs.OrderLemmas.{by_ordering, map_after}
 use Rattle.plain_facets.proofs.RepeatLemmas.{by_beside_exact}
@@ -189,7 +190,8 @@ module _ {X : Type 0} (same : X → X → Bool) (itself : (x : X) → same x x �
   taken false true l r e = refl
   taken false false l r e = e
 
-  any_firsts : (test : X → Bool) (before xs : List X) → (list_any test before || list_any test (firsts_behind same before xs)) ≡ (list_any test before || list_any test xs)
+  any_firsts : (test : X → Bool) (before xs : List X)
+      → (list_any test before || list_any test (firsts_behind same before xs)) ≡ (list_any test before || list_any test xs)
   any_firsts test before [] = refl
   any_firsts test before (x ∷ xs) =
       let later : List X = firsts_behind same (before ++ x ∷ []) xs in
@@ -245,7 +247,8 @@ is_cell c cells = list_any (λ d. same_cells d c) cells
 abbrev is_choice : List Cell → List (List Cell) → Bool
 is_choice key keys = list_any (λ other. is_key other key) keys
 
-cell_there : (field : List ℕ) (rows : List Datum) (k : ℕ) (d : Datum) → k < length rows → is_cell ((slice_index_or rows k d).cell field) (cells_in field rows) ≡ true
+cell_there : (field : List ℕ) (rows : List Datum) (k : ℕ) (d : Datum) → k < length rows
+    → is_cell ((slice_index_or rows k d).cell field) (cells_in field rows) ≡ true
 cell_there field [] k d within = absurd (omega (arith, within))
 cell_there field (row ∷ rows) zero d within = ap (λ b. b || is_cell (row.cell field) (cells_in field rows)) (same_cell (row.cell field))
 cell_there field (row ∷ rows) (suc k) d within =

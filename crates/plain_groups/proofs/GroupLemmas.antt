@@ -33,7 +33,13 @@ no_aggregate op cells h =
 pub count_both : (cells : List Cell) → count_by (λ cell. not (same_cells cell Null)) cells + count_by (λ cell. same_cells cell Null) cells ≡ length cells
 count_both [] = refl
 count_both (cell ∷ cells) =
-    omega (arith, sum_by-cons (λ c. cond (not (same_cells c Null)) 1 0) cell cells, sum_by-cons (λ c. cond (same_cells c Null) 1 0) cell cells, count_both cells, one_of (same_cells cell Null))
+    omega (
+      arith,
+      sum_by-cons (λ c. cond (not (same_cells c Null)) 1 0) cell cells,
+      sum_by-cons (λ c. cond (same_cells c Null) 1 0) cell cells,
+      count_both cells,
+      one_of (same_cells cell Null),
+    )
   where
     one_of : (b : Bool) → cond (not b) 1 0 + cond b 1 0 ≡ 1
     one_of true = refl
@@ -43,7 +49,8 @@ pub leaders_long : (f : Keyed → List Cell) (rows : List Keyed) → length (lea
 leaders_long f rows = length-map (map f rows) (leader_of (map f rows)) ∙ length-map rows f
 
 -- what is computed at a head
-pub at_head : (g : GroupOf) (rows : List Keyed) (members : List (List ℕ)) (head : ℕ) (first : Keyed) (list places : List ℕ) → head < length rows → length members ≡ length rows
+pub at_head : (g : GroupOf) (rows : List Keyed) (members : List (List ℕ)) (head : ℕ) (first : Keyed) (list places : List ℕ)
+    → head < length rows → length members ≡ length rows
     → first ≡ get_or rows head first → list ≡ get_or members head list → places ≡ list
     → option_map (group_row g first) (op_cells cell_at g.ops (rows_at rows places)) ≡ group_at g rows members head
 at_head g rows members head first list places inside long is there same =

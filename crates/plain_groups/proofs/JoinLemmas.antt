@@ -42,9 +42,11 @@ module _ (g : GroupOf) (rows : List Keyed) (members : List (List ℕ))
       ∙ get_or-map lead rows p y 0 below ∙ ap lead (sym is)
 
   -- what is given over the group of a row that leads itself
-  head_group : (p : ℕ) (y : Keyed) → p < length rows → y ≡ get_or rows p y → lead y ≡ p → head_cells g.ops rows members p ≡ op_cells cell_at g.ops (group_of cell_at g.groupby rows y)
+  head_group : (p : ℕ) (y : Keyed) → p < length rows → y ≡ get_or rows p y → lead y ≡ p
+      → head_cells g.ops rows members p ≡ op_cells cell_at g.ops (group_of cell_at g.groupby rows y)
   head_group p y below is itself =
-      ap (op_cells cell_at g.ops) (ap (rows_at rows) (told p below ∙ ap (members_from p 0) seen) ∙ group_led f like (alike_keys cell_at g.groupby) rows p y below is itself)
+      ap (op_cells cell_at g.ops)
+      (ap (rows_at rows) (told p below ∙ ap (members_from p 0) seen) ∙ group_led f like (alike_keys cell_at g.groupby) rows p y below is itself)
 
   -- the leader of each row leads itself and has the row's group
   record Leads (x : Keyed) : Type 0 where
@@ -60,7 +62,8 @@ module _ (g : GroupOf) (rows : List Keyed) (members : List (List ℕ))
       let same : f y ≡ f x =
       same_are_equal (f y) (f x)
       (ap (λ key. same_keys key (f x)) (sym (get_or-map f rows (lead x) x (f x) within))
-      ∙ passes_there (λ other. same_keys other (f x)) 0 (length (map f rows)) (lead x) (map f rows) (f x) (omega arith) (omega (arith, length-map rows f, within)) (omega arith)) in
+      ∙ passes_there (λ other. same_keys other (f x)) 0 (length (map f rows)) (lead x) (map f rows) (f x)
+      (omega arith) (omega (arith, length-map rows f, within)) (omega arith)) in
       let itself : lead y ≡ lead x = ap (leader_of (map f rows)) same in
       record {
         within = within;
@@ -73,7 +76,8 @@ module _ (g : GroupOf) (rows : List Keyed) (members : List (List ℕ))
   abbrev joined : Keyed → Option Keyed
   joined row = option_map (with_cells row) (op_cells cell_at g.ops (group_of cell_at g.groupby rows row))
 
-  joined_all : (given : List (List (List ℕ × Cell))) → ((p : ℕ) → p < length rows → get_or (leaders (map f rows)) p 0 ≡ p → head_cells g.ops rows members p ≡ Some (get_or given p []))
+  joined_all : (given : List (List (List ℕ × Cell)))
+      → ((p : ℕ) → p < length rows → get_or (leaders (map f rows)) p 0 ≡ p → head_cells g.ops rows members p ≡ Some (get_or given p []))
       → (i : ℕ) (rest : List Keyed) → rest ≡ drop i rows → all_found (map joined rest) ≡ Some (joined_rows given rest (map lead rest))
   joined_all given cells i [] e = refl
   joined_all given cells i (x ∷ rest) e =
@@ -82,10 +86,12 @@ module _ (g : GroupOf) (rows : List Keyed) (members : List (List ℕ))
       let is : x ≡ get_or rows i x = cc in
       let others : rest ≡ drop (i + 1) rows = cc in
       let led : Leads x = leads_group i x below is in
-      let here : joined x ≡ Some (with_cells x (get_or given (lead x) [])) = ap (option_map (with_cells x)) (sym led.group ∙ cells (lead x) led.within led.itself) in
+      let here : joined x ≡ Some (with_cells x (get_or given (lead x) [])) =
+      ap (option_map (with_cells x)) (sym led.group ∙ cells (lead x) led.within led.itself) in
       ap₂ (λ (o : Option Keyed) os. o >>= λ y. os >>= λ ys. Some (y ∷ ys)) here (joined_all given cells (i + 1) rest others)
 
-  pub joined_given : (given : List (List (List ℕ × Cell))) → AreGiven g.ops rows (leaders (map f rows)) members (Ok given) → length (leaders (map f rows)) ≡ length rows
+  pub joined_given : (given : List (List (List ℕ × Cell)))
+      → AreGiven g.ops rows (leaders (map f rows)) members (Ok given) → length (leaders (map f rows)) ≡ length rows
       → join_aggregated g rows ≡ Some (joined_rows given rows (leaders (map f rows)))
   joined_given given are long =
       joined_all given (λ p below itself. are.1 p (omega (arith, long, below)) itself) 0 rows refl

@@ -1,5 +1,6 @@
 -- Keys of the rows of groups.
-use Rattle.std.proofs.Common.{◌≡◌, suc, ◌≤◌, Bool, List, [], ◌∷◌, ◌++◌, map, length, All, AllPairs, Option, Some, None, Result, Ok, Err, IfOk, unwrap_or, option_map, refl, sym, ap, ap₂, ◌∙◌, subst, arith}
+use Rattle.std.proofs.Common.{◌≡◌, suc, ◌≤◌, Bool, List, [], ◌∷◌, ◌++◌, map, length, All, AllPairs, Option, Some, None, Result, Ok, Err}
+use Rattle.std.proofs.Common.{IfOk, unwrap_or, option_map, refl, sym, ap, ap₂, ◌∙◌, subst, arith}
 use Rattle.std.specs.List.{list_any}
 use Rattle.std.proofs.lemmas.Bool.{cond_both}
 use Rattle.std.proofs.lemmas.List.{length-map}
@@ -32,7 +33,8 @@ module _ {X : Type 0} (like : X → X → Bool) where
   few_firsts before [] = omega arith
   few_firsts before (x ∷ xs) =
       let later = few_firsts (before ++ x ∷ []) xs in
-      cond_both (list_any (λ y. like y x) before) (firsts_behind like (before ++ x ∷ []) xs) (x ∷ firsts_behind like (before ++ x ∷ []) xs) (λ l. length l ≤ suc (length xs))
+      cond_both (list_any (λ y. like y x) before) (firsts_behind like (before ++ x ∷ []) xs)
+      (x ∷ firsts_behind like (before ++ x ∷ []) xs) (λ l. length l ≤ suc (length xs))
       (λ _. omega (arith, later)) (λ _. omega (arith, later))
 
   pairs_firsts : {Y : Type 0} (f : X → Y) (R : Y → Y → Type 0) (before xs : List X) → AllPairs R (map f xs) → AllPairs R (map f (firsts_behind like before xs))
@@ -42,7 +44,8 @@ module _ {X : Type 0} (like : X → X → Bool) where
       let later : All (R (f x)) (map f xs) = λ k d within. h 0 (suc k) d (omega arith) (omega arith) in
       let head : All (R (f x)) (map f (firsts_behind like (before ++ x ∷ []) xs)) =
       All-map (R (f x)) f (firsts_behind like (before ++ x ∷ []) xs) (all_firsts (λ y. R (f x) (f y)) (before ++ x ∷ []) xs (all_back f (R (f x)) xs later)) in
-      cond_both (list_any (λ y. like y x) before) (firsts_behind like (before ++ x ∷ []) xs) (x ∷ firsts_behind like (before ++ x ∷ []) xs) (λ l. AllPairs R (map f l))
+      cond_both (list_any (λ y. like y x) before) (firsts_behind like (before ++ x ∷ []) xs)
+      (x ∷ firsts_behind like (before ++ x ∷ []) xs) (λ l. AllPairs R (map f l))
       (λ _. rest) (λ _. AllPairs-cons R (f x) (map f (firsts_behind like (before ++ x ∷ []) xs)) head rest)
 
 abbrev key_of : Keyed → Key
@@ -69,14 +72,18 @@ same_keys_made h f same (x ∷ xs) ys e =
     ap keys_of is ∙ ap₂ (λ (key : Key) keys. key ∷ keys) (same_key (h x) x.key (same x) (f x) y first) (same_keys_made h f same xs zs rest)
 
 -- the rows of groups are rows
-pub aggregated_are_rows : (g : GroupOf) (rows : List Keyed) → AreRows rows → (result : Result (List Keyed) EvalError) → Evaluates result (aggregated g rows) → IfOk result AreRows
+pub aggregated_are_rows : (g : GroupOf) (rows : List Keyed) → AreRows rows
+    → (result : Result (List Keyed) EvalError) → Evaluates result (aggregated g rows) → IfOk result AreRows
 aggregated_are_rows g rows are (Ok ys) e =
-    subst AreKeys (sym (same_keys_made (group_row g) (λ first. op_cells cell_at g.ops (group_of cell_at g.groupby rows first)) (λ x given. refl) (firsts (alike cell_at g.groupby) rows) ys e))
+    subst AreKeys (sym (same_keys_made (group_row g) (λ first. op_cells cell_at g.ops (group_of cell_at g.groupby rows first))
+    (λ x given. refl) (firsts (alike cell_at g.groupby) rows) ys e))
     (firsts_are_rows (alike cell_at g.groupby) rows are)
 aggregated_are_rows g rows are (Err e) h = tt
 
 -- the rows with what their groups give are rows
-pub joined_are_rows : (g : GroupOf) (rows : List Keyed) → AreRows rows → (result : Result (List Keyed) EvalError) → Evaluates result (join_aggregated g rows) → IfOk result AreRows
+pub joined_are_rows : (g : GroupOf) (rows : List Keyed) → AreRows rows
+    → (result : Result (List Keyed) EvalError) → Evaluates result (join_aggregated g rows) → IfOk result AreRows
 joined_are_rows g rows are (Ok ys) e =
-    subst AreKeys (sym (same_keys_made with_cells (λ row. op_cells cell_at g.ops (group_of cell_at g.groupby rows row)) (λ x cells. key_stays cells x) rows ys e)) are
+    subst AreKeys (sym
+    (same_keys_made with_cells (λ row. op_cells cell_at g.ops (group_of cell_at g.groupby rows row)) (λ x cells. key_stays cells x) rows ys e)) are
 joined_are_rows g rows are (Err e) h = tt

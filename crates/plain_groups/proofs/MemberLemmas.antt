@@ -1,5 +1,6 @@
 -- The rows of groups by their places.
-use Rattle.std.proofs.Common.{◌≡◌, ℕ, ◌+◌, ◌<◌, ◌≤◌, suc, Bool, true, false, cond, not, List, [], ◌∷◌, ◌++◌, length, map, filter, take, drop, get_or, set, eqb, All, arith, refl, sym, ap, ap₂, ◌∙◌, append_assoc, add-one}
+use Rattle.std.proofs.Common.{◌≡◌, ℕ, ◌+◌, ◌<◌, ◌≤◌, suc, Bool, true, false, cond, not, List, [], ◌∷◌, ◌++◌, length, map, filter, take}
+use Rattle.std.proofs.Common.{drop, get_or, set, eqb, All, arith, refl, sym, ap, ap₂, ◌∙◌, append_assoc, add-one}
 use Rattle.std.specs.List.{list_any}
 use Rattle.std.proofs.lemmas.Bool.{eqb-true, eqb-false}
 use Rattle.std.proofs.lemmas.List.{drop_more, map-append, length-map, length-take, length-drop, length-set, length-append, get_or-set_same, get_or-set_other}
@@ -29,7 +30,8 @@ append_nil (x ∷ l) = ap (λ l. x ∷ l) (append_nil l)
 taken_more : (ls : List ℕ) (at : ℕ) → at < length ls → take (at + 1) ls ≡ take at ls ++ get_or ls at 0 ∷ []
 taken_more ls at below = ap (λ k. take k ls) (add-one at) ∙ take-suc ls at 0 below
 
-pub length_added : (ls : List ℕ) (at : ℕ) (old new : List (List ℕ)) (l : ℕ) → length old ≡ length ls → new ≡ set old l (get_or old l [] ++ at ∷ []) → length new ≡ length ls
+pub length_added : (ls : List ℕ) (at : ℕ) (old new : List (List ℕ)) (l : ℕ) → length old ≡ length ls
+    → new ≡ set old l (get_or old l [] ++ at ∷ []) → length new ≡ length ls
 length_added ls at old new l e h = ap length h ∙ length-set old l (get_or old l [] ++ at ∷ []) ∙ e
 
 pub member_added : (ls : List ℕ) (at : ℕ) (old new : List (List ℕ)) → at < length ls → get_or ls at 0 < length ls → length old ≡ length ls
@@ -58,7 +60,8 @@ pub members_within : (p i n : ℕ) (ls : List ℕ) → i + length ls ≤ n → A
 members_within p i n [] h = All-nil (λ place. place < n)
 members_within p i n (l ∷ ls) h = pick (eqb l p) (members_within p (i + 1) n ls (omega (arith, h)))
   where
-    pick : (b : Bool) → All (λ place. place < n) (members_from p (i + 1) ls) → All (λ place. place < n) (cond b (i ∷ members_from p (i + 1) ls) (members_from p (i + 1) ls))
+    pick : (b : Bool) → All (λ place. place < n) (members_from p (i + 1) ls)
+        → All (λ place. place < n) (cond b (i ∷ members_from p (i + 1) ls) (members_from p (i + 1) ls))
     pick true all = All-cons (λ place. place < n) i (members_from p (i + 1) ls) (omega (arith, h)) all
     pick false all = all
 
@@ -66,7 +69,8 @@ pub few_members : (p i : ℕ) (ls : List ℕ) → length (members_from p i ls) �
 few_members p i [] = omega arith
 few_members p i (l ∷ ls) = pick (eqb l p) (few_members p (i + 1) ls)
   where
-    pick : (b : Bool) → length (members_from p (i + 1) ls) ≤ length ls → length (cond b (i ∷ members_from p (i + 1) ls) (members_from p (i + 1) ls)) ≤ suc (length ls)
+    pick : (b : Bool) → length (members_from p (i + 1) ls) ≤ length ls
+        → length (cond b (i ∷ members_from p (i + 1) ls) (members_from p (i + 1) ls)) ≤ suc (length ls)
     pick true h = omega arith
     pick false h = omega arith
 
@@ -83,7 +87,8 @@ rows_led : (rows : List Keyed) (lead : Keyed → ℕ) (p i : ℕ) (before rest :
     → rows_at rows (members_from p i (map lead rest)) ≡ filter (λ y. eqb (lead y) p) rest
 rows_led rows lead p i before [] e at = refl
 rows_led rows lead p i before (x ∷ rest) e at =
-    pick (eqb (lead x) p) (rows_led rows lead p (i + 1) (before ++ x ∷ []) rest (e ∙ sym (append_assoc before (x ∷ []) rest)) (omega (arith, at, length-append before (x ∷ []))))
+    pick (eqb (lead x) p) (rows_led rows lead p (i + 1) (before ++ x ∷ []) rest
+    (e ∙ sym (append_assoc before (x ∷ []) rest)) (omega (arith, at, length-append before (x ∷ []))))
   where
     here : row_at rows i ≡ x
     here = ap₂ row_at e at ∙ get_or-append_seam before x rest _
@@ -103,7 +108,8 @@ module _ (f : Keyed → List Cell) (like : Keyed → Keyed → Bool) (tells : (x
     leads_like : lead x ≡ i → (y : Keyed) → eqb (lead y) i ≡ like x y
     leads_like itself y =
         by_cases (same_keys (f x) (f y))
-        (λ same. ap (λ key. eqb (leader_of (map f rows) key) i) (sym (same_are_equal (f x) (f y) same)) ∙ ap (λ k. eqb k i) itself ∙ equal_itself i ∙ sym same ∙ tells x y)
+        (λ same. ap (λ key. eqb (leader_of (map f rows) key) i) (sym (same_are_equal (f x) (f y) same))
+        ∙ ap (λ k. eqb k i) itself ∙ equal_itself i ∙ sym same ∙ tells x y)
         (λ other. by_cases (eqb (lead y) i)
         (λ e. absurd (apart other (eqb-true (lead y) i e)))
         (λ e. e ∙ sym other ∙ tells x y))
@@ -113,7 +119,8 @@ module _ (f : Keyed → List Cell) (like : Keyed → Keyed → Bool) (tells : (x
 
         apart : same_keys (f x) (f y) ≡ false → lead y ≡ i → ⊥
         apart other e =
-            not_there (λ other. same_keys other (f y)) 0 (length (map f (take i rows) ++ f x ∷ map f (drop (i + 1) rows))) (map f (take i rows)) (f x) (map f (drop (i + 1) rows)) (omega arith) other
+            not_there (λ other. same_keys other (f y)) 0 (length (map f (take i rows) ++ f x ∷ map f (drop (i + 1) rows)))
+            (map f (take i rows)) (f x) (map f (drop (i + 1) rows)) (omega arith) other
             (sym (ap (λ keys. leader_of keys (f y)) keys_are) ∙ e ∙ omega (arith, length-map (take i rows) f, length-take i rows))
 
     pub group_led : lead x ≡ i → rows_at rows (members_from i 0 (map lead rows)) ≡ filter (like x) rows

@@ -1,5 +1,7 @@
 -- Keys, and the first places at which they stand.
-use Rattle.std.proofs.Common.{◌≡◌, ◌≢◌, ℕ, ◌+◌, ◌<◌, ◌≤◌, zero, suc, Bool, true, false, cond, not, ◌&&◌, ◌||◌, List, [], ◌∷◌, ◌++◌, length, map, take, drop, get_or, Option, Some, None, unwrap_or, eqb, arith, refl, sym, ap, ap₂, ◌∙◌, add-one, append_assoc}
+use Rattle.std.proofs.Common.{◌≡◌, ◌≢◌, ℕ, ◌+◌, ◌<◌, ◌≤◌, zero, suc, Bool, true, false, cond, not, ◌&&◌, ◌||◌, List, [], ◌∷◌, ◌++◌, length}
+use Rattle.std.proofs.Common.{map, take, drop, get_or, Option, Some, None, unwrap_or, eqb, arith, refl, sym, ap, ap₂, ◌∙◌, add-one}
+use Rattle.std.proofs.Common.{append_assoc}
 use Rattle.std.specs.declared.cmp.Ordering.{Ordering}
 use Rattle.std.specs.declared.cmp.Ordering.TheVariants.{Less, Equal, Greater}
 use Rattle.std.specs.Ordering.{is_eq, ordering_then}
@@ -41,7 +43,8 @@ both_tie Equal s = refl
 both_tie Greater s = refl
 
 -- rows are alike where their keys are the same
-pub alike_keys : {X : Type 0} (cells : X → CellAt) (fields : List (List ℕ)) (x y : X) → same_keys (map (cells x) fields) (map (cells y) fields) ≡ alike cells fields x y
+pub alike_keys : {X : Type 0} (cells : X → CellAt) (fields : List (List ℕ)) (x y : X)
+    → same_keys (map (cells x) fields) (map (cells y) fields) ≡ alike cells fields x y
 alike_keys cells [] x y = refl
 alike_keys cells (field ∷ fields) x y =
     both_tie (cell_cmp (cells x field) (cells y field)) (slice_cmp cell_cmp (map (cells x) fields) (map (cells y) fields))
@@ -84,7 +87,8 @@ equal_itself n = by_cases (eqb n n) (λ h. h) (λ h. absurd (eqb-false n n h ref
 
 module _ {K : Type 0} (t : K → Bool) where
   -- one key more
-  pub position_more : (i n : ℕ) (xs : List K) (x : K) → n ≡ i + length xs → position_from t i (xs ++ x ∷ []) ≡ option_or (position_from t i xs) (cond (t x) (Some n) None)
+  pub position_more : (i n : ℕ) (xs : List K) (x : K) → n ≡ i + length xs
+      → position_from t i (xs ++ x ∷ []) ≡ option_or (position_from t i xs) (cond (t x) (Some n) None)
   position_more i n [] x e = ap (λ k. cond (t x) (Some k) None) (omega (arith, e))
   position_more i n (y ∷ ys) x e = pick (t y) (position_more (i + 1) n ys x (omega (arith, e)))
     where
@@ -94,7 +98,8 @@ module _ {K : Type 0} (t : K → Bool) where
       pick false h = h
 
   -- the first place of a key that stands there
-  pub position_there : (i n : ℕ) (xs : List K) (y : K) (ys : List K) → n ≡ i + length xs → t y ≡ true → position_from t i (xs ++ y ∷ ys) ≡ Some (unwrap_or (position_from t i xs) n)
+  pub position_there : (i n : ℕ) (xs : List K) (y : K) (ys : List K) → n ≡ i + length xs → t y ≡ true
+      → position_from t i (xs ++ y ∷ ys) ≡ Some (unwrap_or (position_from t i xs) n)
   position_there i n [] y ys e h = ap (λ b. cond b (Some i) (position_from t (i + 1) ys)) h ∙ ap Some (omega (arith, e))
   position_there i n (x ∷ xs) y ys e h = pick (t x) (position_there (i + 1) n xs y ys (omega (arith, e)) h)
     where
@@ -134,11 +139,16 @@ module _ {K : Type 0} (t : K → Bool) where
       pick false f = λ same. f (omega (arith, same))
 
   -- what stands at the first place passes
-  pub passes_there : (i n k : ℕ) (xs : List K) (d : K) → unwrap_or (position_from t i xs) n ≡ i + k → k < length xs → n ≡ i + length xs → t (get_or xs k d) ≡ true
+  pub passes_there : (i n k : ℕ) (xs : List K) (d : K) → unwrap_or (position_from t i xs) n ≡ i + k
+      → k < length xs → n ≡ i + length xs → t (get_or xs k d) ≡ true
   passes_there i n k [] d e below whole = absurd (omega arith)
   passes_there i n zero (x ∷ xs) d e below whole =
       by_cases (t x) (λ h. h)
-      (λ h. absurd (omega (arith, position_from_on (i + 1) n xs (omega (arith, whole)) (omega (arith, whole)), sym (ap (λ b. unwrap_or (cond b (Some i) (position_from t (i + 1) xs)) n) h) ∙ e)))
+      (λ h. absurd (omega (
+        arith,
+        position_from_on (i + 1) n xs (omega (arith, whole)) (omega (arith, whole)),
+        sym (ap (λ b. unwrap_or (cond b (Some i) (position_from t (i + 1) xs)) n) h) ∙ e,
+      )))
   passes_there i n (suc k) (x ∷ xs) d e below whole =
       by_cases (t x)
       (λ h. absurd (omega (arith, sym (ap (λ b. unwrap_or (cond b (Some i) (position_from t (i + 1) xs)) n) h) ∙ e)))
@@ -204,9 +214,11 @@ module _ {X : Type 0} (xs : List X) (at : ℕ) (x : X) (within : at < length xs)
           (x ∷ firsts_behind like (take (at + 1) xs) (drop (at + 1) xs)) (firsts_behind like (take (at + 1) xs) (drop (at + 1) xs))
       firsts_there =
           ap (firsts_behind like (take at xs)) left_there
-          ∙ ap (λ l. cond (list_any (λ y. like y x) (take at xs)) (firsts_behind like l (drop (at + 1) xs)) (x ∷ firsts_behind like l (drop (at + 1) xs))) (sym one_taken)
+          ∙ ap (λ l. cond (list_any (λ y. like y x) (take at xs)) (firsts_behind like l (drop (at + 1) xs))
+          (x ∷ firsts_behind like l (drop (at + 1) xs))) (sym one_taken)
           ∙ other_way (list_any (λ y. like y x) (take at xs)) _ _
-          ∙ ap (λ b. cond b (x ∷ firsts_behind like (take (at + 1) xs) (drop (at + 1) xs)) (firsts_behind like (take (at + 1) xs) (drop (at + 1) xs))) (sym leads_itself)
+          ∙ ap (λ b. cond b (x ∷ firsts_behind like (take (at + 1) xs) (drop (at + 1) xs)) (firsts_behind like (take (at + 1) xs) (drop (at + 1) xs)))
+          (sym leads_itself)
         where
           other_way : {A : Type 0} (b : Bool) (u v : A) → cond b u v ≡ cond (not b) v u
           other_way true u v = refl
@@ -215,12 +227,14 @@ module _ {X : Type 0} (xs : List X) (at : ℕ) (x : X) (within : at < length xs)
       module _ (place : ℕ) (found : place ≡ unwrap_or (first_place (map f (take at xs)) (f x)) at) where
         pub first_here : place ≡ at → firsts_behind like (take at xs) (drop at xs) ≡ x ∷ firsts_behind like (take (at + 1) xs) (drop (at + 1) xs)
         first_here e =
-            firsts_there ∙ ap (λ b. cond b (x ∷ firsts_behind like (take (at + 1) xs) (drop (at + 1) xs)) (firsts_behind like (take (at + 1) xs) (drop (at + 1) xs)))
+            firsts_there ∙ ap
+            (λ b. cond b (x ∷ firsts_behind like (take (at + 1) xs) (drop (at + 1) xs)) (firsts_behind like (take (at + 1) xs) (drop (at + 1) xs)))
             (ap (λ k. eqb k at) (sym found ∙ e) ∙ equal_itself at)
 
         pub not_first : (place ≡ at → ⊥) → firsts_behind like (take at xs) (drop at xs) ≡ firsts_behind like (take (at + 1) xs) (drop (at + 1) xs)
         not_first e =
-            firsts_there ∙ ap (λ b. cond b (x ∷ firsts_behind like (take (at + 1) xs) (drop (at + 1) xs)) (firsts_behind like (take (at + 1) xs) (drop (at + 1) xs)))
+            firsts_there ∙ ap
+            (λ b. cond b (x ∷ firsts_behind like (take (at + 1) xs) (drop (at + 1) xs)) (firsts_behind like (take (at + 1) xs) (drop (at + 1) xs)))
             (by_cases (eqb (unwrap_or (first_place (map f (take at xs)) (f x)) at) at) (λ h. absurd (e (found ∙ eqb-true _ at h))) (λ h. h))
 
     pub leads_found : (key : List Cell) (old : Option ℕ) (place : ℕ) → key ≡ f x → old ≡ first_place (map f (take at xs)) key → place ≡ unwrap_or old at

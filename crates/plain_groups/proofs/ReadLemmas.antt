@@ -1,5 +1,6 @@
 -- What is read of the rows of groups.
-use Rattle.std.proofs.Common.{◌≡◌, ℕ, Bool, true, false, cond, List, [], ◌∷◌, ◌++◌, map, fold, Option, Some, None, unwrap_or, if◌then◌else◌, bytes_eq, pos, ◌*◌, ◌||◌, refl, sym, ap, ap₂, ◌∙◌}
+use Rattle.std.proofs.Common.{◌≡◌, ℕ, Bool, true, false, cond, List, [], ◌∷◌, ◌++◌, map, fold, Option, Some, None, unwrap_or, if◌then◌else◌}
+use Rattle.std.proofs.Common.{bytes_eq, pos, ◌*◌, ◌||◌, refl, sym, ap, ap₂, ◌∙◌}
 use Rattle.std.specs.Option.{option_map}
 use Rattle.std.specs.List.{list_any}
 use Rattle.std.specs.Ordering.{nat_cmp}
@@ -20,7 +21,8 @@ use Rattle.plain_rows.proofs.Lists.{seen_twice, filter_seen, all_seen}
 use Rattle.plain_rows.proofs.LookupLemmas.{reads_cells}
 use Rattle.plain_groups.specs.Groups.{firsts_behind, firsts, alike, group_of}
 use Rattle.plain_groups.specs.Aggregates.{aggregate_of}
-use Rattle.plain_groups.specs.GroupRows.{read_by, op_cells, field_cells, group_row, aggregated, bare_datum, data_group_row, data_aggregated, join_aggregated, data_join_aggregated}
+use Rattle.plain_groups.specs.GroupRows.{read_by, op_cells, field_cells, group_row, aggregated, bare_datum, data_group_row, data_aggregated}
+use Rattle.plain_groups.specs.GroupRows.{join_aggregated, data_join_aggregated}
 
 abbrev cells_of : Datum → List ℕ → Cell
 cells_of datum = datum.cell
@@ -37,7 +39,8 @@ firsts_seen : {X Y : Type 0} (see : X → Y) (like : Y → Y → Bool) (before x
     → firsts_behind like (map see before) (map see xs) ≡ map see (firsts_behind (λ x y. like (see x) (see y)) before xs)
 firsts_seen see like before [] = refl
 firsts_seen {X} {Y} see like before (x ∷ xs) =
-    ap (λ l. cond (list_any (λ y. like y (see x)) (map see before)) (firsts_behind like l (map see xs)) (see x ∷ firsts_behind like l (map see xs))) (sym (map_push see before x))
+    ap (λ l. cond (list_any (λ y. like y (see x)) (map see before)) (firsts_behind like l (map see xs)) (see x ∷ firsts_behind like l (map see xs)))
+    (sym (map_push see before x))
     ∙ ap₂ (λ b l. cond b l (see x ∷ l)) (any_seen see (λ y. like y (see x)) before) (firsts_seen see like (before ++ x ∷ []) xs)
     ∙ either (list_any (λ y. like (see y) (see x)) before) (firsts_behind (λ x y. like (see x) (see y)) (before ++ x ∷ []) xs)
   where
@@ -67,7 +70,8 @@ row_reads g first given =
     ∙ sym (reads_cells cells (record { key = first.key; row = finite.empty }))
     ∙ ap datum_of (with_all first.key finite.empty cells)
 
-mapped : {A B C : Type 0} (f : A → C) (h : A → B) (see : B → C) (same : (a : A) → f a ≡ see (h a)) (o : Option A) → option_map f o ≡ option_map see (option_map h o)
+mapped : {A B C : Type 0} (f : A → C) (h : A → B) (see : B → C) (same : (a : A) → f a ≡ see (h a)) (o : Option A)
+    → option_map f o ≡ option_map see (option_map h o)
 mapped f h see same None = refl
 mapped f h see same (Some a) = ap Some (same a)
 
@@ -83,18 +87,22 @@ same_given : (g : GroupOf) (rows : List Keyed) (first : Keyed)
     ≡ option_map datum_of (option_map (group_row g first) (op_cells cell_at g.ops (group_of cell_at g.groupby rows first)))
 same_given g rows first =
     ap (option_map (data_group_row g (datum_of first))) (group_reads g rows first)
-    ∙ mapped (data_group_row g (datum_of first)) (group_row g first) datum_of (row_reads g first) (op_cells cell_at g.ops (group_of cell_at g.groupby rows first))
+    ∙ mapped (data_group_row g (datum_of first)) (group_row g first) datum_of
+    (row_reads g first) (op_cells cell_at g.ops (group_of cell_at g.groupby rows first))
 
 pub aggregated_reads : (g : GroupOf) (rows : List Keyed) → data_aggregated g (map datum_of rows) ≡ option_map (map datum_of) (aggregated g rows)
 aggregated_reads g rows =
-    let given : Datum → Option Datum = λ first. option_map (data_group_row g first) (op_cells cells_of g.ops (group_of cells_of g.groupby (map datum_of rows) first)) in
+    let given : Datum → Option Datum =
+    λ first. option_map (data_group_row g first) (op_cells cells_of g.ops (group_of cells_of g.groupby (map datum_of rows) first)) in
     ap (λ l. all_found (map given l)) (firsts_seen datum_of (alike cells_of g.groupby) [] rows)
-    ∙ all_seen datum_of datum_of (λ first. option_map (group_row g first) (op_cells cell_at g.ops (group_of cell_at g.groupby rows first))) given (same_given g rows) (firsts (alike cell_at g.groupby) rows)
+    ∙ all_seen datum_of datum_of (λ first. option_map (group_row g first) (op_cells cell_at g.ops (group_of cell_at g.groupby rows first)))
+    given (same_given g rows) (firsts (alike cell_at g.groupby) rows)
 
 pub join_reads : (g : GroupOf) (rows : List Keyed) → data_join_aggregated g (map datum_of rows) ≡ option_map (map datum_of) (join_aggregated g rows)
 join_reads g rows =
     all_seen datum_of datum_of (λ row. option_map (with_cells row) (op_cells cell_at g.ops (group_of cell_at g.groupby rows row)))
     (λ row. option_map (data_with_cells row) (op_cells cells_of g.ops (group_of cells_of g.groupby (map datum_of rows) row)))
     (λ row. ap (option_map (data_with_cells (datum_of row))) (group_reads g rows row)
-    ∙ mapped (data_with_cells (datum_of row)) (with_cells row) datum_of (λ cells. sym (reads_cells cells row)) (op_cells cell_at g.ops (group_of cell_at g.groupby rows row)))
+    ∙ mapped (data_with_cells (datum_of row)) (with_cells row) datum_of
+    (λ cells. sym (reads_cells cells row)) (op_cells cell_at g.ops (group_of cell_at g.groupby rows row)))
     rows

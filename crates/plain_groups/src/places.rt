@@ -1,5 +1,6 @@
 // Where the first row with each key stands, and the rows of each group.
-ghost use Rattle.std.specs.Prelude.{◌≡◌, [], ◌∷◌, ◌++◌, replicate, slice_set, slice_index_or, ◌<◌, ◌≤◌, ℕ, Bool, true, false, Some, None, cond, length, map, All, IfOk, OnOk, option_map, unwrap_or, Vec};
+ghost use Rattle.std.specs.Prelude.{◌≡◌, [], ◌∷◌, ◌++◌, replicate, slice_set, slice_index_or, ◌<◌, ◌≤◌, ℕ, Bool, true, false, Some, None};
+ghost use Rattle.std.specs.Prelude.{cond, length, map, All, IfOk, OnOk, option_map, unwrap_or, Vec};
 ghost use Rattle.std.specs.Option.{option_or};
 ghost use Rattle.std.specs.declared.alloc.Global.{Global as GlobalHeap};
 ghost use Rattle.cell_value.specs.declared.cell.Cell.{Cell as CellValue};

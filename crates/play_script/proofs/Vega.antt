@@ -1,5 +1,6 @@
 -- Outputs over what an engine means are outputs over its specification.
-use Rattle.std.proofs.Common.{◌≡◌, ℕ, suc, List, [], ◌++◌, length, take, drop, Result, Ok, Err, refl, sym, ap, subst, ◌∙◌, append_assoc, append-nil, take-append-drop}
+use Rattle.std.proofs.Common.{◌≡◌, ℕ, suc, List, [], ◌++◌, length, take, drop, Result, Ok, Err, refl, sym, ap, subst, ◌∙◌, append_assoc}
+use Rattle.std.proofs.Common.{append-nil, take-append-drop}
 use Rattle.std.proofs.lemmas.List.{take_at}
 use Rattle.chart_io.specs.Outside.{Appended, AppendedPrefix}
 use Rattle.cell_value.specs.State.{State}
@@ -36,9 +37,11 @@ pub vega_begins : (g : VgSpec) (st mid now : State) (n k : ℕ) (lines : List (L
 vega_begins g = begins (IsVegaReply g) (one_reply (vega_semantics g))
 
 -- what playing appended begins the output of the script
-module _ (meaning now : Meaning) (script out notes : List ℕ) (later : State) (before after : Sinks) (whole : IsVegaOutput meaning.spec meaning.state script out notes later) where
+module _ (meaning now : Meaning) (script out notes : List ℕ) (later : State) (before after : Sinks)
+    (whole : IsVegaOutput meaning.spec meaning.state script out notes later) where
   begun : (k : ℕ) (lines : List (List ℕ)) → lines ≡ take k (lines_of script)
-      → AreWritten AppendedPrefix (λ part part_notes. IsOutput IsReplyIn meaning 1 lines part part_notes now) before after → AppendedPrefix before.held after.held out
+      → AreWritten AppendedPrefix (λ part part_notes. IsOutput IsReplyIn meaning 1 lines part part_notes now) before after
+      → AppendedPrefix before.held after.held out
   begun k lines first h =
       let is = as_vega meaning now 1 lines h.out h.notes h.is in
       let at : List (List ℕ) → Type 0 = λ ls. IsOutput (IsVegaReply meaning.spec) meaning.state 1 ls h.out h.notes now.state in
@@ -57,12 +60,14 @@ module _ (meaning now : Meaning) (script out notes : List ℕ) (later : State) (
   })
 
   ended : (taken rest : List ℕ) → script ≡ taken ++ rest
-      → AreWritten Appended (λ part part_notes. IsOutput IsReplyIn meaning 1 (ended_lines taken) part part_notes now) before after → AppendedPrefix before.held after.held out
+      → AreWritten Appended (λ part part_notes. IsOutput IsReplyIn meaning 1 (ended_lines taken) part part_notes now) before after
+      → AppendedPrefix before.held after.held out
   ended taken rest e h =
       let first = ended_first taken rest in
       done first.0 (ended_lines taken) (first.1 ∙ ap (λ xs. take first.0 (lines_of xs)) (sym e)) h
 
-  pub played_begins : {X : Type 0} (taken rest : List ℕ) (result : Result X PlayError) → script ≡ taken ++ rest → IsPlayed IsReplyIn script taken meaning now before after result
+  pub played_begins : {X : Type 0} (taken rest : List ℕ) (result : Result X PlayError)
+      → script ≡ taken ++ rest → IsPlayed IsReplyIn script taken meaning now before after result
       → AppendedPrefix before.held after.held out
   played_begins taken rest (Ok x) e h = done (length (lines_of script)) (lines_of script) (sym (take_whole (lines_of script))) h.2
     where
@@ -71,6 +76,7 @@ module _ (meaning now : Meaning) (script out notes : List ℕ) (later : State) (
   played_begins taken rest (Err error.Read) e h = ended taken rest e h.1
   played_begins taken rest (Err error.Size) e h =
       ended (take most_script_bytes taken) (drop most_script_bytes taken ++ rest)
-      (e ∙ ap (λ xs. xs ++ rest) (sym (take-append-drop most_script_bytes taken)) ∙ append_assoc (take most_script_bytes taken) (drop most_script_bytes taken) rest) h.1
+      (e ∙ ap (λ xs. xs ++ rest) (sym (take-append-drop most_script_bytes taken))
+      ∙ append_assoc (take most_script_bytes taken) (drop most_script_bytes taken) rest) h.1
   played_begins taken rest (Err error.Write) e h = begun h.1.0 (take h.1.0 (lines_of script)) refl h.1.1
   played_begins taken rest (Err error.Memory) e h = begun h.1.0 (take h.1.0 (lines_of script)) refl h.1.1

@@ -1,6 +1,7 @@
 -- The axes of a plot, each with the scale that it shows.
 use Rattle.unicode_width.proofs.Computing.{unicode_width}
-use Rattle.std.specs.Prelude.{◌≡◌, refl, ℕ, ◌≤◌, Bool, true, false, not, if◌then◌else◌, List, [], ◌∷◌, ◌++◌, map, ℤ, pos, neg_ℤ, Option, Some, None, IfSome, codes}
+use Rattle.std.specs.Prelude.{◌≡◌, refl, ℕ, ◌≤◌, Bool, true, false, not, if◌then◌else◌, List, [], ◌∷◌, ◌++◌, map, ℤ, pos, neg_ℤ, Option}
+use Rattle.std.specs.Prelude.{Some, None, IfSome, codes}
 use Rattle.std.specs.Option.{option_map}
 use Rattle.std.specs.List.{filter}
 use Rattle.std.specs.Fmt.{digits as decimal_digits}

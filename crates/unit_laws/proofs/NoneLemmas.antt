@@ -22,7 +22,8 @@ use Rattle.time_calc.specs.Parts.{part_of, part as part_number_at}
 use Rattle.time_calc.specs.TimeUnits.{keeps}
 use Rattle.unit_plan.specs.declared.codes.TheConstants.{YEAR, QUARTER, MONTH, DATE, DAY, HOURS, MINUTES, SECONDS, DATETIME}
 use Rattle.unit_plan.specs.Literals.{whole}
-use Rattle.unit_plan.specs.Starts.{part_call, quarter_month, weekday_date, year_kept, month_kept, date_kept, time_kept, day_parts, time_parts, start_expr, start_by}
+use Rattle.unit_plan.specs.Starts.{part_call, quarter_month, weekday_date, year_kept, month_kept, date_kept, time_kept, day_parts}
+use Rattle.unit_plan.specs.Starts.{time_parts, start_expr, start_by}
 use Rattle.unit_laws.specs.StartLaws.{OthersHaveNone}
 use Rattle.unit_laws.proofs.StartLemmas.{value, value-Call, value-Binary, value-whole, value-part, called_part, by_test}
 
@@ -68,7 +69,8 @@ module _ (row : CellAt) (values : Values) (field : List ℕ) (kept : List PartOf
   told code p table = value-part row values field code ∙ table ∙ no_part p (row field) none
 
   year : given (year_kept kept field) ≡ Some (null_or (keeps kept part.Year) 2012)
-  year = choose (keeps kept part.Year) (part_call YEAR field) (whole 2012) _ _ (told YEAR part.Year (called_part (row field)).0) (value-whole row values field 2012)
+  year = choose (keeps kept part.Year) (part_call YEAR field) (whole 2012) _ _
+      (told YEAR part.Year (called_part (row field)).0) (value-whole row values field 2012)
 
   quarter : given (quarter_month field) ≡ Some Null
   quarter =
@@ -91,7 +93,8 @@ module _ (row : CellAt) (values : Values) (field : List ℕ) (kept : List PartOf
   date = choose (keeps kept part.Date) (part_call DATE field) _ _ _ (told DATE part.Date (called_part (row field)).3)
       (choose (keeps kept part.Day) (weekday_date field) (whole 1) _ _ weekday (value-whole row values field 1))
 
-  clock : (p : PartOf) (code : ℕ) → called code (Some (row field) ∷ []) ≡ part_in p (row field ∷ []) → given (time_kept kept p code field) ≡ Some (null_or (keeps kept p) 0)
+  clock : (p : PartOf) (code : ℕ) → called code (Some (row field) ∷ []) ≡ part_in p (row field ∷ [])
+      → given (time_kept kept p code field) ≡ Some (null_or (keeps kept p) 0)
   clock p code table = choose (keeps kept p) (part_call code field) (whole 0) _ _ (told code p table) (value-whole row values field 0)
 
   nothing : (keeps kept part.Year || (keeps kept part.Month || (keeps kept part.Quarter || (keeps kept part.Date || (keeps kept part.Day

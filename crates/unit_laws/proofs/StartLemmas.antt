@@ -1,5 +1,6 @@
 -- The start of a unit of time as an expression is its start.
-use Rattle.std.proofs.Common.{◌≡◌, ℕ, zero, suc, ◌+◌, ◌-◌, ◌*◌, ◌/◌, ◌%◌, ◌==◌, ◌≤◌, Bool, true, false, ◌&&◌, cond, Option, Some, None, List, [], ◌∷◌, ◌++◌, map, refl, sym, ap, ◌∙◌, arith, int_le, ℤ, pos, negsuc, ◌+ℤ◌, ◌-ℤ◌, ◌*ℤ◌, ◌≤ℤ◌}
+use Rattle.std.proofs.Common.{◌≡◌, ℕ, zero, suc, ◌+◌, ◌-◌, ◌*◌, ◌/◌, ◌%◌, ◌==◌, ◌≤◌, Bool, true, false, ◌&&◌, cond, Option, Some, None}
+use Rattle.std.proofs.Common.{List, [], ◌∷◌, ◌++◌, map, refl, sym, ap, ◌∙◌, arith, int_le, ℤ, pos, negsuc, ◌+ℤ◌, ◌-ℤ◌, ◌*ℤ◌, ◌≤ℤ◌}
 use Rattle.std.specs.Prelude.{slice_get, unsigned_abs, not}
 use Rattle.std.specs.Int.{int_div_euclid, int_rem_euclid}
 use Rattle.std.specs.List.{list_all}
@@ -28,7 +29,8 @@ use Rattle.time_calc.specs.declared.calendar.Date.{Date}
 use Rattle.time_calc.specs.Boundaries.{date_at}
 use Rattle.time_calc.specs.Calendar.{day_of_date, weekday_of}
 use Rattle.time_calc.specs.Datetime.{is_whole, whole_of, first_day, first_of_month, instant_of_wholes, instant_of, instant_after, milliseconds_of}
-use Rattle.time_calc.specs.Instants.{instant_at, instant_number, instant_in_range, is_in_range, stands_for_instant, first_instant, last_instant, day_length, day_of_instant, time_of_instant}
+use Rattle.time_calc.specs.Instants.{instant_at, instant_number, instant_in_range, is_in_range, stands_for_instant, first_instant}
+use Rattle.time_calc.specs.Instants.{last_instant, day_length, day_of_instant, time_of_instant}
 use Rattle.time_calc.specs.Parts.{part_of}
 use Rattle.time_calc.specs.TimeUnits.{keeps, kept_or, first_of_quarter, kept_month, kept_days, start_of}
 use Rattle.time_calc.proofs.BoundaryUnits.{IsInstant, weekday_at_most_6}
@@ -36,7 +38,8 @@ use Rattle.time_calc.proofs.DatetimeLemmas.{years_1_to_9998}
 use Rattle.time_calc.proofs.TimeUnitLemmas.{IsDateInRange, date_in_range, month_in_range, start_is_instant}
 use Rattle.unit_plan.specs.declared.codes.TheConstants.{YEAR, QUARTER, MONTH, DATE, DAY, HOURS, MINUTES, SECONDS, DATETIME}
 use Rattle.unit_plan.specs.Literals.{whole}
-use Rattle.unit_plan.specs.Starts.{part_call, quarter_month, weekday_date, year_kept, month_kept, date_kept, time_kept, day_parts, time_parts, start_expr, start_by}
+use Rattle.unit_plan.specs.Starts.{part_call, quarter_month, weekday_date, year_kept, month_kept, date_kept, time_kept, day_parts}
+use Rattle.unit_plan.specs.Starts.{time_parts, start_expr, start_by}
 use Rattle.unit_laws.specs.StartLaws.{StartsAgree}
 
 -- ---- the numbers of a start
@@ -97,7 +100,8 @@ module _ (y m d h mi s : ℕ) (year_low : 1 ≤ y) (year_high : y ≤ 9998) (mon
   wholes : instant_of (pos (y * million)) (pos (m * million)) (pos (d * million)) (pos (h * million)) (pos (mi * million)) (pos (s * million)) (pos 0)
       ≡ instant_of_wholes (pos y) (pos m) (pos d) (pos h) (pos mi) (pos s) (pos 0)
   wholes =
-      (λ j. cond (is_whole_of y j && (is_whole_of m j && (is_whole_of d j && (is_whole_of h j && (is_whole_of mi j && (is_whole_of s j && (is_whole_of 0 j && true)))))))
+      (λ j. cond (is_whole_of y j
+      && (is_whole_of m j && (is_whole_of d j && (is_whole_of h j && (is_whole_of mi j && (is_whole_of s j && (is_whole_of 0 j && true)))))))
       (instant_of_wholes (whole_is y j) (whole_is m j) (whole_is d j) (whole_is h j) (whole_is mi j) (whole_is s j) (whole_is 0 j)) None)
 
 -- the day and the time of day that parts give
@@ -141,7 +145,8 @@ pub called_part : (c : Cell) → (called YEAR (Some c ∷ []) ≡ part_in part.Y
 unfolding builtin_table
 called_part c = (refl, refl, refl, refl, refl, refl, refl, refl)
 
-called_datetime : (a b c d e f : ℤ) → called DATETIME (Some (Number a) ∷ Some (Number b) ∷ Some (Number c) ∷ Some (Number d) ∷ Some (Number e) ∷ Some (Number f) ∷ [])
+called_datetime : (a b c d e f : ℤ)
+    → called DATETIME (Some (Number a) ∷ Some (Number b) ∷ Some (Number c) ∷ Some (Number d) ∷ Some (Number e) ∷ Some (Number f) ∷ [])
     ≡ Some (number_or_null (instant_of a b c d e f (pos 0)))
 unfolding builtin_table
 called_datetime a b c d e f = refl
@@ -151,7 +156,8 @@ the_part : (p : PartOf) (n i : ℤ) → instant_at n ≡ Some i → part_in p (N
 the_part p n i at = ap (λ o. Some (number_or_null (option_map (λ instant. pos (part_of instant p) *ℤ pos million) o))) at
 
 -- the first month of a quarter, and a weekday in January 2012
-quarters : (k : ℕ) → k ≤ 3 → binary_of Mul (binary_of Sub (Some (Number (pos ((k + 1) * million)))) (Some (Number (pos (1 * million))))) (Some (Number (pos (3 * million))))
+quarters : (k : ℕ) → k ≤ 3
+    → binary_of Mul (binary_of Sub (Some (Number (pos ((k + 1) * million)))) (Some (Number (pos (1 * million))))) (Some (Number (pos (3 * million))))
     ≡ Some (Number (pos (k * 3 * million)))
 unfolding rounded floor_quotient
 quarters zero few = refl
@@ -172,7 +178,8 @@ weekdays (suc (suc (suc (suc (suc (suc (suc k))))))) few = absurd (omega arith)
 
 -- ---- the whole start
 
-module _ (row : CellAt) (values : Values) (field : List ℕ) (kept : List PartOf) (n i : ℤ) (is : row field ≡ Number n) (at : instant_at n ≡ Some i) (inside : IsInstant i) where
+module _ (row : CellAt) (values : Values) (field : List ℕ) (kept : List PartOf) (n i : ℤ)
+    (is : row field ≡ Number n) (at : instant_at n ≡ Some i) (inside : IsInstant i) where
   abbrev given : Expr → Option Cell
   given = value row values field
 
@@ -181,20 +188,24 @@ module _ (row : CellAt) (values : Values) (field : List ℕ) (kept : List PartOf
   choose true x y k l this other = this
   choose false x y k l this other = other
 
-  told : (code : ℕ) (p : PartOf) → called code (Some (row field) ∷ []) ≡ part_in p (row field ∷ []) → given (part_call code field) ≡ Some (Number (pos (part_of i p * million)))
+  told : (code : ℕ) (p : PartOf) → called code (Some (row field) ∷ []) ≡ part_in p (row field ∷ [])
+      → given (part_call code field) ≡ Some (Number (pos (part_of i p * million)))
   told code p table = value-part row values field code ∙ table ∙ ap (λ c. part_in p (c ∷ [])) is ∙ the_part p n i at
 
   known : IsDateInRange (date_at i)
   known = date_in_range i inside
 
   year : given (year_kept kept field) ≡ Some (Number (pos (year_of kept (date_at i) * million)))
-  year = choose (keeps kept part.Year) (part_call YEAR field) (whole 2012) (date_at i).year 2012 (told YEAR part.Year (called_part (row field)).0) (value-whole row values field 2012)
+  year = choose (keeps kept part.Year) (part_call YEAR field) (whole 2012) (date_at i).year 2012
+      (told YEAR part.Year (called_part (row field)).0) (value-whole row values field 2012)
 
   quarter : given (quarter_month field) ≡ Some (Number (pos (((date_at i).month - 1) / 3 * 3 * million)))
   quarter =
       let high = known.has.month_high in
-      let less : given (expr.Binary Sub (part_call QUARTER field) (whole 1)) ≡ binary_of Sub (Some (Number (pos ((((date_at i).month - 1) / 3 + 1) * million)))) (Some (Number (pos (1 * million)))) =
-      value-Binary row values field Sub (part_call QUARTER field) (whole 1) ∙ (λ j. binary_of Sub (told QUARTER part.Quarter (called_part (row field)).1 j) (value-whole row values field 1 j)) in
+      let less : given (expr.Binary Sub (part_call QUARTER field) (whole 1))
+      ≡ binary_of Sub (Some (Number (pos ((((date_at i).month - 1) / 3 + 1) * million)))) (Some (Number (pos (1 * million)))) =
+      value-Binary row values field Sub (part_call QUARTER field) (whole 1)
+      ∙ (λ j. binary_of Sub (told QUARTER part.Quarter (called_part (row field)).1 j) (value-whole row values field 1 j)) in
       value-Binary row values field Mul (expr.Binary Sub (part_call QUARTER field) (whole 1)) (whole 3)
       ∙ (λ j. binary_of Mul (less j) (value-whole row values field 3 j))
       ∙ quarters (((date_at i).month - 1) / 3) (omega (arith, high))
@@ -213,7 +224,8 @@ module _ (row : CellAt) (values : Values) (field : List ℕ) (kept : List PartOf
   date = choose (keeps kept part.Date) (part_call DATE field) _ (date_at i).day _ (told DATE part.Date (called_part (row field)).3)
       (choose (keeps kept part.Day) (weekday_date field) (whole 1) (1 + weekday_of (day_of_instant i)) 1 weekday (value-whole row values field 1))
 
-  clock : (p : PartOf) (code k : ℕ) → given (part_call code field) ≡ Some (Number (pos (k * million))) → given (time_kept kept p code field) ≡ Some (Number (pos (kept_or kept p k 0 * million)))
+  clock : (p : PartOf) (code k : ℕ) → given (part_call code field) ≡ Some (Number (pos (k * million)))
+      → given (time_kept kept p code field) ≡ Some (Number (pos (kept_or kept p k 0 * million)))
   clock p code k first = choose (keeps kept p) (part_call code field) (whole 0) k 0 first (value-whole row values field 0)
 
   abbrev the_year : ℕ
@@ -265,11 +277,13 @@ module _ (row : CellAt) (values : Values) (field : List ℕ) (kept : List PartOf
 
   from_parts : instant_of (pos (the_year * million)) (pos (the_month * million)) (pos (the_date * million)) (pos (the_hours * million))
       (pos (the_minutes * million)) (pos (the_seconds * million)) (pos 0)
-      ≡ instant_in_range (instant_after (day_of_date (kept_month kept (date_at i))) (pos the_date) (milliseconds_of (pos the_hours) (pos the_minutes) (pos the_seconds) (pos 0)))
+      ≡ instant_in_range (instant_after (day_of_date (kept_month kept (date_at i))) (pos the_date)
+      (milliseconds_of (pos the_hours) (pos the_minutes) (pos the_seconds) (pos 0)))
   from_parts =
       let in_month = month_in_range kept (date_at i) known in
       wholes the_year the_month the_date the_hours the_minutes the_seconds in_month.low in_month.high few_months
-      ∙ ap (option_and_then (λ day. instant_in_range (instant_after day (pos the_date) (milliseconds_of (pos the_hours) (pos the_minutes) (pos the_seconds) (pos 0)))))
+      ∙ ap (option_and_then
+      (λ day. instant_in_range (instant_after day (pos the_date) (milliseconds_of (pos the_hours) (pos the_minutes) (pos the_seconds) (pos 0)))))
       (first the_year the_month the_date the_hours the_minutes the_seconds in_month.low in_month.high few_months
       ∙ (λ j. Some (day_of_date (record { year = the_year; month = same_month j; day = 1 }))))
 
@@ -278,7 +292,8 @@ module _ (row : CellAt) (values : Values) (field : List ℕ) (kept : List PartOf
   unfolding start_of
   starts none =
       let no_rest : kept_or kept part.Milliseconds (time_of_instant i).milliseconds 0 ≡ 0 = ap (λ b. cond b (time_of_instant i).milliseconds 0) none in
-      let sum : instant_after (day_of_date (kept_month kept (date_at i))) (pos the_date) (milliseconds_of (pos the_hours) (pos the_minutes) (pos the_seconds) (pos 0)) ≡ start_of kept i =
+      let sum : instant_after (day_of_date (kept_month kept (date_at i))) (pos the_date)
+      (milliseconds_of (pos the_hours) (pos the_minutes) (pos the_seconds) (pos 0)) ≡ start_of kept i =
       sum_is (day_of_date (kept_month kept (date_at i))) _ the_date the_hours the_minutes the_seconds _ same_date no_rest in
       parts ∙ ap (λ o. Some (number_or_null o)) (from_parts ∙ ap instant_in_range sum
       ∙ ap (λ b. cond b (Some (instant_number (start_of kept i))) None) (within_range (start_of kept i) (start_is_instant kept i inside)))
@@ -292,7 +307,8 @@ by_test p (r ∷ rules) (suc k) rule all e = by_test p rules k rule (and_parts _
 
 -- no unit keeps milliseconds
 no_milliseconds : (code : ℕ) (rule : UnitRule) → unit_rule code ≡ Some rule → keeps rule.kept part.Milliseconds ≡ false
-no_milliseconds code rule e = by (keeps rule.kept part.Milliseconds) (by_test (λ r. not (keeps r.kept part.Milliseconds)) (unit_rules ++ unit_rules) code rule refl e)
+no_milliseconds code rule e =
+    by (keeps rule.kept part.Milliseconds) (by_test (λ r. not (keeps r.kept part.Milliseconds)) (unit_rules ++ unit_rules) code rule refl e)
   where
     by : (b : Bool) → not b ≡ true → b ≡ false
     by true e = absurd cc
@@ -304,7 +320,8 @@ some_is o a b first second = cc
 none_is : (o : Option ℤ) (a : ℤ) → o ≡ None → o ≡ Some a → ⊥
 none_is o a none some = cc
 
-inside_of : (n i : ℤ) → int_div_euclid n (pos million) ≡ i → int_le (instant_number first_instant) n ≡ true → int_le n (instant_number last_instant) ≡ true → IsInstant i
+inside_of : (n i : ℤ) → int_div_euclid n (pos million) ≡ i → int_le (instant_number first_instant) n ≡ true
+    → int_le n (instant_number last_instant) ≡ true → IsInstant i
 inside_of (pos k) i is low high = record { low = omega (arith, ints, is); high = omega (arith, ints, is, high) }
 inside_of (negsuc k) i is low high = record { low = omega (arith, ints, is, low); high = omega (arith, ints, is) }
 

@@ -26,7 +26,8 @@ conditions_at (level.One c) tests = under_condition c tests
 conditions_at (level.Several cs) tests = flat_map (λ c. under_condition c tests) cs
 
 conditions_open : (k : Conditions) (tests : List Test) → under_conditions k tests ≡ conditions_at (out-Conditions k) tests
-conditions_open k tests = ap (λ (u : Under). u tests) (fold_out-Conditions Under Under Under conditions_here channel_here condition_here k) ∙ by (out-Conditions k)
+conditions_open k tests =
+    ap (λ (u : Under). u tests) (fold_out-Conditions Under Under Under conditions_here channel_here condition_here k) ∙ by (out-Conditions k)
   where
     by : (o : Conditions-F Conditions Channel Condition) →
         conditions_here (map-Conditions Conditions Channel Condition Under Under Under under_conditions branches_under

@@ -14,7 +14,8 @@ opens_as : (s : List ℕ → Bool) (f : Filter) (o : Filter-F Filter) → out-Fi
     filter_expr s f ≡ filter_here s (map-Filter Filter Expr (filter_expr s) o)
 opens_as s f o is = fold_out-Filter Expr (filter_here s) f ∙ ap (λ p. filter_here s (map-Filter Filter Expr (filter_expr s) p)) is
 
-pub and_filter : (s : List ℕ → Bool) (f : Filter) (fs : List Filter) → f ≡ filter.And fs → joined And (expr.Flag true) (map (filter_expr s) fs) ≡ filter_expr s f
+pub and_filter : (s : List ℕ → Bool) (f : Filter) (fs : List Filter) → f ≡ filter.And fs →
+    joined And (expr.Flag true) (map (filter_expr s) fs) ≡ filter_expr s f
 and_filter s f fs is = sym (opens_as s f (level.And fs) (ap out-Filter (is ∙ sym (rolls-And fs)) ∙ out-roll-Filter (level.And fs)))
 
 pub or_filter : (s : List ℕ → Bool) (f : Filter) (fs : List Filter) → f ≡ filter.Or fs → joined Or (expr.Flag false) (map (filter_expr s) fs) ≡ filter_expr s f

@@ -1,5 +1,6 @@
 -- Lists of expressions that are joined in pairs.
-use Rattle.std.proofs.Common.{◌≡◌, ◌↔◌, ℕ, zero, suc, ◌+◌, ◌-◌, ◌<◌, ◌++◌, true, false, Option, Some, None, List, [], ◌∷◌, length, refl, sym, ap, ◌∙◌, append_assoc, append-nil, arith}
+use Rattle.std.proofs.Common.{◌≡◌, ◌↔◌, ℕ, zero, suc, ◌+◌, ◌-◌, ◌<◌, ◌++◌, true, false, Option, Some, None, List, [], ◌∷◌, length, refl}
+use Rattle.std.proofs.Common.{sym, ap, ◌∙◌, append_assoc, append-nil, arith}
 use Rattle.std.proofs.lemmas.List.{length-append}
 use Rattle.std.specs.Prelude.{IsSome, is_some}
 use Rattle.std.specs.Option.{option_to_list}
@@ -34,7 +35,8 @@ no_round op zero es whole none h = h
 no_round op (suc n) es whole none h = absurd (omega (arith, none))
 
 -- one round more
-pub one_round : (op : BinOp) (n : ℕ) (es next whole : List Expr) → 0 < n → next ≡ paired op es → paired_times op n es ≡ whole → paired_times op (n - 1) next ≡ whole
+pub one_round : (op : BinOp) (n : ℕ) (es next whole : List Expr) → 0 < n
+    → next ≡ paired op es → paired_times op n es ≡ whole → paired_times op (n - 1) next ≡ whole
 unfolding paired_times
 one_round op zero es next whole some is h = absurd (omega (arith, some))
 one_round op (suc n) es next whole some is h =

@@ -1,5 +1,6 @@
--- Bars. Along the dimension a bar goes over the band; over a bin or a unit of time from the lesser place plus 1 to the greater; else it is 5 wide about its centre. Along the
--- measure it goes between the ends of its stack; else from the place to that of `x2` or `y2`, or to the base: the place of 0 where the domain holds it, else where the range begins.
+-- Bars. Along the dimension a bar goes over the band; over a bin or a unit of time from the lesser place plus 1 to the greater; else it is 5 wide
+-- about its centre. Along the measure it goes between the ends of its stack; else from the place to that of `x2` or `y2`, or to the base: the place
+-- of 0 where the domain holds it, else where the range begins.
 use Rattle.std.specs.Prelude.{ℕ, Bool, true, false, List, [], ◌∷◌, is_some, if◌then◌else◌}
 use Rattle.unit_plan.specs.declared.ends.End.TheVariants as end
 use Rattle.unit_plan.specs.declared.marks.Along.{Along}

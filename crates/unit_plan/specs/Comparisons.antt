@@ -1,5 +1,6 @@
--- Comparisons of a field, as expressions that hold for the cells that pass. `equal` and `oneOf` are sameness. `lt`, `lte`, `gt` and `gte` hold for two numbers or
--- two texts. `range` holds for numbers between the two given, both included, in either order; a null is open, and two nulls hold for every cell.
+-- Comparisons of a field, as expressions that hold for the cells that pass. `equal` and `oneOf` are sameness. `lt`, `lte`, `gt` and `gte` hold for
+-- two numbers or two texts. `range` holds for numbers between the two given, both included, in either order; a null is open, and two nulls hold for
+-- every cell.
 -- `valid` holds for cells that aren't null, or with false for null. With a unit of time its start at the cell is compared, with a given
 -- number, or with the instant of a given text.
 use Rattle.std.specs.Prelude.{◌≡◌, refl, ℕ, ℤ, pos, Bool, true, false, Option, Some, None, [], ◌∷◌, map, codes, is_some}
@@ -81,5 +82,6 @@ no_cell_of_none = refl
 null_alone : field_test (of_a None (compare.Valid false)) ≡ expr.Not (expr.Call IS_VALID (expr.Field (codes "a") ∷ []))
 null_alone = refl
 
-a_text_in_years : field_test (of_a (Some 0) (compare.Less (cell.Text (codes "2012")))) ≡ expr.Binary Less (start_by 0 (codes "a")) (expr.Call TO_DATE (expr.Text (codes "2012") ∷ []))
+a_text_in_years : field_test (of_a (Some 0) (compare.Less (cell.Text (codes "2012"))))
+    ≡ expr.Binary Less (start_by 0 (codes "a")) (expr.Call TO_DATE (expr.Text (codes "2012") ∷ []))
 a_text_in_years = refl

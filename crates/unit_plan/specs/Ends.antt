@@ -1,8 +1,9 @@
--- Where the ends of marks stand, branch by branch. A `value` is a number of pixels. A cell stands on the scale of its direction: at its place, which on a band is the
--- lesser end, or at the middle of its band, which on a scale without bands is the place; a measure that is stacked stands at its stack's end. What spans a band goes over the whole band; what spans a bin or
--- a unit of time on a continuous scale goes from the start's place to the end's where the scale's range rises, else from the end's to the start's; anything else is 5 wide. A bin's
--- middle is half of the sum of its ends. A channel that is absent is one null on a scale of its own. Where nothing is said for a row, x and y are the middle of the
--- plot; but what spans bands stands at the band of null, and along the measure of a bar nothing has a place.
+-- Where the ends of marks stand, branch by branch. A `value` is a number of pixels. A cell stands on the scale of its direction: at its place, which
+-- on a band is the lesser end, or at the middle of its band, which on a scale without bands is the place; a measure that is stacked stands at its
+-- stack's end. What spans a band goes over the whole band; what spans a bin or a unit of time on a continuous scale goes from the start's place to
+-- the end's where the scale's range rises, else from the end's to the start's; anything else is 5 wide. A bin's middle is half of the sum of its
+-- ends. A channel that is absent is one null on a scale of its own. Where nothing is said for a row, x and y are the middle of the plot; but what
+-- spans bands stands at the band of null, and along the measure of a bar nothing has a place.
 use Rattle.std.specs.Prelude.{ℕ, ◌==◌, ◌||◌, ◌&&◌, ℤ, pos, neg_ℤ, Bool, true, false, not, Option, Some, None, List, [], ◌∷◌, ◌++◌, map}
 use Rattle.std.specs.Prelude.{if◌then◌else◌}
 use Rattle.std.specs.Option.{option_map_or}
@@ -104,7 +105,8 @@ abbrev pub plain_on : End → ScaleSeen → ℕ → Definition → SpotWay
 plain_on (end.Near gap) s channel d = near_on gap s (cell_of channel d) (end_of channel d)
 plain_on end.Far s channel d = far_on s (cell_of channel d) (end_of channel d)
 plain_on end.Place s channel d = always (Place s.number (cell_of channel d)) None
-plain_on end.PlaceOrCentre s channel d = if is_band s then always (Place s.number (cell_of channel d)) None else always (Centre s.number (cell_of channel d)) None
+plain_on end.PlaceOrCentre s channel d =
+    if is_band s then always (Place s.number (cell_of channel d)) None else always (Centre s.number (cell_of channel d)) None
 plain_on end.Centre s channel d = always (Centre s.number (cell_of channel d)) None
 plain_on end.Middle s channel d = always (Centre s.number (middle_cell s channel d)) None
 plain_on (end.Before half) s channel d = always (Centre s.number (middle_cell s channel d)) (Some (neg_ℤ half))

@@ -1,5 +1,5 @@
--- An encoding with an aggregate groups the rows by all its unaggregated fields, those of `detail` and of the facets round the unit included: of bins and units of
--- time by the start and the end. Each aggregate is an operation on the groups.
+-- An encoding with an aggregate groups the rows by all its unaggregated fields, those of `detail` and of the facets round the unit included: of bins
+-- and units of time by the start and the end. Each aggregate is an operation on the groups.
 use Rattle.std.specs.Prelude.{ℕ, Bool, Option, Some, None, List, [], ◌∷◌, ◌++◌, flat_map, is_some, if◌then◌else◌}
 use Rattle.std.specs.List.{list_any}
 use Rattle.std.specs.Option.{option_map_or}

@@ -1,7 +1,8 @@
--- Looks, branch by branch: what is written, or what the channel's scale gives for a cell; and where nothing is said for a row, the default. The colour is that of the
--- mark, without it black for texts and rules, and blue. The opacity is that of the mark, without it 0.7 for points, ticks, circles and squares of a unit that doesn't
--- aggregate its rows, else 1. The size of a sign is that of the mark, without it 30. The colour paints the line of lines, rules and points that aren't filled, and
--- the inside of others; that line is as wide as the mark says, without it 1 for rules and 2 for others.
+-- Looks, branch by branch: what is written, or what the channel's scale gives for a cell; and where nothing is said for a row, the default. The
+-- colour is that of the mark, without it black for texts and rules, and blue. The opacity is that of the mark, without it 0.7 for points, ticks,
+-- circles and squares of a unit that doesn't aggregate its rows, else 1. The size of a sign is that of the mark, without it 30. The colour paints the
+-- line of lines, rules and points that aren't filled, and the inside of others; that line is as wide as the mark says, without it 1 for rules and 2
+-- for others.
 use Rattle.std.specs.Prelude.{ℕ, ◌*◌, ◌&&◌, not, ℤ, pos, Bool, true, false, Option, Some, None, List, [], ◌∷◌, ◌++◌, codes, map, unwrap_or, if◌then◌else◌}
 use Rattle.std.specs.Option.{option_and_then, option_map_or}
 use Rattle.fixed_num.specs.Number.{million}

@@ -1,6 +1,6 @@
--- Lines and areas: a path for each combination of the unaggregated fields of color, opacity, shape and detail, through its rows by the cells of the dimension, with
--- ties by key. A row stands in the middle of its band, at the start of its bin, else at its place. An area comes back along its base, or along the start of its
--- stack, or along `x2` or `y2` where that is given.
+-- Lines and areas: a path for each combination of the unaggregated fields of color, opacity, shape and detail, through its rows by the cells of the
+-- dimension, with ties by key. A row stands in the middle of its band, at the start of its bin, else at its place. An area comes back along its base,
+-- or along the start of its stack, or along `x2` or `y2` where that is given.
 use Rattle.std.specs.Prelude.{ℕ, Bool, true, Option, List, [], ◌∷◌, is_some, if◌then◌else◌}
 use Rattle.std.specs.Option.{option_and_then}
 use Rattle.vl_compose.specs.Units.{UnitAt}

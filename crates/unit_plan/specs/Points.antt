@@ -1,5 +1,5 @@
--- Points, circles, squares and texts stand at the centre: the middle of the band, the middle of a bin, else the place. Circles and squares are signs by their type; a point
--- is the sign that `shape` says, without it a circle.
+-- Points, circles, squares and texts stand at the centre: the middle of the band, the middle of a bin, else the place. Circles and squares are signs
+-- by their type; a point is the sign that `shape` says, without it a circle.
 use Rattle.std.specs.Prelude.{ℕ, Bool, List, []}
 use Rattle.unit_plan.specs.declared.ends.End.TheVariants as end
 use Rattle.unit_plan.specs.declared.marks.Along.{Along}

@@ -1,8 +1,9 @@
 -- The transforms of views as steps. What a member says that is absent: no fields for `groupby` and `sort`, `ascending` for an order, `zero` for an
--- offset; 10 for `maxbins`; 1 for the `param` of an operation; from the partition's first row to the row itself for a frame, which is widened to peers; the names of
--- the fields for the `as` of lookup, and null for its default; `key` and `value` for the `as` of fold. A name that stands alone for a start and
--- an end is that of the start, and with `_end` that of the end.
-use Rattle.std.specs.Prelude.{◌≡◌, refl, ℕ, ◌/◌, ◌*◌, ◌-◌, ◌^◌, ℤ, pos, neg_ℤ, min, unsigned_abs, Bool, true, false, Option, Some, None, List, [], ◌∷◌, map, codes, unwrap_or}
+-- offset; 10 for `maxbins`; 1 for the `param` of an operation; from the partition's first row to the row itself for a frame, which is widened to
+-- peers; the names of the fields for the `as` of lookup, and null for its default; `key` and `value` for the `as` of fold. A name that stands alone
+-- for a start and an end is that of the start, and with `_end` that of the end.
+use Rattle.std.specs.Prelude.{◌≡◌, refl, ℕ, ◌/◌, ◌*◌, ◌-◌, ◌^◌, ℤ, pos, neg_ℤ, min, unsigned_abs, Bool, true, false, Option, Some, None}
+use Rattle.std.specs.Prelude.{List, [], ◌∷◌, map, codes, unwrap_or}
 use Rattle.std.specs.Option.{option_map, option_map_or, option_and_then}
 use Rattle.std.specs.Int.{int_min, int_max, int_div_euclid}
 use Rattle.fixed_num.specs.Number.{million}
@@ -187,7 +188,13 @@ a_stack_without_members : stack_settings record { stack = codes "v"; groupby = N
 a_stack_without_members = refl
 
 a_window_without_members :
-    window_settings record { window = record { op = 15; field = Some (codes "v"); param = None; as_ = codes "before" } ∷ []; groupby = None; sort = None; frame = None; ignore_peers = None }
+    window_settings record {
+      window = record { op = 15; field = Some (codes "v"); param = None; as_ = codes "before" } ∷ [];
+      groupby = None;
+      sort = None;
+      frame = None;
+      ignore_peers = None;
+    }
     ≡ record {
       ops = record { op = 15; field = Some (codes "v"); out = codes "before" } ∷ [];
       params = 1 ∷ [];

@@ -58,7 +58,8 @@ fn push_own<'s>(
     out: &mut Seq<BranchHere<'s>>,
 ) -> Result<(), OutOfMemory>
     ensures { OnOk result (branches_shown out.new
-        ≡ branches_shown out.old ++ own_branch (out-Channel channel.now).definition (is_some (out-Channel channel.now).condition) (map (λ t. t.now) outer.now)) }
+        ≡ branches_shown out.old
+        ++ own_branch (out-Channel channel.now).definition (is_some (out-Channel channel.now).condition) (map (λ t. t.now) outer.now)) }
 {
     if says(&channel.definition, channel.condition.is_some()) {
         let tests = Seq::from_slice(alloc, outer)?;

@@ -11,9 +11,11 @@ ghost use Rattle.unit_plan.specs.declared.cells.CellOf.TheVariants.{Field as The
 ghost use Rattle.unit_plan.specs.declared.marks.Spot.TheVariants as TheSpots;
 ghost use Rattle.unit_plan.specs.Branches.{is_certain, covers, is_empty};
 ghost use Rattle.unit_plan.specs.Selections.{is_selection};
-ghost use Rattle.unit_plan.specs.Ends.{always, half_width, gap_of, is_band, is_line, lesser, greater, near_about, far_about, near_cut, far_cut, near_on, far_on};
-ghost use Rattle.unit_plan.specs.Ends.{middle_expr, middle_by, middle_of, middle_cell, plain_on, stacked_on, is_named, shows_stack, stand_cell, stand_on, base_on, base};
-ghost use Rattle.unit_plan.specs.Ends.{pixels_by, is_stack_start, pixels_at, stand, null_on, absent, has_bands, open_end, otherwise, way, ways, second_spot, second_on, second, seconds};
+ghost use Rattle.unit_plan.specs.Ends.{always, half_width, gap_of, is_band, is_line, lesser, greater, near_about, far_about, near_cut};
+ghost use Rattle.unit_plan.specs.Ends.{far_cut, near_on, far_on, middle_expr, middle_by, middle_of, middle_cell, plain_on, stacked_on};
+ghost use Rattle.unit_plan.specs.Ends.{is_named, shows_stack, stand_cell, stand_on, base_on, base, pixels_by, is_stack_start, pixels_at};
+ghost use Rattle.unit_plan.specs.Ends.{stand, null_on, absent, has_bands, open_end, otherwise, way, ways, second_spot, second_on, second};
+ghost use Rattle.unit_plan.specs.Ends.{seconds};
 ghost use Rattle.unit_plan.specs.inner.Lent.{branch_shown, branches_shown};
 ghost use Rattle.unit_plan.specs.inner.LentLanes.{lane_shown};
 
@@ -616,7 +618,8 @@ fn in_middle(offset: Option<Num>) -> SpotWay
 
 // An end at the band of null, or else in the middle of the plot.
 fn band_or_middle(end: &End, scale: &Option<ScaleSeen>, offset: Option<Num>) -> SpotWay
-    ensures { result ≡ (if option_map_or is_band scale.now false then option_map_or (null_on end.now) scale.now (always TheSpots.Nowhere None) else always TheSpots.Middle offset) }
+    ensures { result ≡ (if option_map_or is_band scale.now false
+        then option_map_or (null_on end.now) scale.now (always TheSpots.Nowhere None) else always TheSpots.Middle offset) }
 {
     if has_bands(scale) {
         absent(end, scale)

@@ -5,9 +5,10 @@ ghost use Rattle.cell_value.specs.declared.cell.Cell.TheVariants as TheCell;
 ghost use Rattle.vl_compose.specs.Shown.{unit_shown};
 ghost use Rattle.unit_plan.specs.Branches.{covers};
 ghost use Rattle.unit_plan.specs.Selections.{is_selection};
-ghost use Rattle.unit_plan.specs.Looks.{scaled, look_of, look_way, fixed, looks_by, looks_at, said_in, type_of_mark, is_black, plain_color, color_said, default_color};
-ghost use Rattle.unit_plan.specs.Looks.{is_light, plain_opacity, opacity_said, default_opacity, size_said, default_size, is_filled, is_stroked, is_rule, plain_width, width_said};
-ghost use Rattle.unit_plan.specs.Looks.{stroked, line_width, color_in, opacity_in, size_in, sign_in};
+ghost use Rattle.unit_plan.specs.Looks.{scaled, look_of, look_way, fixed, looks_by, looks_at, said_in, type_of_mark, is_black, plain_color};
+ghost use Rattle.unit_plan.specs.Looks.{color_said, default_color, is_light, plain_opacity, opacity_said, default_opacity, size_said};
+ghost use Rattle.unit_plan.specs.Looks.{default_size, is_filled, is_stroked, is_rule, plain_width, width_said, stroked, line_width};
+ghost use Rattle.unit_plan.specs.Looks.{color_in, opacity_in, size_in, sign_in};
 ghost use Rattle.unit_plan.specs.inner.Lent.{branch_shown, branches_shown};
 
 use crate::branches::BranchHere;

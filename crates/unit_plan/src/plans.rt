@@ -63,7 +63,8 @@ fn across_of(
     scales: &[ScaleSeen],
 ) -> Result<Along, OutOfMemory>
     ensures { IfOk result (λ both. both
-        ≡ along (mark_of (unit_shown unit.now)) (is_selection names.now.params.now) (half_across (is_upright (unit_shown unit.now))) (across (unit_shown unit.now) scales.now)) }
+        ≡ along (mark_of (unit_shown unit.now)) (is_selection names.now.params.now)
+        (half_across (is_upright (unit_shown unit.now))) (across (unit_shown unit.now) scales.now)) }
 {
     let lane = lane_at(alloc, unit, scales, X, X2)?;
     let half = half_across(is_upright(alloc, unit)?);
@@ -78,7 +79,8 @@ fn down_of(
     scales: &[ScaleSeen],
 ) -> Result<Along, OutOfMemory>
     ensures { IfOk result (λ both. both
-        ≡ along (mark_of (unit_shown unit.now)) (is_selection names.now.params.now) (half_down (is_upright (unit_shown unit.now))) (down (unit_shown unit.now) scales.now)) }
+        ≡ along (mark_of (unit_shown unit.now)) (is_selection names.now.params.now)
+        (half_down (is_upright (unit_shown unit.now))) (down (unit_shown unit.now) scales.now)) }
 {
     let lane = lane_at(alloc, unit, scales, Y, Y2)?;
     let half = half_down(is_upright(alloc, unit)?);
@@ -192,8 +194,9 @@ fn name_or_empty(alloc: Global, name: Option<&Text>) -> Result<Text, OutOfMemory
     }
 }
 
-/// The plan of a unit of a normal form, by the parameters of its specification, which are put in a map once for all units, and by the scales of the plan as the unit
-/// sees them: one for x, one for y, and one for each other channel that has a scale. In time near linear in what stands at the unit and at the views round it.
+/// The plan of a unit of a normal form, by the parameters of its specification, which are put in a map once for all units, and by the scales of the
+/// plan as the unit sees them: one for x, one for y, and one for each other channel that has a scale. In time near linear in what stands at the unit
+/// and at the views round it.
 pub fn unit_plan_of(
     alloc: Global,
     names: &SelectionNames,

@@ -8,8 +8,9 @@ ghost use Rattle.unit_plan.specs.Groups.{name_list};
 ghost use Rattle.unit_plan.specs.Measures.{measure_of, dimension_of};
 ghost use Rattle.cell_names.specs.Names.{stack_start, stack_end};
 ghost use Rattle.unit_plan.specs.Shows.{ShownAt};
-ghost use Rattle.unit_plan.specs.Stacks.{plain_field, plain_in, plain_at, series_of, offset_said, stacks, is_stacker, are_some, stacks_over, zero_if, default_offset, stack_offset, name_in};
-ghost use Rattle.unit_plan.specs.Stacks.{dimension_names, facet_names, downwards, stack_with, stack_by, stack_at, stack_settings_of, stacked_by, stack_of};
+ghost use Rattle.unit_plan.specs.Stacks.{plain_field, plain_in, plain_at, series_of, offset_said, stacks, is_stacker, are_some};
+ghost use Rattle.unit_plan.specs.Stacks.{stacks_over, zero_if, default_offset, stack_offset, name_in, dimension_names, facet_names};
+ghost use Rattle.unit_plan.specs.Stacks.{downwards, stack_with, stack_by, stack_at, stack_settings_of, stacked_by, stack_of};
 ghost use Rattle.unit_plan.specs.inner.LentShows.{show_shown, shows_shown};
 
 use crate::groups::push_name;

@@ -1,7 +1,8 @@
 // The start of a unit of time, as an expression.
 ghost use Rattle.std.specs.Prelude.{◌≡◌, ◌==◌, ◌++◌, IfOk, OnOk};
 ghost use Rattle.time_calc.specs.TimeUnits.{part_number, keeps};
-ghost use Rattle.unit_plan.specs.Starts.{part_call, quarter_month, weekday_date, year_kept, month_kept, date_kept, time_kept, day_parts, time_parts, start_expr, start_by};
+ghost use Rattle.unit_plan.specs.Starts.{part_call, quarter_month, weekday_date, year_kept, month_kept, date_kept, time_kept, day_parts};
+ghost use Rattle.unit_plan.specs.Starts.{time_parts, start_expr, start_by};
 
 use crate::codes::{DATE, DATETIME, DAY, HOURS, MINUTES, MONTH, QUARTER, SECONDS, YEAR};
 use crate::exprs::{binary, call_one, whole};

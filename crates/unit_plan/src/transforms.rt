@@ -8,8 +8,8 @@ ghost use Rattle.unit_plan.specs.declared.steps.Step.TheVariants as TheSteps;
 ghost use Rattle.cell_names.specs.Names.{end_name};
 ghost use Rattle.unit_plan.specs.Selections.{is_selection};
 ghost use Rattle.unit_plan.specs.Transforms.{count_in, offset_in, start_named, end_named, op_settings, group_settings, is_descending, sort_by, sort_settings};
-ghost use Rattle.unit_plan.specs.Transforms.{offset_of, stack_settings, transform_bins, unit_settings, window_op, param_of, before_of, after_of, window_settings};
-ghost use Rattle.unit_plan.specs.Transforms.{texts_in, lookup_settings, fold_settings, step_of};
+ghost use Rattle.unit_plan.specs.Transforms.{offset_of, stack_settings, transform_bins, unit_settings, window_op, param_of, before_of};
+ghost use Rattle.unit_plan.specs.Transforms.{after_of, window_settings, texts_in, lookup_settings, fold_settings, step_of};
 
 use crate::filters::filter_expr;
 use crate::selections::SelectionNames;

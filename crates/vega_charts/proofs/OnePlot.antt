@@ -106,14 +106,16 @@ pub drawn_items : (marks : Marks) (found : Found) (frame : Frame) (items : List 
     → items_of_marks frame marks ≡ Some items → drawn_in items_in_copy marks found frame ≡ Some (items_inside items)
 drawn_items NoMarks found frame items is none e = ap (option_map items_inside) e
 drawn_items (AMark unit m others) found frame items is none e =
-    let (own, rest, first, behind, joined) = found_both (items_in_plot frame unit m (rows_of_mark frame.names.lists m.from)) (items_of_marks frame others) items e in
+    let (own, rest, first, behind, joined) =
+    found_both (items_in_plot frame unit m (rows_of_mark frame.names.lists m.from)) (items_of_marks frame others) items e in
     let here = in_copy unit m frame own is first in
     let there = drawn_items others (behind_first found) frame rest is none behind in
     (λ i. here i >>= λ own. there i >>= λ rest. Some (and_inside (items_inside own) rest)) ∙ ap (λ items. Some (items_inside items)) joined
 drawn_items (AGroup o inside others) found frame items is none e = absurd (cc)
 
 -- without groups something is found of marks
-some_found : (sources : List Dataset) (marks : Marks) (names : Names) → has_no_groups marks ≡ true → (found : Found) × (found_in sources marks names ≡ Some found)
+some_found : (sources : List Dataset) (marks : Marks) (names : Names)
+    → has_no_groups marks ≡ true → (found : Found) × (found_in sources marks names ≡ Some found)
 some_found sources NoMarks names none = (NoneFound, refl)
 some_found sources (AMark unit m others) names none =
     let (rest, is) = some_found sources others names none in (FoundOf NoCopies None rest, ap (option_map (FoundOf NoCopies None)) is)

@@ -1,6 +1,6 @@
 -- Groups of which each copy holds as many plots as any other.
-use Rattle.std.proofs.Common.{◌≡◌, ℕ, ◌+◌, ◌<◌, ◌&&◌, ◌||◌, ◌==◌, not, Bool, true, false, cond, Option, Some, None, List, [], ◌∷◌, ◌++◌, map, flat_map, zip, drop, get_or}
-use Rattle.std.proofs.Common.{length, replicate, is_some, refl, sym, ap, ap₂, ◌∙◌, subst}
+use Rattle.std.proofs.Common.{◌≡◌, ℕ, ◌+◌, ◌<◌, ◌&&◌, ◌||◌, ◌==◌, not, Bool, true, false, cond, Option, Some, None, List, [], ◌∷◌, ◌++◌}
+use Rattle.std.proofs.Common.{map, flat_map, zip, drop, get_or, length, replicate, is_some, refl, sym, ap, ap₂, ◌∙◌, subst}
 use Rattle.std.specs.List.{list_any, sum}
 use Rattle.std.specs.Option.{option_map, option_map_or}
 use Rattle.std.specs.Str.{bytes_eq}
@@ -67,7 +67,8 @@ module _ (names : List (List ℕ)) where
   plain_reads m e = sym (ap (all_read_none names) (plain_first m NoMarks e))
 
   module _ (marks : List VgMark) (i : ℕ) (m : VgMark) (kept : Bool) (within : i < length marks) (is : m ≡ get_or marks i m)
-      (tested : kept ≡ all_read_none names (marks_of (m ∷ []))) (whole : all_read_none names (marks_of (drop i marks)) ≡ all_read_none names (marks_of marks)) where
+      (tested : kept ≡ all_read_none names (marks_of (m ∷ [])))
+      (whole : all_read_none names (marks_of (drop i marks)) ≡ all_read_none names (marks_of marks)) where
     by_first : (all_read_none names (marks_of (m ∷ [])) && all_read_none names (marks_of (drop (i + 1) marks))) ≡ all_read_none names (marks_of marks)
     by_first =
         sym (ap (λ ms. all_read_none names (marks_of ms)) (drop_more marks i m within ∙ ap (λ one. one ∷ drop (i + 1) marks) (sym is))
@@ -171,7 +172,8 @@ module _ (sources : List Dataset) (hidden : List (List ℕ)) where
 -- ---- the copies of a group
 
 -- names that no part has stand for what they stood for
-hidden_parts : (part : List ℕ × List ℕ → Dataset) → ((named : List ℕ × List ℕ) → (part named).name ≡ named.0) → (own lists : List (List ℕ)) (scope : Scope) (name : List ℕ)
+hidden_parts : (part : List ℕ × List ℕ → Dataset) → ((named : List ℕ × List ℕ) → (part named).name ≡ named.0)
+    → (own lists : List (List ℕ)) (scope : Scope) (name : List ℕ)
     → is_one_of own name ≡ false → with_parts (map part (zip own lists)) scope name ≡ scope name
 hidden_parts part named [] lists scope name out = refl
 hidden_parts part named (n ∷ ns) [] scope name out = refl
@@ -195,8 +197,10 @@ module _ (sources : List Dataset) (m : VgMark) (deeper in_grid : Bool) (names : 
   same_count hidden reads none a b agree =
       ap (option_map (λ n. cond (is_panel deeper in_grid (out-VgMark m)) 1 0 + n))
       (in_object sources hidden (plots_inside sources deeper (out-VgMark m))
-      (λ x y both. plots_agree sources hidden (marks_of (marks_in (out-Group (out-VgMark m).group))) reads deeper (is_some (out-Group (out-VgMark m).group).layout) x y both)
-      (record names { lists = with_parts a.parts names.lists }) (record names { lists = with_parts b.parts names.lists }) (group_object 0 (out-VgMark m)) none agree)
+      (λ x y both. plots_agree sources hidden (marks_of (marks_in (out-Group (out-VgMark m).group)))
+      reads deeper (is_some (out-Group (out-VgMark m).group).layout) x y both)
+      (record names { lists = with_parts a.parts names.lists })
+      (record names { lists = with_parts b.parts names.lists }) (group_object 0 (out-VgMark m)) none agree)
 
   by_facet : (sort : Option Sort) (f : Option Facet) → all_read_none (names_of_parts f) (marks_of (marks_in (out-Group (out-VgMark m).group))) ≡ true
       → (group_object 0 (out-VgMark m)).sets ≡ []

@@ -62,7 +62,8 @@ bare_seen f parts e = ap (λ (parts : List Named). record { cells = None; parts 
 pub bare_is_copy : (names : NamesAt) (m : VgMark-F Group VgMark) (copy : CopyOf) → copy.parts ≡ parts_of_bare (facet_in m.from) → IsCopy names m copy
 bare_is_copy names m copy e = record {
   parts = subst AreParts (sym e) (by_parts (facet_in m.from));
-  folds = λ products fits. subst (λ parts. AllKeysFit (products_in_copy (facet_in m.from) products) (parts_over parts (rows_at names.sources.now names.levels.now)))
+  folds = λ products fits.
+      subst (λ parts. AllKeysFit (products_in_copy (facet_in m.from) products) (parts_over parts (rows_at names.sources.now names.levels.now)))
       (sym e) (by_folds products fits (facet_in m.from));
 }
   where

@@ -1,6 +1,7 @@
 -- Copies of groups, their rows, and what holds of each.
-use Rattle.std.proofs.Common.{◌≡◌, ℕ, suc, ◌+◌, ◌<◌, ◌≤◌, Bool, true, false, cond, Option, Some, None, List, [], ◌∷◌, ◌++◌, map, filter, flat_map, zip, length, get_or, drop}
-use Rattle.std.proofs.Common.{slice_get, unwrap_or, All, refl, sym, ap, ap₂, ◌∙◌, subst, arith, inl, inr}
+use Rattle.std.proofs.Common.{◌≡◌, ℕ, suc, ◌+◌, ◌<◌, ◌≤◌, Bool, true, false, cond, Option, Some, None, List, [], ◌∷◌, ◌++◌, map, filter}
+use Rattle.std.proofs.Common.{flat_map, zip, length, get_or, drop, slice_get, unwrap_or, All, refl, sym, ap, ap₂, ◌∙◌, subst, arith, inl}
+use Rattle.std.proofs.Common.{inr}
 use Rattle.std.specs.Prelude.{◌⊎◌}
 use Rattle.std.specs.Borrow.{Bor}
 use Rattle.std.specs.List.{enumerate_from}
@@ -139,7 +140,8 @@ module _ (names : NamesAt) (fields : List (List ℕ)) (keys : List (List Cell)) 
   part_here i key table list there are =
       sym (data_behind (unwrap_or (slice_get table i) []))
       ∙ inside (slice_get table i)
-      ∙ ap (λ o. unwrap_or o []) (sym (slice_get-map data_of table i) ∙ ap (λ l. slice_get l i) are ∙ slice_get-map (λ key. part_of fields key (scope_at names list)) keys i)
+      ∙ ap (λ o. unwrap_or o [])
+      (sym (slice_get-map data_of table i) ∙ ap (λ l. slice_get l i) are ∙ slice_get-map (λ key. part_of fields key (scope_at names list)) keys i)
       ∙ ap (λ o. unwrap_or (option_map (λ key. part_of fields key (scope_at names list)) o) []) there
     where
       inside : (o : Option (List (Bor Keyed))) → data_of (unwrap_or o []) ≡ unwrap_or (option_map data_of o) []
@@ -156,15 +158,18 @@ module _ (names : NamesAt) (fields : List (List ℕ)) (keys : List (List Cell)) 
   parts_here i key there (n ∷ ns) (t ∷ ts) [] are = absurd (cc)
   parts_here i key there (n ∷ ns) (t ∷ ts) (l ∷ ls) are =
       ap₂ (λ (rows : List Datum) (ps : List Dataset). record { name = n; rows = rows } ∷ ps)
-      (part_here i key t l there (first_same (map data_of t) (parts_read names fields keys l) (map (map data_of) ts) (map (parts_read names fields keys) ls) are))
-      (parts_here i key there ns ts ls (others_same (map data_of t) (parts_read names fields keys l) (map (map data_of) ts) (map (parts_read names fields keys) ls) are))
+      (part_here i key t l there
+      (first_same (map data_of t) (parts_read names fields keys l) (map (map data_of) ts) (map (parts_read names fields keys) ls) are))
+      (parts_here i key there ns ts ls
+      (others_same (map data_of t) (parts_read names fields keys l) (map (map data_of) ts) (map (parts_read names fields keys) ls) are))
 
   found_there : (before : List (List Cell)) (key : List Cell) (rest : List (List Cell)) → slice_get (before ++ key ∷ rest) (length before) ≡ Some key
   found_there [] key rest = refl
   found_there (b ∷ bs) key rest = found_there bs key rest
 
   -- the copies by their places are the copies by their cells
-  module _ (own lists : List (List ℕ)) (tables : List (List (List (Bor Keyed)))) (are : map (map data_of) tables ≡ map (parts_read names fields keys) lists) where
+  module _ (own lists : List (List ℕ)) (tables : List (List (List (Bor Keyed))))
+      (are : map (map data_of) tables ≡ map (parts_read names fields keys) lists) where
     pub copies_from : (before rest : List (List Cell)) (i : ℕ) → keys ≡ before ++ rest → i ≡ length before
         → map (copy_at fields own tables) (enumerate_from i rest) ≡ map (copy_from names fields own lists) rest
     copies_from before [] i e at = refl
@@ -216,7 +221,8 @@ fewer : (p : Datum → Bool) (rows : List Datum) → length (keys_read (filter p
 fewer p [] = omega arith
 fewer p (row ∷ rows) =
     let rest = fewer p rows in
-    cond_both (p row) (row ∷ filter p rows) (filter p rows) (λ l. length (keys_read l) ≤ suc (length (keys_read rows))) (λ _. omega (arith, rest)) (λ _. omega (arith, rest))
+    cond_both (p row) (row ∷ filter p rows) (filter p rows)
+    (λ l. length (keys_read l) ≤ suc (length (keys_read rows))) (λ _. omega (arith, rest)) (λ _. omega (arith, rest))
 
 all_of_part : (P : Key → Type 0) (p : Datum → Bool) (rows : List Datum) → All P (keys_read rows) → All P (keys_read (filter p rows))
 all_of_part P p [] h = h
@@ -237,12 +243,14 @@ module _ (rows : RowsByName) (f : Facet) (key : List Cell) where
       → keys_of part.rows ≡ keys_read (part_of f.groupby key (map datum_of (rows named.1)))
   one_part part named e = sym (keys_seen part.rows) ∙ ap (λ (d : Dataset). keys_read d.rows) e
 
-  part_is_rows : (part : Named) (named : List ℕ × List ℕ) → dataset_of part ≡ part_named (scope_read rows) f key named → AreRows (rows named.1) → AreRows part.rows
+  part_is_rows : (part : Named) (named : List ℕ × List ℕ)
+      → dataset_of part ≡ part_named (scope_read rows) f key named → AreRows (rows named.1) → AreRows part.rows
   part_is_rows part named e are =
       subst AreKeys (sym (one_part part named e))
       (parts_are_rows f.groupby key (map datum_of (rows named.1)) (subst AreKeys (sym (keys_seen (rows named.1))) are))
 
-  part_keys_fit : (part : Named) (named : List ℕ × List ℕ) (n : ℕ) → dataset_of part ≡ part_named (scope_read rows) f key named → KeysFit n (keys_of (rows named.1))
+  part_keys_fit : (part : Named) (named : List ℕ × List ℕ) (n : ℕ)
+      → dataset_of part ≡ part_named (scope_read rows) f key named → KeysFit n (keys_of (rows named.1))
       → KeysFit n (keys_of part.rows)
   part_keys_fit part named n e fits =
       subst (KeysFit n) (sym (one_part part named e))
@@ -254,8 +262,10 @@ module _ (rows : RowsByName) (f : Facet) (key : List Cell) where
   parts_sound (p ∷ ps) [] e are = absurd (cc)
   parts_sound (p ∷ ps) (n ∷ ns) e are =
       All-cons (λ (part : Named). AreRows part.rows) p ps
-      (part_is_rows p n (first_same (dataset_of p) (part_named (scope_read rows) f key n) (map dataset_of ps) (map (part_named (scope_read rows) f key) ns) e) (are n.1))
-      (parts_sound ps ns (others_same (dataset_of p) (part_named (scope_read rows) f key n) (map dataset_of ps) (map (part_named (scope_read rows) f key) ns) e) are)
+      (part_is_rows p n (first_same (dataset_of p) (part_named (scope_read rows) f key n)
+      (map dataset_of ps) (map (part_named (scope_read rows) f key) ns) e) (are n.1))
+      (parts_sound ps ns
+      (others_same (dataset_of p) (part_named (scope_read rows) f key n) (map dataset_of ps) (map (part_named (scope_read rows) f key) ns) e) are)
 
   -- the names and the products of parts stand side by side
   either_fits : (a b : Bool) (p q : ℕ) (own others : List Keyed) → a ≡ b → KeysFit p (keys_of own) → KeysFit q (keys_of others)
@@ -265,7 +275,8 @@ module _ (rows : RowsByName) (f : Facet) (key : List Cell) where
   either_fits true false p q own others e x y = absurd (cc)
   either_fits false true p q own others e x y = absurd (cc)
 
-  pub parts_fit : (products : Products) (parts : List Named) (named : List (List ℕ × List ℕ)) → map dataset_of parts ≡ map (part_named (scope_read rows) f key) named
+  pub parts_fit : (products : Products) (parts : List Named) (named : List (List ℕ × List ℕ))
+      → map dataset_of parts ≡ map (part_named (scope_read rows) f key) named
       → AllKeysFit products rows → AllKeysFit (with_part_products named products) (parts_over parts rows)
   parts_fit products [] [] e fits = fits
   parts_fit products [] (n ∷ ns) e fits = absurd (cc)
@@ -276,7 +287,8 @@ module _ (rows : RowsByName) (f : Facet) (key : List Cell) where
       λ name. either_fits (bytes_eq n.0 name) (bytes_eq p.name name) (products n.1) (with_part_products ns products name) p.rows (parts_over ps rows name)
       (ap (λ (d : Dataset). bytes_eq d.name name) (sym one))
       (part_keys_fit p n (products n.1) one (fits n.1))
-      (parts_fit products ps ns (others_same (dataset_of p) (part_named (scope_read rows) f key n) (map dataset_of ps) (map (part_named (scope_read rows) f key) ns) e) fits name)
+      (parts_fit products ps ns (others_same (dataset_of p) (part_named (scope_read rows) f key n)
+      (map dataset_of ps) (map (part_named (scope_read rows) f key) ns) e) fits name)
 
 module _ (names : NamesAt) (m : VgMark-F Group VgMark) (are : AreNames names) where
   -- what holds of a copy, by the facet
@@ -288,12 +300,14 @@ module _ (names : NamesAt) (m : VgMark-F Group VgMark) (are : AreNames names) wh
   with_facet : (f : Facet) (copy : CopyOf) (key : List Cell) → copy_seen copy ≡ copy_with (scope_at names) f key → Sound (Some f) copy
   unfolding Sound
   with_facet f copy key e =
-      let parts : map dataset_of copy.parts ≡ map (part_named (scope_at names) f key) (zip (texts_in f.name) (texts_in f.data_)) = ap (λ (c : Copy). c.parts) e in (
+      let parts : map dataset_of copy.parts ≡ map (part_named (scope_at names) f key) (zip (texts_in f.name) (texts_in f.data_)) =
+      ap (λ (c : Copy). c.parts) e in (
         parts_sound (rows_at names.sources.now names.levels.now) f key copy.parts (zip (texts_in f.name) (texts_in f.data_)) parts are.rows,
         λ products fits. parts_fit (rows_at names.sources.now names.levels.now) f key products copy.parts (zip (texts_in f.name) (texts_in f.data_)) parts fits,
       )
 
-  each_with_facet : (f : Facet) (copies : List CopyOf) (keys : List (List Cell)) → map copy_seen copies ≡ map (copy_with (scope_at names) f) keys → All (Sound (Some f)) copies
+  each_with_facet : (f : Facet) (copies : List CopyOf) (keys : List (List Cell))
+      → map copy_seen copies ≡ map (copy_with (scope_at names) f) keys → All (Sound (Some f)) copies
   each_with_facet f [] keys e = λ k d lt. absurd (omega (arith, lt))
   each_with_facet f (c ∷ cs) [] e = absurd (cc)
   each_with_facet f (c ∷ cs) (k ∷ ks) e =

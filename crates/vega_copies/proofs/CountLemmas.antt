@@ -180,7 +180,8 @@ stops_counted plots Overflow e = ap counted e
 stops_counted plots Memory e = tt
 
 -- each of some marks may stand where all may
-pub stand_at : (rows : RowsByName) (marks : List VgMark) (i : ℕ) (m : VgMark) → MayStand rows marks → i < length marks → m ≡ get_or marks i m → MayStand rows (m ∷ [])
+pub stand_at : (rows : RowsByName) (marks : List VgMark) (i : ℕ) (m : VgMark)
+    → MayStand rows marks → i < length marks → m ≡ get_or marks i m → MayStand rows (m ∷ [])
 stand_at rows [] i m stand lt at = absurd (omega (arith, lt))
 stand_at rows (x ∷ xs) zero m stand lt at = subst (λ y. MayStand rows (y ∷ [])) (sym at) (stand_first rows x xs stand)
 stand_at rows (x ∷ xs) (suc i) m stand lt at = stand_at rows xs i m (stand_rest rows x xs stand) (omega (arith, lt)) at
@@ -196,9 +197,11 @@ module _ (outer : NamesAt) (m : VgMark) (copy : CopyOf) (in_facet in_grid : Bool
   abbrev plots_here : Option ℕ
   plots_here = plots_of_copy sources_read in_facet in_grid (out-VgMark m) (names_at outer.stores.now outer.sources.now outer.levels.now) (copy_seen copy)
 
-  by_names : plots_here ≡ option_map (λ k. cond (is_panel in_facet in_grid (out-VgMark m)) 1 0 + k) (named >>= plots_inside sources_read in_facet (out-VgMark m))
+  by_names : plots_here ≡ option_map (λ k. cond (is_panel in_facet in_grid (out-VgMark m)) 1 0 + k)
+      (named >>= plots_inside sources_read in_facet (out-VgMark m))
   by_names =
-      ap (λ (found : Option Names). option_map (λ k. cond (is_panel in_facet in_grid (out-VgMark m)) 1 0 + k) (found >>= plots_inside sources_read in_facet (out-VgMark m)))
+      ap (λ (found : Option Names).
+      option_map (λ k. cond (is_panel in_facet in_grid (out-VgMark m)) 1 0 + k) (found >>= plots_inside sources_read in_facet (out-VgMark m)))
       (names_of_copy sources_read outer (group_object 0 (out-VgMark m)) copy)
 
   pub copy_stops : (error : EvalError) → Evaluates {X = Names} (Err error) named → Evaluates {X = ℕ} (Err error) plots_here
@@ -213,11 +216,13 @@ module _ (outer : NamesAt) (m : VgMark) (copy : CopyOf) (in_facet in_grid : Bool
     by_level : plots_here ≡ option_map (λ k. cond (is_panel in_facet in_grid (out-VgMark m)) 1 0 + k) within
     by_level =
         by_names
-        ∙ ap (λ (found : Option Names). option_map (λ k. cond (is_panel in_facet in_grid (out-VgMark m)) 1 0 + k) (found >>= plots_inside sources_read in_facet (out-VgMark m))) are
+        ∙ ap (λ (found : Option Names).
+        option_map (λ k. cond (is_panel in_facet in_grid (out-VgMark m)) 1 0 + k) (found >>= plots_inside sources_read in_facet (out-VgMark m))) are
 
     -- what was counted in it
     pub copy_counts : (result : Result ℕ EvalError)
-        → Evaluates result (counted (plots_with_level sources_read in_facet in_grid (out-VgMark m) (names_with_level outer level))) → Evaluates result (counted plots_here)
+        → Evaluates result (counted (plots_with_level sources_read in_facet in_grid (out-VgMark m) (names_with_level outer level)))
+        → Evaluates result (counted plots_here)
     copy_counts result counts = subst (λ o. Evaluates result (counted o)) (sym by_level) counts
 
     pub inside_stops : (error : EvalError) → Evaluates {X = ℕ} (Err error) within → Evaluates {X = ℕ} (Err error) plots_here

@@ -1,5 +1,6 @@
 -- Facts that come of what was made are those of the definition.
-use Rattle.std.proofs.Common.{◌≡◌, ℕ, suc, ◌+◌, ◌<◌, Bool, true, false, cond, Option, Some, None, Err, List, [], ◌∷◌, ◌++◌, map, length, drop, get_or, Bor, refl, sym, ap, ◌∙◌, arith, subst, append-nil, append_assoc}
+use Rattle.std.proofs.Common.{◌≡◌, ℕ, suc, ◌+◌, ◌<◌, Bool, true, false, cond, Option, Some, None, Err, List, [], ◌∷◌, ◌++◌, map, length}
+use Rattle.std.proofs.Common.{drop, get_or, Bor, refl, sym, ap, ◌∙◌, arith, subst, append-nil, append_assoc}
 use Rattle.std.specs.Prelude.{slice_get, IfOk, Result, Ok}
 use Rattle.std.specs.Option.{option_map, option_map_or}
 use Rattle.std.specs.List.{All, AllZip}
@@ -140,11 +141,13 @@ module _ (stores : List StoreOf) (sources : List Named) (top : MadeAt) where
       → IsFactsOf stores sources o (HasFacts stores sources inside) (level ∷ levels) level.signals cells made c
       → found_in read inside (names_under stores sources (level ∷ levels))
       ≡ Some (marks_seen (lists_on sources top) path (values_under stores (level ∷ levels)) 0 (out-CopyFacts c).inside)
-      → copy_found_at read cells o inside (names_under stores sources (level ∷ levels)) ≡ Some (copy_seen (lists_on sources top) c path (values_under stores levels))
+      → copy_found_at read cells o inside (names_under stores sources (level ∷ levels))
+      ≡ Some (copy_seen (lists_on sources top) c path (values_under stores levels))
   object_is o inside level levels cells made c path there is within =
       let lists = lists_on sources top in
       let parts = out-CopyFacts c in
-      let values : values_under stores (level ∷ levels) ≡ values_seen c (values_under stores levels) = ap (λ own. values_inside own (values_under stores levels)) (sym is.signals_are) in
+      let values : values_under stores (level ∷ levels) ≡ values_seen c (values_under stores levels) =
+      ap (λ own. values_inside own (values_under stores levels)) (sym is.signals_are) in
       let names : names_under stores sources (level ∷ levels) ≡ record { lists = lists path; values = values_seen c (values_under stores levels) } =
       λ i. record { lists = (names_under stores sources (sym there i).levels).lists; values = values i } in
       copy_is read cells o inside (names_under stores sources (level ∷ levels)) parts.domains
@@ -178,7 +181,8 @@ module _ (stores : List StoreOf) (sources : List Named) (top : MadeAt) where
         (within (path_to path place n) ((out-CopyMade copy).level ∷ levels) (out-CopyMade copy).inside (out-CopyFacts c).inside behind made.within facts.inside)
 
     all_copies : (before copies : List CopyMade) (facts : List CopyFacts) (n : ℕ) → (out-CopiesMade found).copies ≡ before ++ copies → n ≡ length before
-        → All (IsMade stores sources o inside (AreMade stores sources inside) levels) copies → AllZip (IsFactsIn stores sources o (HasFacts stores sources inside) levels) copies facts
+        → All (IsMade stores sources o inside (AreMade stores sources inside) levels) copies
+        → AllZip (IsFactsIn stores sources o (HasFacts stores sources inside) levels) copies facts
         → all_found (map one_found (map made_seen copies)) ≡ Some (copies_seen (lists_on sources top) path (values_under stores levels) place n facts)
     all_copies before [] [] n is far made each = refl
     all_copies before [] (c ∷ cs) n is far made each = absurd each
@@ -209,7 +213,8 @@ module _ (stores : List StoreOf) (sources : List Named) (top : MadeAt) where
       marks_are others path levels whole there (before ++ found ∷ []) made fs (place + 1) (is ∙ sym (append_assoc before (found ∷ []) made))
       (one_longer before found place far) each.1 has.1 in
       ap (option_map (FoundOf NoCopies None)) rest
-      ∙ (λ i. Some (FoundOf (gathered (copies_seen lists path values place 0 (sym has.0.copies i))) (sym has.0.across i) (marks_seen lists path values (place + 1) fs)))
+      ∙ (λ i. Some (FoundOf (gathered (copies_seen lists path values place 0 (sym has.0.copies i)))
+      (sym has.0.across i) (marks_seen lists path values (place + 1) fs)))
       ∙ ap Some (sym (marks_first lists path values place f fs))
   marks_are (AGroup o inside others) path levels whole there before [] facts place is far each has = absurd has
   marks_are (AGroup o inside others) path levels whole there before (found ∷ made) [] place is far each has = absurd has
@@ -218,9 +223,11 @@ module _ (stores : List StoreOf) (sources : List Named) (top : MadeAt) where
       let values = values_under stores levels in
       let one : Copy → Option CopyFound =
       λ copy. names_in_copy read (names_under stores sources levels) o copy >>= λ here. copy_found copy.cells o here (found_in read inside here) in
-      let copies : all_found (map one (copies_of (names_under stores sources levels).lists o)) ≡ Some (copies_seen lists path values place 0 (out-MarkFacts f).copies) =
+      let copies : all_found (map one (copies_of (names_under stores sources levels).lists o))
+      ≡ Some (copies_seen lists path values place 0 (out-MarkFacts f).copies) =
       ap (λ l. all_found (map one l)) (sym each.0.copies)
-      ∙ all_copies o inside (λ path levels made facts there each has. marks_are inside path levels made there [] made facts 0 refl refl each has) path levels whole there place found
+      ∙ all_copies o inside (λ path levels made facts there each has. marks_are inside path levels made there [] made facts 0 refl refl each has)
+      path levels whole there place found
       (at_length whole before made found place is far) [] (out-CopiesMade found).copies (out-MarkFacts f).copies 0 refl refl each.0.sound has.0.copies in
       let across : columns_across (names_under stores sources levels).lists o ≡ (out-MarkFacts f).across = sym each.0.across ∙ sym has.0.across in
       let rest : found_in read others (names_under stores sources levels) ≡ Some (marks_seen lists path values (place + 1) fs) =
@@ -250,7 +257,8 @@ module _ (stores : List StoreOf) (sources : List Named) where
       })
       (copies_fit o inside levels within copies cs each.1)
 
-  pub marks_fit : (marks : Marks) (levels : List Level) (made : List CopiesMade) (facts : List MarkFacts) → HasFacts stores sources marks levels made facts → MarksFit marks facts
+  pub marks_fit : (marks : Marks) (levels : List Level) (made : List CopiesMade) (facts : List MarkFacts)
+      → HasFacts stores sources marks levels made facts → MarksFit marks facts
   marks_fit NoMarks levels made [] has = tt
   marks_fit NoMarks levels made (f ∷ fs) has = absurd has
   marks_fit (AMark unit m others) levels [] facts has = absurd has
@@ -259,7 +267,8 @@ module _ (stores : List StoreOf) (sources : List Named) where
   marks_fit (AGroup o inside others) levels [] facts has = absurd has
   marks_fit (AGroup o inside others) levels (found ∷ made) [] has = absurd has
   marks_fit (AGroup o inside others) levels (found ∷ made) (f ∷ fs) has = (
-    copies_fit o inside levels (λ levels made facts has. marks_fit inside levels made facts has) (out-CopiesMade found).copies (out-MarkFacts f).copies has.0.copies,
+    copies_fit o inside levels (λ levels made facts has. marks_fit inside levels made facts has)
+        (out-CopiesMade found).copies (out-MarkFacts f).copies has.0.copies,
     marks_fit others levels made fs has.1,
   )
 
@@ -326,10 +335,12 @@ module _ (names : NamesAt) where
 
 module _ (stores : List StoreOf) (sources : List Named) (levels : List Level) where
   pub group_has : (m : VgMark) (found : CopiesMade) (f : MarkFacts) → is_group (out-VgMark m) ≡ true
-      → AreGroupFacts stores sources (group_object 0 (out-VgMark m)) (HasFacts stores sources (inside_of_group m)) levels found f → OneHasFacts stores sources levels m found f
+      → AreGroupFacts stores sources (group_object 0 (out-VgMark m)) (HasFacts stores sources (inside_of_group m)) levels found f
+      → OneHasFacts stores sources levels m found f
   group_has m found f e are = subst (λ row. HasFacts stores sources row levels (found ∷ []) (f ∷ [])) (sym (group_first m (marks_of []) e)) (are, tt)
 
-  pub plain_has : (m : VgMark) (found : CopiesMade) (f : MarkFacts) → is_group (out-VgMark m) ≡ false → IsNoFacts f → OneHasFacts stores sources levels m found f
+  pub plain_has : (m : VgMark) (found : CopiesMade) (f : MarkFacts)
+      → is_group (out-VgMark m) ≡ false → IsNoFacts f → OneHasFacts stores sources levels m found f
   plain_has m found f e none = subst (λ row. HasFacts stores sources row levels (found ∷ []) (f ∷ [])) (sym (plain_first m (marks_of []) e)) (none, tt)
 
   -- the facts of a group from its parts
@@ -340,12 +351,14 @@ module _ (stores : List StoreOf) (sources : List Named) (levels : List Level) wh
       group_has m found f e
       (record {
         copies =
-            subst (λ (p : MarkFacts-F CopyFacts MarkFacts). AllZip (CopyHasFacts stores sources levels (out-VgMark m)) (out-CopiesMade found).copies p.copies) (sym are) copies;
+            subst (λ (p : MarkFacts-F CopyFacts MarkFacts).
+            AllZip (CopyHasFacts stores sources levels (out-VgMark m)) (out-CopiesMade found).copies p.copies) (sym are) copies;
         across = ap (λ (p : MarkFacts-F CopyFacts MarkFacts). p.across) are ∙ across;
       })
 
   has_more : (m : VgMark) (ms : List VgMark) (found : CopiesMade) (more : List CopiesMade) (f : MarkFacts) (fs : List MarkFacts)
-      → OneHasFacts stores sources levels m found f → HasFacts stores sources (marks_of ms) levels more fs → HasFacts stores sources (marks_of (m ∷ ms)) levels (found ∷ more) (f ∷ fs)
+      → OneHasFacts stores sources levels m found f → HasFacts stores sources (marks_of ms) levels more fs
+      → HasFacts stores sources (marks_of (m ∷ ms)) levels (found ∷ more) (f ∷ fs)
   has_more m ms found more f fs one rest = by_type (is_group (out-VgMark m)) refl
     where
       by_type : (b : Bool) → is_group (out-VgMark m) ≡ b → HasFacts stores sources (marks_of (m ∷ ms)) levels (found ∷ more) (f ∷ fs)
@@ -357,7 +370,8 @@ module _ (stores : List StoreOf) (sources : List Named) (levels : List Level) wh
           ((subst (λ row. HasFacts stores sources row levels (found ∷ []) (f ∷ [])) (plain_first m (marks_of []) e) one).0, rest)
 
 -- what is left of some marks, with the facts of those before them
-pub record FactsLeft (names : NamesAt) (all : List VgMark) (every : List CopiesMade) (marks : List VgMark) (made : List CopiesMade) (out : List MarkFacts) : Type 0 where
+pub record FactsLeft (names : NamesAt) (all : List VgMark) (every : List CopiesMade)
+    (marks : List VgMark) (made : List CopiesMade) (out : List MarkFacts) : Type 0 where
   pub stand : HaveCopies names.stores.now names.sources.now names.levels.now marks made
   pub facts : (rest : List MarkFacts) → HasFacts names.stores.now names.sources.now (marks_of marks) (levels_behind names.levels.now) made rest
       → HasFacts names.stores.now names.sources.now (marks_of all) (levels_behind names.levels.now) every (out ++ rest)
@@ -371,7 +385,8 @@ module _ (names : NamesAt) (all : List VgMark) (every : List CopiesMade) where
   abbrev one_made : VgMark → CopiesMade → Type 0
   one_made = OneMade names.stores.now names.sources.now (levels_behind names.levels.now)
 
-  pub none_begun : (out : List MarkFacts) → out ≡ [] → HaveCopies names.stores.now names.sources.now names.levels.now all every → FactsLeft names all every all every out
+  pub none_begun : (out : List MarkFacts) → out ≡ []
+      → HaveCopies names.stores.now names.sources.now names.levels.now all every → FactsLeft names all every all every out
   none_begun out none have = record {
     stand = have;
     facts = λ rest has.
@@ -445,7 +460,8 @@ one_copy_stops names m found e one copies are index copy within is error told =
     let seen : own_copies names m [] ≡ all_found (map each copies) =
     ap (λ l. all_found (map (copy_found_in (map dataset_of names.sources.now) (out-VgMark m) (names_at names.stores.now names.sources.now names.levels.now)) l))
     (sym (copies_are names.stores.now names.sources.now names.levels.now m found e one 0) ∙ ap (map made_seen) (sym are))
-    ∙ ap all_found (map_twice (copy_found_in (map dataset_of names.sources.now) (out-VgMark m) (names_at names.stores.now names.sources.now names.levels.now)) made_seen copies) in
+    ∙ ap all_found (map_twice (copy_found_in (map dataset_of names.sources.now) (out-VgMark m)
+    (names_at names.stores.now names.sources.now names.levels.now)) made_seen copies) in
     hands_on error (all_found (map each copies)) (found_at names (m ∷ [])) (λ none. copies_stop names m e (seen ∙ none))
     (stops_all each copies index copy within is error told)
 
@@ -465,18 +481,21 @@ as_group_object stores sources m levels signals cells made c is = record {
 
 -- ---- a copy of a group
 
-module _ (stores : List StoreOf) (sources : List Named) (outer : List (Bor Level)) (m : VgMark) (copy : CopyMade) (is : IsCopyMade stores sources (levels_behind outer) (out-VgMark m) copy)
+module _ (stores : List StoreOf) (sources : List Named) (outer : List (Bor Level)) (m : VgMark) (copy : CopyMade)
+    (is : IsCopyMade stores sources (levels_behind outer) (out-VgMark m) copy)
     (levels : List (Bor Level)) (more : levels_behind levels ≡ (out-CopyMade copy).level ∷ levels_behind outer) where
   pub entered_is : copy_found_in (map dataset_of sources) (out-VgMark m) (names_at stores sources outer) (made_seen copy)
       ≡ copy_found_at (map dataset_of sources) (out-CopyMade copy).cells (group_object 0 (out-VgMark m)) (inside_of_group m) (names_at stores sources levels)
   entered_is =
-      ap (λ (names : Option Names). names >>= copy_found_at (map dataset_of sources) (out-CopyMade copy).cells (group_object 0 (out-VgMark m)) (inside_of_group m))
+      ap (λ (names : Option Names).
+      names >>= copy_found_at (map dataset_of sources) (out-CopyMade copy).cells (group_object 0 (out-VgMark m)) (inside_of_group m))
       (names_in_made stores sources outer m copy is 0)
       ∙ ap (copy_found_at (map dataset_of sources) (out-CopyMade copy).cells (group_object 0 (out-VgMark m)) (inside_of_group m))
       (names_entered_are stores sources outer m copy is levels more)
 
   pub entered_has : (result : Result CopyFacts EvalError)
-      → IfOk result (IsFactsOf stores sources (object_here (out-Group (out-VgMark m).group)) (HasFacts stores sources (inside_of_group m)) (levels_behind levels)
+      → IfOk result
+      (IsFactsOf stores sources (object_here (out-Group (out-VgMark m).group)) (HasFacts stores sources (inside_of_group m)) (levels_behind levels)
       (out-CopyMade copy).level.signals (out-CopyMade copy).cells (out-CopyMade copy).inside)
       → IfOk result (CopyHasFacts stores sources (levels_behind outer) (out-VgMark m) copy)
   entered_has (Ok c) facts =
@@ -537,9 +556,11 @@ module _ (stores : List StoreOf) (sources : List Named) (o : Object) (levels : L
     pub answer_stops : Stops {X = List MarkFacts} {Y = Found} found (found_in (map dataset_of sources) (marks_of handed) (names_at stores sources levels))
         → Stops {X = CopyFacts} {Y = CopyFound} result (copy_found_at (map dataset_of sources) cells o (marks_of marks) (names_at stores sources levels))
     answer_stops stops =
-        subst (λ r. Stops {X = CopyFacts} {Y = CopyFound} r (copy_found_at (map dataset_of sources) cells o (marks_of marks) (names_at stores sources levels))) (sym is)
+        subst (λ r. Stops {X = CopyFacts} {Y = CopyFound} r
+        (copy_found_at (map dataset_of sources) cells o (marks_of marks) (names_at stores sources levels))) (sym is)
         (over_stops (marks_of marks)
-        (subst (λ ms. Stops {X = List MarkFacts} {Y = Found} found (found_in (map dataset_of sources) (marks_of ms) (names_at stores sources levels))) same stops))
+        (subst (λ ms. Stops {X = List MarkFacts} {Y = Found} found (found_in (map dataset_of sources) (marks_of ms) (names_at stores sources levels)))
+        same stops))
 
     pub answer_has : (signals held : Settled) → held ≡ signals → (made given : List CopiesMade) → given ≡ made
         → IsOwn o (names_at stores sources levels) held cells own → IfOk found (HasFacts stores sources (marks_of handed) (levels_behind levels) given)
@@ -554,7 +575,8 @@ module _ (stores : List StoreOf) (sources : List Named) (o : Object) (levels : L
 
 module _ (names : NamesAt) (level : Level) (o : Object) (marks : List VgMark) (made : List CopiesMade)
     (levels : levels_behind names.levels.now ≡ level ∷ []) (have : HaveCopies names.stores.now names.sources.now names.levels.now marks made) (c : CopyFacts)
-    (is : IsFactsOf names.stores.now names.sources.now o (HasFacts names.stores.now names.sources.now (marks_of marks)) (levels_behind names.levels.now) level.signals None made c) where
+    (is : IsFactsOf names.stores.now names.sources.now o (HasFacts names.stores.now names.sources.now (marks_of marks))
+    (levels_behind names.levels.now) level.signals None made c) where
   pub top_is : copy_found_at (map dataset_of names.sources.now) None o (marks_of marks) (names_at names.stores.now names.sources.now names.levels.now)
       ≡ Some (copy_seen (lists_on names.sources.now (top_made level made)) c [] (values_of_stores names.stores.now))
   top_is =
@@ -565,7 +587,8 @@ module _ (names : NamesAt) (level : Level) (o : Object) (marks : List VgMark) (m
       subst (λ l. IsFactsOf stores sources o (HasFacts stores sources (marks_of marks)) l level.signals None made c) levels is in
       let each : AreMade stores sources (marks_of marks) (level ∷ []) made =
       subst (λ l. AreMade stores sources (marks_of marks) l made) levels (all_made stores sources (levels_behind names.levels.now) marks made have.made) in
-      ap (copy_found_at (map dataset_of sources) None o (marks_of marks)) (names_are_under stores sources names.levels.now ∙ ap (names_under stores sources) levels)
+      ap (copy_found_at (map dataset_of sources) None o (marks_of marks))
+      (names_are_under stores sources names.levels.now ∙ ap (names_under stores sources) levels)
       ∙ object_is stores sources top o (marks_of marks) level [] None made c [] refl here
       (marks_found stores sources top (marks_of marks) [] (level ∷ []) made (out-CopyFacts c).inside refl each here.inside)
 
@@ -580,9 +603,11 @@ module _ (names : NamesAt) (level : Level) (o : Object) (marks : List VgMark) (m
     (levels : levels_behind names.levels.now ≡ level ∷ []) (have : HaveCopies names.stores.now names.sources.now names.levels.now marks made)
     (result : Result CopyFacts EvalError) where
   abbrev HasThem : CopyFacts → Type 0
-  HasThem = IsFactsOf names.stores.now names.sources.now o (HasFacts names.stores.now names.sources.now (marks_of marks)) (levels_behind names.levels.now) level.signals None made
+  HasThem = IsFactsOf names.stores.now names.sources.now o (HasFacts names.stores.now names.sources.now (marks_of marks))
+      (levels_behind names.levels.now) level.signals None made
 
-  pub answered_facts : Stops result (facts_of (map dataset_of names.sources.now) o (marks_of marks) (names_at names.stores.now names.sources.now names.levels.now))
+  pub answered_facts : Stops result
+      (facts_of (map dataset_of names.sources.now) o (marks_of marks) (names_at names.stores.now names.sources.now names.levels.now))
       → IfOk result HasThem
       → Evaluates (result_map (λ facts. copy_seen (lists_on names.sources.now (top_made level made)) facts [] (values_of_stores names.stores.now)) result)
       (facts_of (map dataset_of names.sources.now) o (marks_of marks) (names_at names.stores.now names.sources.now names.levels.now))

@@ -10,7 +10,8 @@ use Rattle.fixed_num.specs.Ranges.{◌>>=◌}
 use Rattle.vega_spec.specs.declared.data.DataSet.{DataSet}
 use Rattle.vega_spec.specs.declared.transforms.Transform.{Transform}
 use Rattle.vega_lists.specs.Transforms.{transforms_of}
-use Rattle.vega_lists.specs.Products.{Products, no_folds, fold_length, fold_product, fold_products, most_folded, ProductsFit, FoldsFit, with_product, begun_product, and_its_product, products_after}
+use Rattle.vega_lists.specs.Products.{Products, no_folds, fold_length, fold_product, fold_products, most_folded, ProductsFit, FoldsFit}
+use Rattle.vega_lists.specs.Products.{with_product, begun_product, and_its_product, products_after}
 use Rattle.vega_copies.specs.Outlines.{Marks, NoMarks, AMark, AGroup}
 use Rattle.vega_copies.specs.Fitting.{fitted, products_fitted, products_in_copy, folds_fit_in, folds_fit}
 use Rattle.vega_copies.specs.inner.Kept.{FoldsFitIn}

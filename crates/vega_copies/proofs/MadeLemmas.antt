@@ -1,5 +1,6 @@
 -- Trees of copies: marks one after the other, and the copies of a group.
-use Rattle.std.proofs.Common.{◌≡◌, ℕ, ◌+◌, ◌<◌, Bool, true, false, Some, List, [], ◌∷◌, ◌++◌, map, length, drop, take, get_or, Bor, refl, sym, ap, ◌∙◌, subst, append-nil, append_assoc, add-one, Global}
+use Rattle.std.proofs.Common.{◌≡◌, ℕ, ◌+◌, ◌<◌, Bool, true, false, Some, List, [], ◌∷◌, ◌++◌, map, length, drop, take, get_or, Bor, refl}
+use Rattle.std.proofs.Common.{sym, ap, ◌∙◌, subst, append-nil, append_assoc, add-one, Global}
 use Rattle.std.specs.List.{All, AllZip}
 use Rattle.std.proofs.lemmas.List.{drop_more, map-append, nil_from_length}
 use Rattle.std.specs.declared.vec.IntoIter.{IntoIter}
@@ -32,7 +33,8 @@ use Rattle.vega_copies.proofs.StandLemmas.{rows_are_under, values_are_under, nam
 
 -- ---- names under levels
 
-pub names_are_under : (stores : List StoreOf) (sources : List Named) (levels : List (Bor Level)) → names_at stores sources levels ≡ names_under stores sources (levels_behind levels)
+pub names_are_under : (stores : List StoreOf) (sources : List Named) (levels : List (Bor Level))
+    → names_at stores sources levels ≡ names_under stores sources (levels_behind levels)
 names_are_under stores sources levels = λ i. record {
   lists = scope_read (rows_are_under sources levels i);
   values = values_are_under stores levels i;
@@ -58,7 +60,8 @@ inside_of_mark m = marks_of (marks_in (out-Group (out-VgMark m).group))
 module _ (stores : List StoreOf) (sources : List Named) (levels : List Level) where
   abbrev group_and_more : VgMark → Marks → CopiesMade → List CopiesMade → Type 0
   group_and_more m others found more =
-      IsGroupMade stores sources (group_object 0 (out-VgMark m)) (inside_of_mark m) (AreMade stores sources (inside_of_mark m)) levels found × AreMade stores sources others levels more
+      IsGroupMade stores sources (group_object 0 (out-VgMark m)) (inside_of_mark m) (AreMade stores sources (inside_of_mark m)) levels found
+      × AreMade stores sources others levels more
 
   group_opened : (m : VgMark) (ms : List VgMark) (found : CopiesMade) (more : List CopiesMade) → is_group (out-VgMark m) ≡ true
       → AreMade stores sources (marks_of (m ∷ ms)) levels (found ∷ more) → group_and_more m (marks_of ms) found more
@@ -116,13 +119,15 @@ module _ (stores : List StoreOf) (sources : List Named) (levels : List Level) wh
       by_type true e = subst (λ row. AreMade stores sources row levels []) (group_first m (marks_of ms) e) made
       by_type false e = subst (λ row. AreMade stores sources row levels []) (plain_first m (marks_of ms) e) made
 
-  pub all_made : (marks : List VgMark) (found : List CopiesMade) → AllZip (OneMade stores sources levels) marks found → AreMade stores sources (marks_of marks) levels found
+  pub all_made : (marks : List VgMark) (found : List CopiesMade)
+      → AllZip (OneMade stores sources levels) marks found → AreMade stores sources (marks_of marks) levels found
   all_made [] [] each = tt
   all_made [] (f ∷ fs) each = absurd each
   all_made (m ∷ ms) [] each = absurd each
   all_made (m ∷ ms) (f ∷ fs) each = joined m ms f fs each.0 (all_made ms fs each.1)
 
-  pub each_made : (marks : List VgMark) (found : List CopiesMade) → AreMade stores sources (marks_of marks) levels found → AllZip (OneMade stores sources levels) marks found
+  pub each_made : (marks : List VgMark) (found : List CopiesMade)
+      → AreMade stores sources (marks_of marks) levels found → AllZip (OneMade stores sources levels) marks found
   each_made [] [] made = tt
   each_made [] (f ∷ fs) made = absurd made
   each_made (m ∷ ms) [] made = absurd (not_none m ms made)
@@ -184,7 +189,8 @@ group_made names m found parts are e copies across sound =
           ap (λ (p : CopiesMade-F CopiesMade CopyMade). p.across) are ∙ across
           ∙ ap (λ (rows : RowsByName). columns_across (scope_read rows) (group_object 0 (out-VgMark m))) (rows_are_under names.sources.now names.levels.now);
       sound =
-          subst (λ (p : CopiesMade-F CopiesMade CopyMade). All (IsCopyMade names.stores.now names.sources.now (levels_behind names.levels.now) (out-VgMark m)) p.copies)
+          subst (λ (p : CopiesMade-F CopiesMade CopyMade).
+          All (IsCopyMade names.stores.now names.sources.now (levels_behind names.levels.now) (out-VgMark m)) p.copies)
           (sym are) sound;
     })
 
@@ -218,7 +224,8 @@ module _ (outer : NamesAt) (m : VgMark) (copy : CopyOf) where
       → IsCopyMade outer.stores.now outer.sources.now round (out-VgMark m) made
   copy_made made parts are found seen rows stand each = record {
     names =
-        names_made made parts.level found (ap (λ (p : CopyMade-F CopiesMade CopyMade). record { cells = p.cells; parts = map dataset_of p.level.parts }) are ∙ seen)
+        names_made made parts.level found
+        (ap (λ (p : CopyMade-F CopiesMade CopyMade). record { cells = p.cells; parts = map dataset_of p.level.parts }) are ∙ seen)
         ∙ ap (λ (p : CopyMade-F CopiesMade CopyMade). Some (names_under outer.stores.now outer.sources.now (p.level ∷ round))) (sym are);
     rows =
         subst (λ (p : CopyMade-F CopiesMade CopyMade). AreAllRows (rows_under outer.sources.now (p.level ∷ round))) (sym are)
@@ -235,18 +242,21 @@ module _ (outer : NamesAt) (m : VgMark) (copy : CopyOf) where
 
 -- marks in a copy may stand where its level is the innermost
 pub stand_with : (outer : NamesAt) (level : Level) (levels : List (Bor Level)) (marks : List VgMark)
-    → levels_behind levels ≡ level ∷ levels_behind outer.levels.now → MayStand (rows_with_level outer level) marks → MayStand (rows_at outer.sources.now levels) marks
+    → levels_behind levels ≡ level ∷ levels_behind outer.levels.now
+    → MayStand (rows_with_level outer level) marks → MayStand (rows_at outer.sources.now levels) marks
 stand_with outer level levels marks more stand = subst (λ rows. MayStand rows marks) (sym (rows_entered outer level levels more)) stand
 
 -- ---- copies that are entered
 
-module _ (stores : List StoreOf) (sources : List Named) (outer : List (Bor Level)) (m : VgMark) (made : CopyMade) (is : IsCopyMade stores sources (levels_behind outer) (out-VgMark m) made) where
+module _ (stores : List StoreOf) (sources : List Named) (outer : List (Bor Level)) (m : VgMark) (made : CopyMade)
+    (is : IsCopyMade stores sources (levels_behind outer) (out-VgMark m) made) where
   -- what names stand for in a copy that was made
   pub names_in_made : (number : ℕ)
       → names_in_copy (map dataset_of sources) (names_at stores sources outer) (group_object number (out-VgMark m)) (made_seen made)
       ≡ Some (names_under stores sources ((out-CopyMade made).level ∷ levels_behind outer))
   names_in_made number =
-      ap (λ (names : Names). names_in_copy (map dataset_of sources) names (group_object number (out-VgMark m)) (made_seen made)) (names_are_under stores sources outer)
+      ap (λ (names : Names). names_in_copy (map dataset_of sources) names (group_object number (out-VgMark m)) (made_seen made))
+      (names_are_under stores sources outer)
       ∙ is.names
 
   module _ (levels : List (Bor Level)) (more : levels_behind levels ≡ (out-CopyMade made).level ∷ levels_behind outer) where
@@ -261,7 +271,8 @@ module _ (stores : List StoreOf) (sources : List Named) (outer : List (Bor Level
     levels_in_made are = record { sources_are = are.sources_are; rows = subst AreAllRows rows_entered_are is.rows }
 
     -- the marks in it have their copies there
-    pub copies_in_made : (found : List CopiesMade) → found ≡ (out-CopyMade made).inside → is_group (out-VgMark m) ≡ true → MayStand (rows_at sources outer) (m ∷ [])
+    pub copies_in_made : (found : List CopiesMade) → found ≡ (out-CopyMade made).inside
+        → is_group (out-VgMark m) ≡ true → MayStand (rows_at sources outer) (m ∷ [])
         → HaveCopies stores sources levels (marks_in (out-Group (out-VgMark m).group)) found
     copies_in_made found there e stand = record {
       stand = record {
@@ -277,7 +288,8 @@ module _ (stores : List StoreOf) (sources : List Named) (outer : List (Bor Level
 -- the copies of a group where these are the levels
 module _ (stores : List StoreOf) (sources : List Named) (levels : List (Bor Level)) (m : VgMark) (found : CopiesMade) (e : is_group (out-VgMark m) ≡ true)
     (one : OneMade stores sources (levels_behind levels) m found) where
-  pub copies_are : (number : ℕ) → map made_seen (out-CopiesMade found).copies ≡ copies_of (names_at stores sources levels).lists (group_object number (out-VgMark m))
+  pub copies_are : (number : ℕ)
+      → map made_seen (out-CopiesMade found).copies ≡ copies_of (names_at stores sources levels).lists (group_object number (out-VgMark m))
   copies_are number =
       (copies_made stores sources (levels_behind levels) m found e one).copies
       ∙ ap (λ (names : Names). copies_of names.lists (group_object number (out-VgMark m))) (sym (names_are_under stores sources levels))

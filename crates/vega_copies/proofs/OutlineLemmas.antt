@@ -6,8 +6,8 @@ use Rattle.vega_spec.specs.declared.marks.MarkType.TheVariants as mark
 use Rattle.vega_spec.specs.declared.spec.Group.{Group, out-Group, map-Group, fold_out-Group}
 use Rattle.vega_spec.specs.declared.spec.Group.TheShapes.{former-Group-marks}
 use Rattle.vega_spec.specs.declared.spec.VgMark.{VgMark, VgMark-F, out-VgMark, map-VgMark, fold_out-VgMark}
-use Rattle.vega_copies.specs.Outlines.{Opened, Before, Marks, NoMarks, AMark, AGroup, object_here, group_here, mark_here, mark_of_type, opened, in_a_row, facet_in}
-use Rattle.vega_copies.specs.Outlines.{PlainMark, numbered, count_marks, count_groups, first_unit}
+use Rattle.vega_copies.specs.Outlines.{Opened, Before, Marks, NoMarks, AMark, AGroup, object_here, group_here, mark_here, mark_of_type}
+use Rattle.vega_copies.specs.Outlines.{opened, in_a_row, facet_in, PlainMark, numbered, count_marks, count_groups, first_unit}
 use Rattle.vega_spec.specs.declared.marks.MarkType.{MarkType}
 use Rattle.std.specs.Option.{option_or}
 use Rattle.vega_copies.specs.inner.Outlined.{marks_in, is_group, is_group_type, before_of, marks_of, marks_from, plain_of, group_object}
@@ -66,7 +66,8 @@ pub group_first : (m : VgMark) (others : Marks) → is_group (out-VgMark m) ≡ 
 group_first m others e =
     mark_before m others
     ∙ group_type (out-VgMark m).type_ (map-VgMark Group VgMark Opened Before opened before_of (out-VgMark m)) others e
-    ∙ (λ i. AGroup (record (opened_object (out-VgMark m).group i) { facet = facet_in (out-VgMark m).from; sort = (out-VgMark m).sort; encode = (out-VgMark m).encode })
+    ∙ (λ i. AGroup (record (opened_object (out-VgMark m).group i)
+    { facet = facet_in (out-VgMark m).from; sort = (out-VgMark m).sort; encode = (out-VgMark m).encode })
     (opened_marks (out-VgMark m).group i) others)
 
 -- the same with numbers
@@ -112,14 +113,16 @@ pub counted_first : (m : VgMark) (ms : List VgMark) → count_marks (marks_of (m
 counted_first m ms = by_type (is_group (out-VgMark m)) refl
   where
     by_type : (b : Bool) → is_group (out-VgMark m) ≡ b → count_marks (marks_of (m ∷ ms)) ≡ count_marks (marks_of (m ∷ [])) + count_marks (marks_of ms)
-    by_type true e = regroup (count_marks (marks_of (marks_in (out-Group (out-VgMark m).group)))) (count_marks (marks_of ms)) (group_counted m ms e) (group_counted m [] e)
+    by_type true e = regroup (count_marks (marks_of (marks_in (out-Group (out-VgMark m).group))))
+        (count_marks (marks_of ms)) (group_counted m ms e) (group_counted m [] e)
     by_type false e = regroup_one (plain_counted m ms e) (plain_counted m [] e)
 
 pub grouped_first : (m : VgMark) (ms : List VgMark) → count_groups (marks_of (m ∷ ms)) ≡ count_groups (marks_of (m ∷ [])) + count_groups (marks_of ms)
 grouped_first m ms = by_type (is_group (out-VgMark m)) refl
   where
     by_type : (b : Bool) → is_group (out-VgMark m) ≡ b → count_groups (marks_of (m ∷ ms)) ≡ count_groups (marks_of (m ∷ [])) + count_groups (marks_of ms)
-    by_type true e = regroup_group (count_groups (marks_of (marks_in (out-Group (out-VgMark m).group)))) (count_groups (marks_of ms)) (group_grouped m ms e) (group_grouped m [] e)
+    by_type true e = regroup_group (count_groups (marks_of (marks_in (out-Group (out-VgMark m).group))))
+        (count_groups (marks_of ms)) (group_grouped m ms e) (group_grouped m [] e)
     by_type false e = regroup_none (plain_grouped m ms e) (plain_grouped m [] e)
 
 -- a group alone, by the marks in it

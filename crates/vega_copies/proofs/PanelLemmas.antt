@@ -1,6 +1,7 @@
 -- Plots in facets, from the copies that have rows and the number of the others.
-use Rattle.std.proofs.Common.{◌≡◌, ℕ, zero, suc, ◌+◌, ◌*◌, ◌<◌, ◌≤◌, ◌||◌, min, Bool, true, false, cond, Option, Some, None, List, [], ◌∷◌, ◌++◌, map, flat_map, zip}
-use Rattle.std.proofs.Common.{length, replicate, is_some, eqb, Result, Err, refl, sym, ap, ap₂, ◌∙◌, subst, arith, mul_comm, mul-one, suc-mul, zero-mul}
+use Rattle.std.proofs.Common.{◌≡◌, ℕ, zero, suc, ◌+◌, ◌*◌, ◌<◌, ◌≤◌, ◌||◌, min, Bool, true, false, cond, Option, Some, None, List, [], ◌∷◌}
+use Rattle.std.proofs.Common.{◌++◌, map, flat_map, zip, length, replicate, is_some, eqb, Result, Err, refl, sym, ap, ap₂, ◌∙◌, subst, arith}
+use Rattle.std.proofs.Common.{mul_comm, mul-one, suc-mul, zero-mul}
 use Rattle.std.specs.List.{sum}
 use Rattle.std.specs.Option.{option_map, option_map_or}
 use Rattle.std.proofs.lemmas.Bool.{eqb-true, false_from_ne_true}
@@ -60,7 +61,8 @@ module _ (scope : Scope) (count : Copy → Option ℕ) (by_parts : (a b : Copy) 
       ap₂ (λ (rows : List Datum) (parts : List Dataset). record { name = n; rows = rows } ∷ parts) both.0 (parts_none f key ns ls both.1)
 
   summed_by : (sort : Option Sort) (f : Facet)
-      → total (map count (copies_by scope sort f)) ≡ total (map count (with_rows_by scope sort f) ++ replicate (without_rows_by scope sort f) (count (bare_by f)))
+      → total (map count (copies_by scope sort f))
+      ≡ total (map count (with_rows_by scope sort f) ++ replicate (without_rows_by scope sort f) (count (bare_by f)))
   summed_by sort f =
       ap total (sym (seen_twice count (copy_with scope f) (cells_of_copies (divided_by sort f) (rows_divided scope f))))
       ∙ copies_are_summed (divided_by sort f) (rows_divided scope f) (λ key. count (copy_with scope f key)) (count (bare_by f))
@@ -184,7 +186,8 @@ bare_added found bare n copies plots e is =
         positive most n h = grind (arith, h)
 
     with_each : (n : ℕ) (b : Option ℕ) (o : Option ℕ) → (s : ℕ) × (o ≡ Some s) × (plots ≡ min s most_counted)
-        → option_map (λ k. min (plots + min (min (suc n) most_counted * k) most_counted) most_counted) (counted b) ≡ counted (plus o (total (replicate (suc n) b)))
+        → option_map (λ k. min (plots + min (min (suc n) most_counted * k) most_counted) most_counted) (counted b)
+        ≡ counted (plus o (total (replicate (suc n) b)))
     with_each n None o (s, at, capped) = sym (ap counted (with_none n o))
     with_each n (Some q) o (s, at, capped) =
         ap (λ p. Some (min (p + min (min (suc n) most_counted * min q most_counted) most_counted) most_counted)) capped
@@ -202,13 +205,15 @@ bare_added found bare n copies plots e is =
         none : (most : ℕ) → min 0 most ≡ 0
         none most = grind arith
     by_number (suc n) =
-        ap (λ b. cond b (Some plots) (option_map (λ k. min (plots + min (min (suc n) most_counted * k) most_counted) most_counted) (counted bare))) (some_left n)
+        ap (λ b. cond b (Some plots) (option_map (λ k. min (plots + min (min (suc n) most_counted * k) most_counted) most_counted) (counted bare)))
+        (some_left n)
         ∙ with_each n bare (total found) (plots_of (total found) e)
 
 -- ---- the plots of a group
 
 module _ {X : Type 0} (b : Bool) (f : X → Option ℕ) where
-  sums : (xs : List X) → (all_found (map f xs) >>= λ ns. Some (cond b (length ns) 0 + sum ns + 0)) ≡ total (map (λ x. option_map (λ n. cond b 1 0 + n) (f x)) xs)
+  sums : (xs : List X) → (all_found (map f xs) >>= λ ns. Some (cond b (length ns) 0 + sum ns + 0))
+      ≡ total (map (λ x. option_map (λ n. cond b 1 0 + n) (f x)) xs)
   sums [] = none b
     where
       none : (b : Bool) → Some (cond b 0 0 + 0 + 0) ≡ Some 0
@@ -249,7 +254,8 @@ module _ (sources : List Dataset) (m : VgMark) (in_facet in_grid : Bool) (names 
       group_total ∙ ap (λ copies. total (map (count deeper) copies)) (sym are)
       ∙ ap total (map-append (count deeper) before (copy ∷ behind))
       ∙ total-append (map (count deeper) before) (map (count deeper) (copy ∷ behind))
-      ∙ ap (plus (total (map (count deeper) before))) (total-cons (count deeper copy) (map (count deeper) behind) ∙ ap (λ o. plus o (total (map (count deeper) behind))) stops)
+      ∙ ap (plus (total (map (count deeper) before)))
+      (total-cons (count deeper copy) (map (count deeper) behind) ∙ ap (λ o. plus o (total (map (count deeper) behind))) stops)
       ∙ nothing_behind (total (map (count deeper) before))
     where
       nothing_behind : (o : Option ℕ) → plus o None ≡ None
@@ -271,7 +277,8 @@ module _ (sources : List Dataset) (m : VgMark) (deeper in_grid : Bool) (names : 
   by_parts : (a b : Copy) → a.parts ≡ b.parts → here a ≡ here b
   by_parts a b same =
       ap (λ (parts : List Dataset). option_map (λ n. cond (is_panel deeper in_grid (out-VgMark m)) 1 0 + n)
-      (names_in_object sources (record names { lists = with_parts parts names.lists }) (group_object 0 (out-VgMark m)) >>= plots_inside sources deeper (out-VgMark m))) same
+      (names_in_object sources (record names { lists = with_parts parts names.lists })
+      (group_object 0 (out-VgMark m)) >>= plots_inside sources deeper (out-VgMark m))) same
 
   abbrev all_here : List (Option ℕ)
   all_here = plots_of_all sources deeper in_grid (out-VgMark m) names (copies_of names.lists (group_object 0 (out-VgMark m)))
@@ -307,7 +314,8 @@ module _ (sources : List Dataset) (m : VgMark) (deeper in_grid : Bool) (names : 
         ≡ counted (total (plots_of_all sources deeper in_grid (out-VgMark m) names (copies_of names.lists (group_object 0 (out-VgMark m)))))
     each_plots without_rows plots many are_plots = bare_added found bare_here bare_many without_rows plots are_plots many ∙ ap counted (sym parted)
 
-    pub each_stops : (error : EvalError) → Evaluates {X = ℕ} (Err error) (counted (total (plots_of_all sources deeper in_grid (out-VgMark m) names (map copy_seen with_rows))))
+    pub each_stops : (error : EvalError)
+        → Evaluates {X = ℕ} (Err error) (counted (total (plots_of_all sources deeper in_grid (out-VgMark m) names (map copy_seen with_rows))))
         → Evaluates {X = ℕ} (Err error)
         (counted (total (plots_of_all sources deeper in_grid (out-VgMark m) names (copies_of names.lists (group_object 0 (out-VgMark m))))))
     each_stops Memory stops = tt
@@ -337,7 +345,8 @@ module _ (d : DividedBy) (rows : List Datum) where
       same e = cc
 
   -- those with rows and those without
-  pub all_cells : (with_rows : List (List Cell)) (without count n : ℕ) → with_rows ≡ cells_with_rows d rows → without ≡ min (count_without_rows d rows) most_counted
+  pub all_cells : (with_rows : List (List Cell)) (without count n : ℕ)
+      → with_rows ≡ cells_with_rows d rows → without ≡ min (count_without_rows d rows) most_counted
       → n ≡ length with_rows → count ≡ min (n + without) most_counted → count ≡ min (length (cells_of_copies d rows)) most_counted
   all_cells with_rows without count n are others long is =
       is ∙ ap₂ (λ a b. min (a + b) most_counted) (long ∙ ap length are) others
@@ -347,5 +356,6 @@ module _ (d : DividedBy) (rows : List Datum) where
       capped_sum : (most a b : ℕ) → min (a + min b most) most ≡ min (a + b) most
       capped_sum most a b = grind arith
 
-pub copies_long : (scope : Scope) (sort : Option Sort) (f : Facet) → length (copies_by scope sort f) ≡ length (cells_of_copies (divided_by sort f) (rows_divided scope f))
+pub copies_long : (scope : Scope) (sort : Option Sort) (f : Facet)
+    → length (copies_by scope sort f) ≡ length (cells_of_copies (divided_by sort f) (rows_divided scope f))
 copies_long scope sort f = length-map (cells_of_copies (divided_by sort f) (rows_divided scope f)) (copy_with scope f)

@@ -1,6 +1,7 @@
 -- What keeps what the crates below ask for keeps the rules.
-use Rattle.std.proofs.Common.{◌≡◌, ℕ, ◌+◌, ◌*◌, ◌^◌, ◌<◌, ◌≤◌, ◌&&◌, ◌||◌, zero, suc, ℤ, pos, ◌≤ℤ◌, Bool, true, false, cond, not, IsTrue, IfSome, List, [], ◌∷◌, ◌++◌, Option}
-use Rattle.std.proofs.Common.{Some, None, unwrap_or, nat_lt, nat_le, length, get_or, refl, sym, ap, subst, ◌∙◌, arith, append_assoc}
+use Rattle.std.proofs.Common.{◌≡◌, ℕ, ◌+◌, ◌*◌, ◌^◌, ◌<◌, ◌≤◌, ◌&&◌, ◌||◌, zero, suc, ℤ, pos, ◌≤ℤ◌, Bool, true, false, cond, not, IsTrue}
+use Rattle.std.proofs.Common.{IfSome, List, [], ◌∷◌, ◌++◌, Option, Some, None, unwrap_or, nat_lt, nat_le, length, get_or, refl, sym, ap}
+use Rattle.std.proofs.Common.{subst, ◌∙◌, arith, append_assoc}
 use Rattle.std.specs.Prelude.{◌≢◌}
 use Rattle.std.specs.Option.{option_map, option_map_or}
 use Rattle.std.specs.List.{All, AllPairs, list_all, list_any}
@@ -21,7 +22,8 @@ use Rattle.vega_spec.specs.declared.spec.Size.TheVariants as size
 use Rattle.vega_spec.specs.declared.spec.VgSpec.{VgSpec}
 use Rattle.vega_spec.specs.Names.{sources_of}
 use Rattle.vega_lists.specs.Transforms.{transforms_of, is_kept, OfTransforms}
-use Rattle.vega_lists.specs.Products.{Products, no_folds, fold_length, fold_product, fold_products, most_folded, ProductsFit, FoldsFit, with_product, begun_product, and_its_product, products_after}
+use Rattle.vega_lists.specs.Products.{Products, no_folds, fold_length, fold_product, fold_products, most_folded, ProductsFit, FoldsFit}
+use Rattle.vega_lists.specs.Products.{with_product, begun_product, and_its_product, products_after}
 use Rattle.scale_kit.specs.Scale.{IsPadding, IsRange}
 use Rattle.vega_scales.specs.Scales.{given_ends, is_domain_built, is_ordinal, KeepsBounds}
 use Rattle.vega_scales.specs.Scales as scaling

@@ -9,8 +9,8 @@ use Rattle.vega_copies.specs.declared.facts.MarkFacts.{MarkFacts, out-MarkFacts,
 use Rattle.vega_copies.specs.declared.facts.Step.{Step}
 use Rattle.vega_copies.specs.Outlines.{Marks}
 use Rattle.vega_copies.specs.Facts.{FoundOf, CopyFound, copies_in, gathered}
-use Rattle.vega_copies.specs.inner.FactsSeen.{ListsOnPaths, OnPath, AtPlace, path_to, copy_here, mark_here, copy_seen, copies_seen, marks_seen, values_seen, facts_seen}
-use Rattle.vega_copies.specs.inner.FactsSeen.{MarksFit, FactsFit, OneFits}
+use Rattle.vega_copies.specs.inner.FactsSeen.{ListsOnPaths, OnPath, AtPlace, path_to, copy_here, mark_here, copy_seen, copies_seen}
+use Rattle.vega_copies.specs.inner.FactsSeen.{marks_seen, values_seen, facts_seen, MarksFit, FactsFit, OneFits}
 use Rattle.vega_copies.specs.inner.Outlined.{is_group, group_object, marks_in, marks_of}
 use Rattle.vega_copies.proofs.OutlineLemmas.{plain_first, group_first}
 
@@ -31,7 +31,8 @@ module _ (lists : ListsOnPaths) where
   -- a mark and those behind it: its copies
   pub marks_first : (path : List Step) (values : Values) (place : ℕ) (m : MarkFacts) (ms : List MarkFacts)
       → marks_seen lists path values place (m ∷ ms)
-      ≡ FoundOf (gathered (copies_seen lists path values place 0 (out-MarkFacts m).copies)) (out-MarkFacts m).across (marks_seen lists path values (place + 1) ms)
+      ≡ FoundOf (gathered (copies_seen lists path values place 0 (out-MarkFacts m).copies))
+      (out-MarkFacts m).across (marks_seen lists path values (place + 1) ms)
   marks_first path values place m ms =
       ap (λ (seen : AtPlace). seen path values place (marks_seen lists path values (place + 1) ms))
       (fold_out-MarkFacts OnPath AtPlace (copy_here lists) mark_here m)

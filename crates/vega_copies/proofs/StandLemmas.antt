@@ -44,7 +44,8 @@ module _ (P : Marks → Type 0) (m : VgMark) where
       by_type : (b : Bool) → is_group (out-VgMark m) ≡ b → P (marks_of (m ∷ []))
       by_type true e =
           subst P (sym (group_first m NoMarks e))
-          (group (group_object 0 (out-VgMark m)) (marks_of (marks_in (out-Group (out-VgMark m).group))) (marks_of ms) (subst P (group_first m (marks_of ms) e) p))
+          (group (group_object 0 (out-VgMark m)) (marks_of (marks_in (out-Group (out-VgMark m).group)))
+          (marks_of ms) (subst P (group_first m (marks_of ms) e) p))
       by_type false e =
           subst P (sym (plain_first m NoMarks e)) (plain (plain_of (out-VgMark m)) (marks_of ms) (subst P (plain_first m (marks_of ms) e) p))
 
@@ -132,7 +133,8 @@ few_inside unit number m e few = record {
 pub object_kept : (rows : RowsByName) (number : ℕ) (m : VgMark) → is_group (out-VgMark m) ≡ true → MayStand rows (m ∷ [])
     → KeepsObject (group_object number (out-VgMark m))
 object_kept rows number m e stand =
-    let kept = kept_object (group_object 0 (out-VgMark m)) (marks_of (marks_in (out-Group (out-VgMark m).group))) NoMarks (as_group KeepsMarks m e stand.kept) in
+    let kept = kept_object (group_object 0 (out-VgMark m))
+    (marks_of (marks_in (out-Group (out-VgMark m).group))) NoMarks (as_group KeepsMarks m e stand.kept) in
     record { sets = kept.sets; scales = kept.scales; domains = kept.domains; bounds = kept.bounds; axes = kept.axes; columns = kept.columns }
 
 pub object_alone : (number : ℕ) (m : VgMark) → KeepsObject (group_object number (out-VgMark m))
@@ -177,7 +179,8 @@ module _ (outer : NamesAt) (level : Level) (levels : List (Bor Level)) (more : m
 
   values_entered : values_at outer.stores.now levels ≡ values_inside level.signals (values_at outer.stores.now outer.levels.now)
   values_entered =
-      values_are_under outer.stores.now levels ∙ ap (values_under outer.stores.now) more ∙ ap (values_inside level.signals) (sym (values_are_under outer.stores.now outer.levels.now))
+      values_are_under outer.stores.now levels ∙ ap (values_under outer.stores.now) more
+      ∙ ap (values_inside level.signals) (sym (values_are_under outer.stores.now outer.levels.now))
 
   pub names_entered : names_at outer.stores.now outer.sources.now levels ≡ names_with_level outer level
   names_entered = λ i. record { lists = scope_read (rows_entered i); values = values_entered i }
@@ -191,7 +194,8 @@ pub stand_inside : (outer : NamesAt) (level : Level) (m : VgMark) (copy : CopyOf
     → ((products : Products) → AllKeysFit products (parts_over copy.parts (rows_at outer.sources.now outer.levels.now))
     → AllKeysFit (products_after products (data_of (out-Group (out-VgMark m).group))) (rows_with_level outer level))
     → MayStand (rows_with_level outer level) (marks_in (out-Group (out-VgMark m).group))
-stand_inside outer level m copy e stand sound after = record { kept = marks_kept (rows_at outer.sources.now outer.levels.now) m e stand; folds = by_folds stand.folds }
+stand_inside outer level m copy e stand sound after =
+    record { kept = marks_kept (rows_at outer.sources.now outer.levels.now) m e stand; folds = by_folds stand.folds }
   where
     by_fit : (products : Products) → AllKeysFit products (rows_at outer.sources.now outer.levels.now)
         → FoldsFitIn products (AGroup (group_object 0 (out-VgMark m)) (marks_of (marks_in (out-Group (out-VgMark m).group))) NoMarks)
@@ -223,7 +227,8 @@ parts_read [] rows = refl
 parts_read (part ∷ others) rows = λ i name. part_first part others rows (parts_read others rows) name i
 
 pub names_of_copy : (sources : List Dataset) (outer : NamesAt) (o : Object) (copy : CopyOf)
-    → names_in_copy sources (names_at outer.stores.now outer.sources.now outer.levels.now) o (copy_seen copy) ≡ names_in_object sources (names_over outer copy.parts) o
+    → names_in_copy sources (names_at outer.stores.now outer.sources.now outer.levels.now) o (copy_seen copy)
+    ≡ names_in_object sources (names_over outer copy.parts) o
 names_of_copy sources outer o copy =
     ap (λ (scope : Scope). names_in_object sources (record (names_at outer.stores.now outer.sources.now outer.levels.now) { lists = scope }) o)
     (parts_read copy.parts (rows_at outer.sources.now outer.levels.now))

@@ -13,7 +13,8 @@ ghost use Rattle.vega_copies.specs.inner.Levels.{rows_behind, rows_at, AreNames}
 ghost use Rattle.vega_copies.specs.inner.Outlined.{group_object};
 ghost use Rattle.vega_copies.specs.declared.names.NamesAt.{NamesAt as HeldNames};
 ghost use Rattle.vega_copies.specs.inner.Copied.{copy_seen, copy_at, parts_at, parts_read, scope_at, IsCopy};
-ghost use Rattle.vega_copies.specs.inner.Counted.{most_counted, with_rows_by, without_rows_by, copies_with_rows, count_bare, bare_named, parts_of_bare, bare_copy};
+ghost use Rattle.vega_copies.specs.inner.Counted.{most_counted, with_rows_by, without_rows_by, copies_with_rows, count_bare, bare_named};
+ghost use Rattle.vega_copies.specs.inner.Counted.{parts_of_bare, bare_copy};
 
 use crate::names::NamesAt;
 use cell_value::{Cell, Keyed, Named, Rows};

@@ -15,7 +15,8 @@ ghost use Rattle.vega_copies.specs.Facts.{facts_here, found_in, facts_of};
 ghost use Rattle.vega_copies.specs.Outlines.{object_here};
 ghost use Rattle.vega_copies.specs.Scopes.{keeps_signals};
 ghost use Rattle.vega_copies.specs.inner.Counted.{Stops};
-ghost use Rattle.vega_copies.specs.inner.FactsMade.{domain_at, copy_found_at, copy_found_in, facts_over, lists_on, own_with, top_made, CopyHasFacts, HasFacts, IsFactsOf, IsNoFacts, IsOwn, OneHasFacts};
+ghost use Rattle.vega_copies.specs.inner.FactsMade.{domain_at, copy_found_at, copy_found_in, facts_over, lists_on, own_with, top_made};
+ghost use Rattle.vega_copies.specs.inner.FactsMade.{CopyHasFacts, HasFacts, IsFactsOf, IsNoFacts, IsOwn, OneHasFacts};
 ghost use Rattle.vega_copies.specs.inner.FactsSeen.{copy_seen, FactsFit};
 ghost use Rattle.vega_copies.specs.inner.Levels.{names_at, rows_at, values_at, AreNames, AreLevels};
 ghost use Rattle.vega_copies.specs.inner.Made.{levels_behind, made_seen, HaveCopies, IsCopyMade, OneMade};
@@ -162,8 +163,10 @@ fn own_kept(
     requires names { AreNames names.now }
     requires object { KeepsObject (object_here (out-Group group.now)) }
     requires kept { keeps_signals (names_at names.now.stores.now names.now.sources.now names.now.levels.now) (object_here (out-Group group.now)) ≡ true }
-    ensures stops { Stops result (facts_here cells.now (object_here (out-Group group.now)) (names_at names.now.stores.now names.now.sources.now names.now.levels.now)) }
-    ensures own { IfOk result (IsOwn (object_here (out-Group group.now)) (names_at names.now.stores.now names.now.sources.now names.now.levels.now) signals.now cells.now) }
+    ensures stops { Stops result
+        (facts_here cells.now (object_here (out-Group group.now)) (names_at names.now.stores.now names.now.sources.now names.now.levels.now)) }
+    ensures own { IfOk result
+        (IsOwn (object_here (out-Group group.now)) (names_at names.now.stores.now names.now.sources.now names.now.levels.now) signals.now cells.now) }
 {
     match domains_at(alloc, names, scales_in(group)) {
         Ok(domains) => Ok(own_with(alloc, signals, cells, domains)?),
@@ -181,8 +184,10 @@ fn own_facts(
 ) -> Result<OwnFacts, EvalError>
     requires names { AreNames names.now }
     requires object { KeepsObject (object_here (out-Group group.now)) }
-    ensures stops { Stops result (facts_here cells.now (object_here (out-Group group.now)) (names_at names.now.stores.now names.now.sources.now names.now.levels.now)) }
-    ensures own { IfOk result (IsOwn (object_here (out-Group group.now)) (names_at names.now.stores.now names.now.sources.now names.now.levels.now) signals.now cells.now) }
+    ensures stops { Stops result
+        (facts_here cells.now (object_here (out-Group group.now)) (names_at names.now.stores.now names.now.sources.now names.now.levels.now)) }
+    ensures own { IfOk result
+        (IsOwn (object_here (out-Group group.now)) (names_at names.now.stores.now names.now.sources.now names.now.levels.now) signals.now cells.now) }
 {
     if keeps_own(names, group) {
         own_kept(alloc, names, group, signals, cells)
@@ -373,7 +378,8 @@ pub fn facts_of(
     requires object { KeepsObject (object_here (out-Group group.now)) }
     requires marks { HaveCopies names.now.stores.now names.now.sources.now names.now.levels.now (marks_in (out-Group group.now)) made.now }
     requires level { levels_behind names.now.levels.now ≡ level.now ∷ [] }
-    ensures value { Evaluates (result_map (λ facts. copy_seen (lists_on names.now.sources.now (top_made level.now made.now)) facts [] (values_of_stores names.now.stores.now)) result)
+    ensures value { Evaluates (result_map
+        (λ facts. copy_seen (lists_on names.now.sources.now (top_made level.now made.now)) facts [] (values_of_stores names.now.stores.now)) result)
         (facts_of (map dataset_of names.now.sources.now) (object_here (out-Group group.now)) (marks_of (marks_in (out-Group group.now)))
         (names_at names.now.stores.now names.now.sources.now names.now.levels.now)) }
     ensures fits { IfOk result (FactsFit (object_here (out-Group group.now)) (marks_of (marks_in (out-Group group.now)))) }

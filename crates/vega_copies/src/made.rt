@@ -135,7 +135,8 @@ fn made_copy(
     ensures stops { (in_facet : Bool) → (in_grid : Bool) → Stops result (plots_of_copy (map dataset_of outer.now.sources.now)
         in_facet in_grid (out-VgMark mark.now) (names_at outer.now.stores.now outer.now.sources.now outer.now.levels.now) (copy_seen copy)) }
     ensures seen { IfOk result (λ found. made_seen found ≡ copy_seen copy) }
-    ensures made { IfOk result (λ found. IsCopyMade outer.now.stores.now outer.now.sources.now (levels_behind outer.now.levels.now) (out-VgMark mark.now) found) }
+    ensures made { IfOk result
+        (λ found. IsCopyMade outer.now.stores.now outer.now.sources.now (levels_behind outer.now.levels.now) (out-VgMark mark.now) found) }
 {
     let CopyOf { cells, parts } = copy;
     let level = match level_in(alloc, outer, &mark.group, parts) {

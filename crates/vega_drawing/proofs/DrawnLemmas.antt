@@ -1,6 +1,6 @@
 -- What is drawn in a plot, one after the other.
-use Rattle.std.proofs.Common.{◌≡◌, ℕ, suc, ◌+◌, ◌<◌, ◌^◌, Bool, true, false, cond, Option, Some, None, List, [], ◌∷◌, ◌++◌, map, length, length-drop, drop, get_or, refl, sym, ap, ◌∙◌, arith, subst}
-use Rattle.std.proofs.Common.{append_assoc, append-nil}
+use Rattle.std.proofs.Common.{◌≡◌, ℕ, suc, ◌+◌, ◌<◌, ◌^◌, Bool, true, false, cond, Option, Some, None, List, [], ◌∷◌, ◌++◌, map, length}
+use Rattle.std.proofs.Common.{length-drop, drop, get_or, refl, sym, ap, ◌∙◌, arith, subst, append_assoc, append-nil}
 use Rattle.std.specs.Prelude.{Err}
 use Rattle.std.specs.Option.{option_map}
 use Rattle.fixed_num.specs.Ranges.{◌>>=◌, all_found}
@@ -133,7 +133,8 @@ module _ (items : ItemsOfMarks) (frame : Frame) where
 
   plain_and_rest : (unit number : ℕ) (m : VgMark) (ms : List VgMark) (found : Found) → is_group (out-VgMark m) ≡ false
       → drawn_in items (marks_from unit number (m ∷ ms)) found frame
-      ≡ and_rest (option_map items_inside (items unit (plain_of (out-VgMark m)) frame)) (drawn_in items (marks_from (suc unit) number ms) (behind_first found) frame)
+      ≡ and_rest (option_map items_inside (items unit (plain_of (out-VgMark m)) frame))
+      (drawn_in items (marks_from (suc unit) number ms) (behind_first found) frame)
   plain_and_rest unit number m ms found e =
       ap (λ marks. drawn_in items marks found frame) (plain_from unit number m ms e)
       ∙ items_behind (items unit (plain_of (out-VgMark m)) frame) (drawn_in items (marks_from (suc unit) number ms) (behind_first found) frame)
@@ -168,13 +169,15 @@ module _ (items : ItemsOfMarks) (frame : Frame) where
           let numbers : suc number + count_groups inside ≡ number + count_groups (marks_of (m ∷ [])) =
           same_groups number (count_groups inside) (count_groups (marks_of (m ∷ []))) (group_grouped m [] e) in
           group_and_rest unit number m ms found e
-          ∙ (λ i. and_rest (sym (group_one unit number m (first_copies found) e) i) (drawn_in items (marks_from (units i) (numbers i) ms) (behind_first found) frame))
+          ∙ (λ i. and_rest (sym (group_one unit number m (first_copies found) e) i)
+          (drawn_in items (marks_from (units i) (numbers i) ms) (behind_first found) frame))
       by_type false e =
           let units : suc unit ≡ unit + count_marks (marks_of (m ∷ [])) = one_mark unit (count_marks (marks_of (m ∷ []))) (plain_counted m [] e) in
           let numbers : number ≡ number + count_groups (marks_of (m ∷ [])) =
           no_group number (count_groups (marks_of (m ∷ []))) (plain_grouped m [] e) in
           plain_and_rest unit number m ms found e
-          ∙ (λ i. and_rest (sym (plain_one unit number m (first_copies found) e) i) (drawn_in items (marks_from (units i) (numbers i) ms) (behind_first found) frame))
+          ∙ (λ i. and_rest (sym (plain_one unit number m (first_copies found) e) i)
+          (drawn_in items (marks_from (units i) (numbers i) ms) (behind_first found) frame))
 
 -- ---- marks that are left to be drawn in a copy, and what comes of them behind what there is
 
@@ -182,7 +185,8 @@ pub record MarksLeft (items : ItemsOfMarks) (lists : ListsOnPaths) (f : HeldFram
     (marks : List VgMark) (found : List MarkFacts) (out : HeldInside) : Type 0 where
   pub show : MayShow marks found
   pub few : AreFew unit number marks
-  pub draws : option_map (and_inside (inside_seen out)) (drawn_in items (marks_from unit number marks) (found_in_frame lists f at found) (frame_seen lists f)) ≡ whole
+  pub draws : option_map (and_inside (inside_seen out))
+      (drawn_in items (marks_from unit number marks) (found_in_frame lists f at found) (frame_seen lists f)) ≡ whole
   pub kept : IsInside begun → IsInside out
 
 -- what was found of a mark, and of those behind it
@@ -199,7 +203,8 @@ module _ (items : ItemsOfMarks) (lists : ListsOnPaths) (f : HeldFrame) (begun : 
       → MarksLeft items lists f begun whole unit number at marks found out → whole ≡ Some (inside_seen out)
   nothing_left marks found out none left =
       sym left.draws
-      ∙ ap (λ ms. option_map (and_inside (inside_seen out)) (drawn_in items (marks_from unit number ms) (found_in_frame lists f at found) (frame_seen lists f))) none
+      ∙ ap (λ ms. option_map (and_inside (inside_seen out))
+      (drawn_in items (marks_from unit number ms) (found_in_frame lists f at found) (frame_seen lists f))) none
       ∙ ap Some (nothing_last (inside_seen out))
 
   module _ (all : List VgMark) (index : ℕ) (m : VgMark) (every : List MarkFacts) (out : HeldInside) (within : index < length all) (is : m ≡ get_or all index m)
@@ -271,7 +276,8 @@ module _ (items : ItemsOfMarks) (lists : ListsOnPaths) (f : HeldFrame) (begun : 
             kept = λ inside. keeps (here.kept inside);
           } in
           subst (λ n. MarksLeft items lists f begun whole (unit + units) (number + n) (at + 1) (drop (index + 1) all) (drop (at + 1) every) new) (sym grouped)
-          (subst (λ u. MarksLeft items lists f begun whole (unit + u) (number + count_groups (marks_of (m ∷ []))) (at + 1) (drop (index + 1) all) (drop (at + 1) every) new)
+          (subst (λ u. MarksLeft items lists f begun whole (unit + u)
+          (number + count_groups (marks_of (m ∷ []))) (at + 1) (drop (index + 1) all) (drop (at + 1) every) new)
           (sym counted) made)
 
       pub next_stops : (e : EvalError) (after : HeldInside) (old : Inside) (drawn : Option Inside) → whole ≡ option_map (and_inside old) drawn

@@ -1,5 +1,6 @@
 -- What a copy of a group draws, step by step.
-use Rattle.std.proofs.Common.{◌≡◌, ℕ, ◌+◌, ◌<◌, ◌^◌, true, Option, Some, None, List, [], ◌∷◌, ◌++◌, map, length, drop, get_or, refl, sym, ap, ◌∙◌, arith, subst, append-nil}
+use Rattle.std.proofs.Common.{◌≡◌, ℕ, ◌+◌, ◌<◌, ◌^◌, true, Option, Some, None, List, [], ◌∷◌, ◌++◌, map, length, drop, get_or, refl, sym}
+use Rattle.std.proofs.Common.{ap, ◌∙◌, arith, subst, append-nil}
 use Rattle.std.specs.Prelude.{All, Result, Ok, Err, ℤ, ◌+ℤ◌}
 use Rattle.std.specs.List.{filter}
 use Rattle.std.specs.Option.{option_map}
@@ -48,7 +49,8 @@ pub moved_frame : (f : HeldFrame) (x y : ℤ) → IsFrame f → IsFrame (record 
 moved_frame f x y is =
     record { scales = is.scales; set = is.set; sound = is.sound; axes = is.axes; width = is.width; height = is.height }
 
-pub entered_frame : (outer : HeldFrame) (path : Bor (List Step)) (levels : Bor (List (Bor Settled))) (cells : Option (Bor (List (List ℕ × Cell)))) → IsFrame outer
+pub entered_frame : (outer : HeldFrame) (path : Bor (List Step)) (levels : Bor (List (Bor Settled))) (cells : Option (Bor (List (List ℕ × Cell))))
+    → IsFrame outer
     → IsFrame (record outer { path = path; values = record { stores = outer.values.stores; levels = levels }; cells = cells })
 entered_frame outer path levels cells is =
     record { scales = is.scales; set = is.set; sound = is.sound; axes = is.axes; width = is.width; height = is.height }
@@ -146,14 +148,16 @@ pub none_hidden : (outer own : List ScaleHere) → own ≡ [] → outer ≡ and_
 none_hidden outer own none = sym (all_pass outer) ∙ ap (and_outer outer) (sym none)
 
 -- with all scales that have names in it
-pub scaled_with : (items : ItemsOfMarks) (named : Frame) (unit number : ℕ) (m : VgMark-F Group VgMark) (domains : List Scaled) (found : Found) (scales : List ScaleHere)
+pub scaled_with : (items : ItemsOfMarks) (named : Frame) (unit number : ℕ)
+    (m : VgMark-F Group VgMark) (domains : List Scaled) (found : Found) (scales : List ScaleHere)
     → scales ≡ and_outer named.scales (own_scales of_no_chart (group_object 0 m).scales domains)
     → drawn_framed items (record named { scales = scales }) unit number m found ≡ drawn_scaled items named unit number m domains found
 scaled_with items named unit number m domains found scales is = ap (λ s. drawn_framed items (record named { scales = s }) unit number m found) is
 
 -- ---- copies that are left to be drawn, and what comes of them behind what there is
 
-pub record CopiesLeft (items : ItemsOfMarks) (lists : ListsOnPaths) (f : HeldFrame) (begun : HeldInside) (whole : Option Inside) (unit number place : ℕ) (m : VgMark)
+pub record CopiesLeft (items : ItemsOfMarks) (lists : ListsOnPaths) (f : HeldFrame)
+    (begun : HeldInside) (whole : Option Inside) (unit number place : ℕ) (m : VgMark)
     (n : ℕ) (copies : List CopyFacts) (out : HeldInside) : Type 0 where
   pub fits : All (CopyFits (out-VgMark m)) copies
   pub draws : option_map (and_inside (inside_seen out))
@@ -166,7 +170,8 @@ one_and_rest None rest = refl
 one_and_rest (Some x) None = refl
 one_and_rest (Some x) (Some xs) = refl
 
-module _ (items : ItemsOfMarks) (lists : ListsOnPaths) (f : HeldFrame) (begun : HeldInside) (whole : Option Inside) (unit number place : ℕ) (m : VgMark) (n : ℕ) where
+module _ (items : ItemsOfMarks) (lists : ListsOnPaths) (f : HeldFrame) (begun : HeldInside)
+    (whole : Option Inside) (unit number place : ℕ) (m : VgMark) (n : ℕ) where
   abbrev all_drawn : ℕ → List CopyFacts → Option Inside
   all_drawn n copies = drawn_group items (frame_seen lists f) unit number (out-VgMark m) (copies_from lists f place n copies)
 
@@ -218,6 +223,7 @@ pub copies_begun : (items : ItemsOfMarks) (lists : ListsOnPaths) (f : HeldFrame)
 copies_begun items lists f out unit number place m found copies is e show = record {
   fits = subst (All (CopyFits (out-VgMark m))) (sym is) (group_fits m found e show.fit);
   draws =
-      ap (λ cs. option_map (and_inside (inside_seen out)) (drawn_group items (frame_seen lists f) unit number (out-VgMark m) (copies_from lists f place 0 cs))) is;
+      ap (λ cs. option_map (and_inside (inside_seen out))
+      (drawn_group items (frame_seen lists f) unit number (out-VgMark m) (copies_from lists f place 0 cs))) is;
   kept = λ inside. inside;
 }

@@ -1,5 +1,6 @@
 -- Cells of grids: marks one after the other, and the copies of a group.
-use Rattle.std.proofs.Common.{◌≡◌, ℕ, suc, ◌+◌, ◌<◌, ◌≤◌, Bool, true, false, cond, Option, Some, None, List, [], ◌∷◌, ◌++◌, map, length, get_or, drop, Ok, Err, refl, sym, ap, ◌∙◌, subst, append_assoc, append-nil, length-append, length-drop, arith}
+use Rattle.std.proofs.Common.{◌≡◌, ℕ, suc, ◌+◌, ◌<◌, ◌≤◌, Bool, true, false, cond, Option, Some, None, List, [], ◌∷◌, ◌++◌, map, length}
+use Rattle.std.proofs.Common.{get_or, drop, Ok, Err, refl, sym, ap, ◌∙◌, subst, append_assoc, append-nil, length-append, length-drop, arith}
 use Rattle.std.specs.Prelude.{All, unwrap_or, is_some}
 use Rattle.std.specs.Option.{option_map}
 use Rattle.std.specs.List.{enumerate_from}
@@ -155,7 +156,8 @@ pub marks_begin : (items : ItemsOfMarks) (lists : ListsOnPaths) (f : HeldFrame) 
     → MarksLeft items lists f grid (views_in items (marks_from unit number marks) (found_in_frame lists f 0 found) (frame_seen lists f) grid 0) unit number 0
     marks found cells
 marks_begin items lists f grid unit number marks found cells none show few count =
-    subst (MarksLeft items lists f grid (views_in items (marks_from unit number marks) (found_in_frame lists f 0 found) (frame_seen lists f) grid 0) unit number 0
+    subst (MarksLeft items lists f grid
+    (views_in items (marks_from unit number marks) (found_in_frame lists f 0 found) (frame_seen lists f) grid 0) unit number 0
     marks found) (sym none)
     (record {
       views = none_before (views_in items (marks_from unit number marks) (found_in_frame lists f 0 found) (frame_seen lists f) grid 0);
@@ -179,7 +181,8 @@ module _ (items : ItemsOfMarks) (lists : ListsOnPaths) (f : HeldFrame) (grid : G
       ∙ ap (λ ms. after cells (views_in items (marks_from unit number ms) (found_in_frame lists f at found) (frame_seen lists f) grid (length cells))) none
       ∙ ap Some (append-nil cells)
 
-  module _ (all : List VgMark) (index : ℕ) (m : VgMark) (every : List MarkFacts) (cells : List Placed) (within : index < length all) (is : m ≡ get_or all index m)
+  module _ (all : List VgMark) (index : ℕ) (m : VgMark) (every : List MarkFacts)
+      (cells : List Placed) (within : index < length all) (is : m ≡ get_or all index m)
       (left : MarksLeft items lists f grid whole unit number at (drop index all) (drop at every) cells) where
     marks_here : drop index all ≡ m ∷ drop (index + 1) all
     marks_here = at_place all index m within is
@@ -273,7 +276,8 @@ module _ (items : ItemsOfMarks) (lists : ListsOnPaths) (f : HeldFrame) (grid : G
 headers_past : (o : Object) (spot : Spot) (outer : Frame) → (frame_past o spot outer).headers ≡ outer.headers
 headers_past o spot outer = by_facet (is_some o.facet)
   where
-    by_facet : (b : Bool) → (cond b (record outer { scales = map (past spot) outer.scales; axes = map (axis_past spot) outer.axes }) outer).headers ≡ outer.headers
+    by_facet : (b : Bool)
+        → (cond b (record outer { scales = map (past spot) outer.scales; axes = map (axis_past spot) outer.axes }) outer).headers ≡ outer.headers
     by_facet true = refl
     by_facet false = refl
 

@@ -1,5 +1,6 @@
 -- Lists that grow by what each of others gives, and lists as they are seen.
-use Rattle.std.proofs.Common.{◌≡◌, ℕ, ◌+◌, ◌<◌, ◌≤◌, Bool, true, false, cond, List, [], ◌∷◌, ◌++◌, map, length, drop, get_or, Option, Some, None, Err, refl, sym, ap, ◌∙◌, subst, arith}
+use Rattle.std.proofs.Common.{◌≡◌, ℕ, ◌+◌, ◌<◌, ◌≤◌, Bool, true, false, cond, List, [], ◌∷◌, ◌++◌, map, length, drop, get_or, Option, Some}
+use Rattle.std.proofs.Common.{None, Err, refl, sym, ap, ◌∙◌, subst, arith}
 use Rattle.std.specs.List.{All, find}
 use Rattle.std.proofs.lemmas.List.{append-nil, append_assoc, map-append, length-map, drop_more, get_or-map, at_drop_all}
 use Rattle.std.proofs.lemmas.List.Elements.{All-get_or, All-head, All-tail}

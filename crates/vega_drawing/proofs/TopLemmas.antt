@@ -1,6 +1,6 @@
 -- Why what is drawn of the top is what is drawn of a specification.
-use Rattle.std.proofs.Common.{◌≡◌, ℕ, zero, suc, ◌+◌, ◌<◌, ◌^◌, ℤ, pos, Bool, true, false, cond, is_some, Option, Some, None, List, [], ◌∷◌, ◌++◌, map, Bor, Result, Err, refl, sym, ap, ◌∙◌, subst, append_assoc, arith}
-use Rattle.std.proofs.Common.{drop, get_or, length}
+use Rattle.std.proofs.Common.{◌≡◌, ℕ, zero, suc, ◌+◌, ◌<◌, ◌^◌, ℤ, pos, Bool, true, false, cond, is_some, Option, Some, None, List, [], ◌∷◌}
+use Rattle.std.proofs.Common.{◌++◌, map, Bor, Result, Err, refl, sym, ap, ◌∙◌, subst, append_assoc, arith, drop, get_or, length}
 use Rattle.std.proofs.lemmas.List.{append-nil, drop_more}
 use Rattle.std.proofs.lemmas.List.Elements.{All-head, All-tail}
 use Rattle.std.specs.Prelude.{IfSome, unwrap_or}
@@ -50,7 +50,8 @@ use Rattle.vega_drawing.specs.Views.{grid_round, spacing_of, views_in}
 use Rattle.vega_drawing.specs.inner.Drawn.{MayShow}
 use Rattle.vega_drawing.specs.inner.Framed.{IsFrame}
 use Rattle.vega_drawing.specs.inner.Kept.{scale_seen, IsFitHere, IsKeptScale, AreKeptScales, AreKeptAxes}
-use Rattle.vega_drawing.specs.inner.Topped.{top_of, TopFits, names_on_top, found_on_top, held_top, top_seen, drawn_view, drawn_plot, sized_plot, grid_with_axes, drawn_top}
+use Rattle.vega_drawing.specs.inner.Topped.{top_of, TopFits, names_on_top, found_on_top, held_top, top_seen, drawn_view, drawn_plot}
+use Rattle.vega_drawing.specs.inner.Topped.{sized_plot, grid_with_axes, drawn_top}
 use Rattle.vega_drawing.proofs.CellLemmas.{behind_none}
 
 -- ---- the top by its members
@@ -182,7 +183,8 @@ module _ (items : ItemsOfMarks) (lists : ListsOnPaths) (stores : List StoreOf) (
       (top_seen (names_on_top lists values_on_top) (out-CopyFacts facts).cells (scales_on_top g facts) (pos 0) (pos 0))
       ≡ drawn_from_facts items g (outline_of g) (copy_seen lists facts [] (values_of_stores stores))
   top_is_drawn =
-      ap (λ cells. drawn_top items g (found_on_top lists values_on_top facts) (top_seen (names_on_top lists values_on_top) cells (scales_on_top g facts) (pos 0) (pos 0)))
+      ap (λ cells. drawn_top items g (found_on_top lists values_on_top facts)
+      (top_seen (names_on_top lists values_on_top) cells (scales_on_top g facts) (pos 0) (pos 0)))
       (behind_none (out-CopyFacts facts).cells)
       ∙ sym (λ i. drawn_from_facts items g (outline_is g i) (copy_opened lists facts [] (values_of_stores stores) i))
 

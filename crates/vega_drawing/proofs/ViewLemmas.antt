@@ -108,7 +108,8 @@ module _ (items : ItemsOfMarks) (lists : ListsOnPaths) (outer : HeldFrame) (unit
       ∙ sym (ap (view_at items (frame_seen lists outer) unit number m) (copy_opened lists copy (step ∷ outer.path.now) (values_of outer)))
 
 -- its view with its own scales
-pub named_scaled : (items : ItemsOfMarks) (named : Frame) (unit number : ℕ) (m : VgMark-F Group VgMark) (domains : List Scaled) (found : Found) (scales : List ScaleHere)
+pub named_scaled : (items : ItemsOfMarks) (named : Frame) (unit number : ℕ)
+    (m : VgMark-F Group VgMark) (domains : List Scaled) (found : Found) (scales : List ScaleHere)
     → scales ≡ and_outer named.scales (own_scales of_no_chart (group_object 0 m).scales domains)
     → view_scaled items (record named { scales = scales }) unit number m found ≡ view_named items named unit number m domains found
 named_scaled items named unit number m domains found scales is = ap (λ s. view_scaled items (record named { scales = s }) unit number m found) is

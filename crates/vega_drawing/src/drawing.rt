@@ -143,8 +143,10 @@ fn draw_sized<'s, 'x, 'i, M: MarkItems>(
     requires scales { AreScales set.now }
     requires width { IsPixel width }
     requires height { IsPixel height }
-    ensures { Evaluates result (drawn_plot (M.items maker.now) g.now (found_on_top (M.lists maker.now) (values_over values.entry.stores.now values.entry.levels.now) facts.now)
-        (top_seen (names_on_top (M.lists maker.now) (values_over values.entry.stores.now values.entry.levels.now)) (cells_seen cells.entry) (map scale_seen scales.now)
+    ensures { Evaluates result (drawn_plot (M.items maker.now) g.now
+        (found_on_top (M.lists maker.now) (values_over values.entry.stores.now values.entry.levels.now) facts.now)
+        (top_seen (names_on_top (M.lists maker.now) (values_over values.entry.stores.now values.entry.levels.now))
+        (cells_seen cells.entry) (map scale_seen scales.now)
         width height)) }
 {
     let frame = top_frame(&[], values, scales, set, &[], cells, &[], width, height);
@@ -225,7 +227,8 @@ fn draw_axes<'s, 'x, 'i, M: MarkItems>(
     requires size { IsPixel size }
     ensures { Evaluates result (drawn_grid (M.items maker.now) g.now layout.now
         (found_on_top (M.lists maker.now) (values_over values.entry.stores.now values.entry.levels.now) facts.now)
-        (with_axes (map axis_seen axes.now) (top_seen (names_on_top (M.lists maker.now) (values_over values.entry.stores.now values.entry.levels.now)) (cells_seen cells.entry)
+        (with_axes (map axis_seen axes.now)
+        (top_seen (names_on_top (M.lists maker.now) (values_over values.entry.stores.now values.entry.levels.now)) (cells_seen cells.entry)
         (map scale_seen scales.now) size size))) }
 {
     let frame = top_frame(&[], values, scales, set, axes, cells, &[], size, size);
@@ -260,7 +263,8 @@ fn draw_grid<'s, 'x, M: MarkItems>(
     requires columns { IfSome layout.now.columns IsCount }
     ensures { Evaluates result (grid_with_axes (M.items maker.now) g.now layout.now
         (found_on_top (M.lists maker.now) (values_over values.entry.stores.now values.entry.levels.now) facts.now)
-        (top_seen (names_on_top (M.lists maker.now) (values_over values.entry.stores.now values.entry.levels.now)) (cells_seen cells.entry) (map scale_seen scales.now)
+        (top_seen (names_on_top (M.lists maker.now) (values_over values.entry.stores.now values.entry.levels.now))
+        (cells_seen cells.entry) (map scale_seen scales.now)
         (pos 0) (pos 0))) }
 {
     let size = no_length();
@@ -294,8 +298,10 @@ fn draw_top<'s, 'x, M: MarkItems>(
 ) -> Result<Drawing, EvalError>
     requires sound { M.sound maker.now }
     requires top { IsTop g.now scales.now facts.now }
-    ensures { Evaluates result (drawn_top (M.items maker.now) g.now (found_on_top (M.lists maker.now) (values_over values.entry.stores.now values.entry.levels.now) facts.now)
-        (top_seen (names_on_top (M.lists maker.now) (values_over values.entry.stores.now values.entry.levels.now)) (cells_seen cells.entry) (map scale_seen scales.now)
+    ensures { Evaluates result (drawn_top (M.items maker.now) g.now
+        (found_on_top (M.lists maker.now) (values_over values.entry.stores.now values.entry.levels.now) facts.now)
+        (top_seen (names_on_top (M.lists maker.now) (values_over values.entry.stores.now values.entry.levels.now))
+        (cells_seen cells.entry) (map scale_seen scales.now)
         (pos 0) (pos 0))) }
 {
     match &g.group.layout {

@@ -18,7 +18,8 @@ use Rattle.selection_events.specs.declared.selection.SelectionOf.{SelectionOf}
 use Rattle.selection_events.specs.declared.drags.Drag.{Drag}
 use Rattle.selection_events.specs.declared.drags.ChannelHere.{ChannelHere}
 use Rattle.selection_events.specs.Places.{place_at, units_in_panel}
-use Rattle.selection_events.specs.Events.{Change, Inverts, Seen, with_units, store_changed, stores_changed, channel_here, dragged_over, dragged_at, clicked_at, toggled_at, cleared_at}
+use Rattle.selection_events.specs.Events.{Change, Inverts, Seen, with_units, store_changed, stores_changed, channel_here, dragged_over}
+use Rattle.selection_events.specs.Events.{dragged_at, clicked_at, toggled_at, cleared_at}
 use Rattle.vega_selections.specs.declared.selections.VgSelection.{VgSelection}
 use Rattle.vega_events.specs.Scales.{inverted_by}
 use Rattle.vega_events.specs.Events.{UnitLists, read_in, begin_of, change_on, store_after, stores_after}
@@ -58,7 +59,8 @@ found_by_name (w ∷ ws) (suc k) v below is own =
     ap (λ t. cond t (Some w) (find (is_named (name_of v)) ws)) (other_name (name_of w) (name_of v) apart (bytes_eq (name_of w) (name_of v)) refl)
     ∙ found_by_name ws k v less is (apart_behind (name_of w) (map name_of ws) own)
 
-inverted_alike : (set : ScaleSet) (vs : List VgSelection) (v : VgSelection) → Contains vs v → AllPairs (λ a b. a ≢ b) (map name_of vs) → (index : ℕ) (channel : List ℕ)
+inverted_alike : (set : ScaleSet) (vs : List VgSelection) (v : VgSelection) → Contains vs v
+    → AllPairs (λ a b. a ≢ b) (map name_of vs) → (index : ℕ) (channel : List ℕ)
     → inverted_by set v index (name_of v) channel ≡ inverted_in set vs index (name_of v) channel
 inverted_alike set vs v among own index channel =
     ap (λ o. o >>= (λ w. inverted_by set w index (name_of v) channel)) (sym (found_by_name vs among.0 v among.1 among.2 own))
@@ -72,7 +74,8 @@ contains_later : {X : Type 0} (y : X) (xs : List X) (x : X) → Contains xs x �
 contains_later y xs x h = let below = h.1 in (suc h.0, omega (arith, below), h.2)
 
 all_alike : (f : VgSelection × StoreOf → StoreOf) (g : SelectionOf × StoreOf → StoreOf) (vs : List VgSelection) (stores : List StoreOf)
-    → ((v : VgSelection) (store : StoreOf) → Contains vs v → f (v, store) ≡ g (plain_of v, store)) → map f (zip vs stores) ≡ map g (zip (map plain_of vs) stores)
+    → ((v : VgSelection) (store : StoreOf) → Contains vs v → f (v, store) ≡ g (plain_of v, store))
+    → map f (zip vs stores) ≡ map g (zip (map plain_of vs) stores)
 all_alike f g [] stores each = refl
 all_alike f g (v ∷ vs) [] each = refl
 all_alike f g (v ∷ vs) (store ∷ stores) each =
@@ -87,7 +90,8 @@ channels_alike a b index s same (d ∷ ds) =
 
 -- two changes that do the same to a store do the same to it in a panel
 changed_alike : (plots : List PlotOf) (f g : Change) (place : ℕ × Panel) (s : SelectionOf) (store : StoreOf)
-    → ((u : ℕ) (units : List ℕ) → f s place u units store ≡ g s place u units store) → (units : List ℕ) → with_units f s place units store ≡ with_units g s place units store
+    → ((u : ℕ) (units : List ℕ) → f s place u units store ≡ g s place u units store)
+    → (units : List ℕ) → with_units f s place units store ≡ with_units g s place units store
 changed_alike plots f g place s store same [] = refl
 changed_alike plots f g place s store same (u ∷ us) = same u (u ∷ us)
 
@@ -102,7 +106,8 @@ module _ (plots : List PlotOf) (set : ScaleSet) (rows : UnitLists) (selections :
   change_alike (mouse.Double x y) place v store among u units = refl
   change_alike (mouse.Drag x1 y1 x2 y2) place v store among u units =
       ap (dragged_over (record { x1 = x1; y1 = y1; x2 = x2; y2 = y2 }) (plain_of v) place u store)
-      (channels_alike (inverted_by set v) (inverted_in set selections) place.0 (plain_of v) (inverted_alike set selections v among own place.0) v.selection.drag)
+      (channels_alike (inverted_by set v) (inverted_in set selections) place.0
+      (plain_of v) (inverted_alike set selections v among own place.0) v.selection.drag)
 
   in_place : (e : Event) (o : Option (ℕ × Panel)) (stores : List StoreOf)
       → stores_after plots set rows e o selections stores
@@ -115,8 +120,11 @@ module _ (plots : List PlotOf) (set : ScaleSet) (rows : UnitLists) (selections :
       (plain_of v) store (change_alike e place v store among) (units_in_panel plots (plain_of v) place.1))
 
 pub events_are_of_stores : EventsAreOfStores
-events_are_of_stores (mouse.Click x y) plots set scene rows selections stores own = in_place plots set rows selections own (mouse.Click x y) (place_at scene x y) stores
-events_are_of_stores (mouse.Shift x y) plots set scene rows selections stores own = in_place plots set rows selections own (mouse.Shift x y) (place_at scene x y) stores
-events_are_of_stores (mouse.Double x y) plots set scene rows selections stores own = in_place plots set rows selections own (mouse.Double x y) (place_at scene x y) stores
+events_are_of_stores (mouse.Click x y) plots set scene rows selections stores own =
+    in_place plots set rows selections own (mouse.Click x y) (place_at scene x y) stores
+events_are_of_stores (mouse.Shift x y) plots set scene rows selections stores own =
+    in_place plots set rows selections own (mouse.Shift x y) (place_at scene x y) stores
+events_are_of_stores (mouse.Double x y) plots set scene rows selections stores own =
+    in_place plots set rows selections own (mouse.Double x y) (place_at scene x y) stores
 events_are_of_stores (mouse.Drag x1 y1 x2 y2) plots set scene rows selections stores own =
     in_place plots set rows selections own (mouse.Drag x1 y1 x2 y2) (place_at scene x1 y1) stores

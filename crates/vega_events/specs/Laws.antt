@@ -33,7 +33,8 @@ plain_of v = v.selection
 
 -- where each selection has a name of its own, both leave the same
 abbrev pub EventsAreOfStores : Type 0
-EventsAreOfStores = (e : Event) (plots : List PlotOf) (set : ScaleSet) (scene : Scene) (rows : UnitLists) (selections : List VgSelection) (stores : List StoreOf)
+EventsAreOfStores = (e : Event) (plots : List PlotOf) (set : ScaleSet) (scene : Scene)
+    (rows : UnitLists) (selections : List VgSelection) (stores : List StoreOf)
     → AllPairs (λ a b. a ≢ b) (map (λ (v : VgSelection). v.selection.name) selections)
     → stores_after plots set rows e (place_at scene (begin_of e).0 (begin_of e).1) selections stores
     ≡ stores_on plots (map plain_of selections) (seen_of set scene rows selections) e stores

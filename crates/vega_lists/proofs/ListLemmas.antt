@@ -1,5 +1,6 @@
 -- One data set after the other.
-use Rattle.std.proofs.Common.{◌≡◌, ℕ, suc, ◌+◌, ◌<◌, Bool, true, false, cond, List, [], ◌∷◌, ◌++◌, drop, map, length, get_or, All, Option, Some, None, unwrap_or, Result, Ok, Err, IfOk, refl, sym, ap, ◌∙◌, subst, arith}
+use Rattle.std.proofs.Common.{◌≡◌, ℕ, suc, ◌+◌, ◌<◌, Bool, true, false, cond, List, [], ◌∷◌, ◌++◌, drop, map, length, get_or, All, Option}
+use Rattle.std.proofs.Common.{Some, None, unwrap_or, Result, Ok, Err, IfOk, refl, sym, ap, ◌∙◌, subst, arith}
 use Rattle.std.specs.Option.{option_map_or}
 use Rattle.std.specs.BTreeMap as tree
 use Rattle.std.specs.Str.{bytes_eq}
@@ -25,7 +26,8 @@ use Rattle.vega_lists.specs.Lists.{begun_rows, list_of, and_its_list, lists_of}
 use Rattle.vega_lists.specs.Held.{rows_there, place_named, rows_named, scope_in, AreLists, AreSources, MayFold, GivesLists, scope_read, AreAllRows}
 use Rattle.vega_lists.specs.Inside.{RowsByName, no_rows, AllKeysFit, SetsMayFold, rows_inside, GivesInside}
 use Rattle.vega_lists.specs.Laws.{KeysOfSets}
-use Rattle.vega_lists.specs.inner.Places.{Places, IsPut, IsThere, ArePlaced, ArePlacesOf, IsNamed, HoldsAlso, AddsList, IsHeldWhere, HoldsRead, TakesIn, rows_begun}
+use Rattle.vega_lists.specs.inner.Places.{Places, IsPut, IsThere, ArePlaced, ArePlacesOf, IsNamed, HoldsAlso, AddsList, IsHeldWhere}
+use Rattle.vega_lists.specs.inner.Places.{HoldsRead, TakesIn, rows_begun}
 use Rattle.vega_lists.proofs.KeyLemmas.{data_keys, keys_seen, after_some, same_value, all_transformed_fits}
 use Rattle.vega_lists.proofs.PlaceLemmas.{held_put, placed_put, held_made, placed_made, rows_as_read, rows_from_read}
 use Rattle.vega_lists.proofs.OuterLemmas.{none_are, none_fit, named_also, own_reads, own_fit, nothing_outside}
@@ -37,7 +39,8 @@ untouched values scope (t ∷ ts) rows none = absurd (omega (arith, none))
 
 module _ (sources : List Named) (old next : Lists) (name : List ℕ) (placed : ArePlaced old) where
   -- a name put for a place
-  pub adds_place : (values : Values) (ts : List Transform) (place : RowsIn) → length ts ≡ 0 → AreRows (rows_there sources old.made place) → IsThere (length old.made) place
+  pub adds_place : (values : Values) (ts : List Transform) (place : RowsIn) → length ts ≡ 0
+      → AreRows (rows_there sources old.made place) → IsThere (length old.made) place
       → next.made ≡ old.made → IsPut old.by_name name place next.by_name
       → HoldsAlso sources old (Ok next) name (all_transformed values (scope_in sources old) ts (map datum_of (rows_there sources old.made place)))
   adds_place values ts place none rows there same put = (
@@ -85,7 +88,8 @@ module _ (sources : List Named) (given : Places) (lists : Lists) (set : DataSet)
   begun_fit products fits = by_source set.source
     where
       by_source : (o : Option (List ℕ))
-          → KeysFit (option_map_or products o 1) (keys_of (rows_there sources lists.made (option_map_or (place_named lists.by_name) o (place_named given set.name))))
+          → KeysFit (option_map_or products o 1)
+          (keys_of (rows_there sources lists.made (option_map_or (place_named lists.by_name) o (place_named given set.name))))
       by_source None =
           subst (KeysFit 1) (keys_seen (rows_there sources lists.made (place_named given set.name)))
           (subst (λ (rows : List Datum). KeysFit 1 (data_keys rows)) (sym (right.read lists.made set.name)) (named_source sources sound set.name).fits)
@@ -98,13 +102,15 @@ module _ (sources : List Named) (given : Places) (lists : Lists) (set : DataSet)
       (begun_product products set, begun_fit products (λ name. own_fit values sources outer old lists takes name (products name) (fits name)), folds.0)
 
 -- what a data set adds to what it holds it adds inside
-pub adds_inside : (values : Values) (sources : List Named) (outer : RowsByName) (old own : Lists) (set : DataSet) (result : Result Lists EvalError) → TakesIn outer old own
+pub adds_inside : (values : Values) (sources : List Named) (outer : RowsByName) (old own : Lists) (set : DataSet) (result : Result Lists EvalError)
+    → TakesIn outer old own
     → IsHeldWhere own set.source → All (HoldsRead own) (transforms_of set)
     → HoldsAlso sources own result set.name (list_of values (map dataset_of sources) (scope_in sources own) set)
     → AddsList sources outer old result set.name (list_of values (map dataset_of sources) (scope_read (rows_inside sources outer old)) set)
 adds_inside values sources outer old own set result takes source looked_up = by_result result
   where
-    same : list_of values (map dataset_of sources) (scope_in sources own) set ≡ list_of values (map dataset_of sources) (scope_read (rows_inside sources outer old)) set
+    same : list_of values (map dataset_of sources) (scope_in sources own) set
+        ≡ list_of values (map dataset_of sources) (scope_read (rows_inside sources outer old)) set
     same = own_reads values sources outer old own takes (map dataset_of sources) set source looked_up
 
     by_result : (result : Result Lists EvalError) → HoldsAlso sources own result set.name (list_of values (map dataset_of sources) (scope_in sources own) set)
@@ -119,7 +125,8 @@ adds_inside values sources outer old own set result takes source looked_up = by_
     by_result (Err Overflow) e = sym same ∙ e
     by_result (Err Memory) e = tt
 
-fits_either : (b : Bool) (p q : ℕ) (rows others : List Datum) → KeysFit p (data_keys rows) → KeysFit q (data_keys others) → KeysFit (cond b p q) (data_keys (cond b rows others))
+fits_either : (b : Bool) (p q : ℕ) (rows others : List Datum) → KeysFit p (data_keys rows)
+    → KeysFit q (data_keys others) → KeysFit (cond b p q) (data_keys (cond b rows others))
 fits_either true p q rows others x y = x
 fits_either false p q rows others x y = y
 
@@ -131,21 +138,25 @@ read_either : (b : Bool) (rows others : List Keyed) → map datum_of (cond b row
 read_either true rows others = refl
 read_either false rows others = refl
 
-pub as_read : (products : Products) (rows : RowsByName) → AllKeysFit products rows → (name : List ℕ) → KeysFit (products name) (data_keys (scope_read rows name))
+pub as_read : (products : Products) (rows : RowsByName) → AllKeysFit products rows
+    → (name : List ℕ) → KeysFit (products name) (data_keys (scope_read rows name))
 as_read products rows fits name = subst (KeysFit (products name)) (sym (keys_seen (rows name))) (fits name)
 
-pub from_read : (products : Products) (rows : RowsByName) → ((name : List ℕ) → KeysFit (products name) (data_keys (scope_read rows name))) → AllKeysFit products rows
+pub from_read : (products : Products) (rows : RowsByName)
+    → ((name : List ℕ) → KeysFit (products name) (data_keys (scope_read rows name))) → AllKeysFit products rows
 from_read products rows fits name = subst (KeysFit (products name)) (keys_seen (rows name)) (fits name)
 
 module _ (values : Values) (sources : List Named) (sound : AreSources sources) where
   -- with the rows of a data set under its name
-  one_set_fits : (set : DataSet) (scope : Scope) (rows : List Datum) (products : Products) → ((name : List ℕ) → KeysFit (products name) (data_keys (scope name)))
+  one_set_fits : (set : DataSet) (scope : Scope) (rows : List Datum) (products : Products)
+      → ((name : List ℕ) → KeysFit (products name) (data_keys (scope name)))
       → list_of values (map dataset_of sources) scope set ≡ Some rows
       → (name : List ℕ) → KeysFit (and_its_product products set name) (data_keys (with_list set.name rows scope name))
   one_set_fits set scope rows products fits e name =
       let product = fold_product (begun_product products set) (transforms_of set) in
       let made : KeysFit product (data_keys rows) =
-      all_transformed_fits values scope (transforms_of set) (begun_rows (map dataset_of sources) scope set) rows (begun_product products set) e (begun set.source) in
+      all_transformed_fits values scope (transforms_of set) (begun_rows (map dataset_of sources) scope set)
+      rows (begun_product products set) e (begun set.source) in
       fits_either (bytes_eq set.name name) product (products name) rows (scope name) made (fits name)
     where
       begun : (o : Option (List ℕ)) → KeysFit (option_map_or products o 1) (data_keys (option_map_or scope o (list_named (map dataset_of sources) set.name)))
@@ -154,12 +165,15 @@ module _ (values : Values) (sources : List Named) (sound : AreSources sources) w
 
   all_sets_fit : (sets : List DataSet) (scope out : Scope) (products : Products) → ((name : List ℕ) → KeysFit (products name) (data_keys (scope name)))
       → lists_of values (map dataset_of sources) scope sets ≡ Some out → (name : List ℕ) → KeysFit (products_after products sets name) (data_keys (out name))
-  all_sets_fit [] scope out products fits e = subst (λ (s : Scope). (name : List ℕ) → KeysFit (products name) (data_keys (s name))) (same_value scope out e) fits
+  all_sets_fit [] scope out products fits e =
+      subst (λ (s : Scope). (name : List ℕ) → KeysFit (products name) (data_keys (s name))) (same_value scope out e) fits
   all_sets_fit (set ∷ others) scope out products fits e =
-      let (next, one, rest) = after_some (and_its_list values (map dataset_of sources) scope set) (λ s. lists_of values (map dataset_of sources) s others) out e in
+      let (next, one, rest) = after_some (and_its_list values (map dataset_of sources) scope set)
+      (λ s. lists_of values (map dataset_of sources) s others) out e in
       let (rows, own, is) = after_some (list_of values (map dataset_of sources) scope set) (λ rows. Some (with_list set.name rows scope)) next one in
       all_sets_fit others next out (and_its_product products set)
-      (subst (λ (s : Scope). (name : List ℕ) → KeysFit (and_its_product products set name) (data_keys (s name))) (same_value (with_list set.name rows scope) next is)
+      (subst (λ (s : Scope). (name : List ℕ) → KeysFit (and_its_product products set name) (data_keys (s name)))
+      (same_value (with_list set.name rows scope) next is)
       (one_set_fits set scope rows products fits own)) rest
 
 -- what the data sets of an object give has keys such as the products after them allow
@@ -199,7 +213,8 @@ module _ (values : Values) (sources : List Named) (whole : Option Scope) (sound 
       λ i other. (ap (map datum_of) (named other) ∙ read_either (bytes_eq set.name other) own (rows other)) i in
       record {
         gives = ap (λ s. lists_of values (map dataset_of sources) s left) scope
-            ∙ sym (ap (λ o. (o >>= λ made. Some (with_list set.name made (scope_read rows))) >>= λ s. lists_of values (map dataset_of sources) s left) e) ∙ way.gives;
+            ∙ sym (ap (λ o. (o >>= λ made. Some (with_list set.name made (scope_read rows))) >>= λ s. lists_of values (map dataset_of sources) s left)
+            e) ∙ way.gives;
         are = λ other. subst AreRows (sym (named other)) (rows_either (bytes_eq set.name other) own (rows other) are (way.are other));
         folds = (
           and_its_product products set,
@@ -215,7 +230,8 @@ module _ (values : Values) (sources : List Named) (whole : Option Scope) (sound 
         → AddsList sources outer lists (Ok next) set.name (list_of values (map dataset_of sources) (scope_read (rows_inside sources outer lists)) set)
         → ListsLeft values sources outer whole left next
     set_more set left lists next way (own, e, are, named, placed) =
-        let now : SetsLeft values sources whole (set ∷ left) (rows_inside sources outer lists) = record { gives = way.gives; are = way.are; folds = way.folds } in
+        let now : SetsLeft values sources whole (set ∷ left) (rows_inside sources outer lists) =
+        record { gives = way.gives; are = way.are; folds = way.folds } in
         let more : SetsLeft values sources whole left (rows_inside sources outer next) =
         named_more set left (rows_inside sources outer lists) (rows_inside sources outer next) own now e are named in
         record { gives = more.gives; are = more.are; placed = placed; folds = more.folds }
@@ -248,7 +264,8 @@ module _ (values : Values) (sources : List Named) (whole : Option Scope) (sound 
       set_stops_at error = set_stops set (drop (i + 1) all) lists error here
 
 -- each data set passes
-pub set_passes : (test : Transform → Bool) (all : List DataSet) (i : ℕ) (set : DataSet) → All (OfTransforms test) all → i < length all → set ≡ get_or all i set → OfTransforms test set
+pub set_passes : (test : Transform → Bool) (all : List DataSet) (i : ℕ) (set : DataSet)
+    → All (OfTransforms test) all → i < length all → set ≡ get_or all i set → OfTransforms test set
 set_passes test all i set each lt at = subst (OfTransforms test) (sym at) (each i set lt)
 
 -- where nothing is held
@@ -262,11 +279,13 @@ no_rows_are name = none_are
 pub no_rows_fold : (sets : List DataSet) → FoldsFit no_folds sets → SetsMayFold no_rows sets
 no_rows_fold sets folds = (no_folds, λ name. none_fit 1, folds)
 
-pub gives_outermost : (sources : List Named) (result : Result Lists EvalError) (given : Option Scope) → GivesInside sources no_rows result given → GivesLists sources result given
+pub gives_outermost : (sources : List Named) (result : Result Lists EvalError) (given : Option Scope)
+    → GivesInside sources no_rows result given → GivesLists sources result given
 gives_outermost sources (Ok lists) given gives = gives ∙ (λ i. Some (λ name. map datum_of (nothing_outside sources lists name i)))
 gives_outermost sources (Err Overflow) given gives = gives
 gives_outermost sources (Err Memory) given gives = tt
 
-pub are_outermost : (sources : List Named) (result : Result Lists EvalError) → IfOk result (λ lists. AreAllRows (rows_inside sources no_rows lists)) → IfOk result (AreLists sources)
+pub are_outermost : (sources : List Named) (result : Result Lists EvalError)
+    → IfOk result (λ lists. AreAllRows (rows_inside sources no_rows lists)) → IfOk result (AreLists sources)
 are_outermost sources (Ok lists) are = λ name. subst AreRows (nothing_outside sources lists name) (are name)
 are_outermost sources (Err error) are = tt

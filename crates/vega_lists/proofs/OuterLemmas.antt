@@ -1,5 +1,7 @@
 -- What names stand for in an object that holds copies of the outer lists that it reads.
-use Rattle.std.proofs.Common.{◌≡◌, ℕ, suc, ◌+◌, ◌<◌, Bool, true, false, cond, is_some, IsTrue, IfSome, List, [], ◌∷◌, ◌++◌, take, map, length, get_or, All, Option, Some, None, unwrap_or, option_map, Result, Ok, Err, IfOk, refl, sym, ap, ◌∙◌, subst, lit≤, arith}
+use Rattle.std.proofs.Common.{◌≡◌, ℕ, suc, ◌+◌, ◌<◌, Bool, true, false, cond, is_some, IsTrue, IfSome, List, [], ◌∷◌, ◌++◌, take, map}
+use Rattle.std.proofs.Common.{length, get_or, All, Option, Some, None, unwrap_or, option_map, Result, Ok, Err, IfOk, refl, sym, ap, ◌∙◌}
+use Rattle.std.proofs.Common.{subst, lit≤, arith}
 use Rattle.std.specs.Option.{option_map_or}
 use Rattle.std.specs.BTreeMap as tree
 use Rattle.std.specs.Str.{bytes_eq}
@@ -52,7 +54,8 @@ module _ (sources : List Named) (outer : RowsByName) (lists : Lists) (name : Lis
   pub named_inside : (P : List Keyed → Type 0) → P [] → P (rows_inside sources outer lists name) → P (rows_named sources lists name)
   named_inside P none = by_case (tree.get_by_text lists.by_name name)
     where
-      by_case : (o : Option RowsIn) → P (unwrap_or (option_map (rows_there sources lists.made) o) (outer name)) → P (rows_there sources lists.made (unwrap_or o Nothing))
+      by_case : (o : Option RowsIn) → P (unwrap_or (option_map (rows_there sources lists.made) o) (outer name))
+          → P (rows_there sources lists.made (unwrap_or o Nothing))
       by_case None h = none
       by_case (Some place) h = h
 
@@ -96,7 +99,8 @@ module _ (outer : RowsByName) where
     placed = y.placed;
   }
 
-  module _ (old new : Lists) (name : List ℕ) (made : new.made ≡ old.made ++ outer name ∷ []) (put : IsPut old.by_name name (Made (length old.made)) new.by_name) where
+  module _ (old new : Lists) (name : List ℕ) (made : new.made ≡ old.made ++ outer name ∷ [])
+      (put : IsPut old.by_name name (Made (length old.made)) new.by_name) where
     as_before : (b : Bool) (rows before : List Keyed) → (b ≡ true → rows ≡ before) → cond b rows before ≡ before
     as_before true rows before same = same refl
     as_before false rows before same = refl
@@ -121,7 +125,8 @@ module _ (outer : RowsByName) where
           ∙ as_before (bytes_eq name other) (outer name) (rows_inside sources outer old other)
           (λ e. subst (λ n. outer name ≡ rows_inside sources outer old n) ((bytes_eq-Decides name other).0 e)
           (held_nowhere (tree.get_by_text old.by_name name) (rows_there sources old.made) (outer name) none));
-      kept = λ other h. subst (λ o. IsTrue (is_some o)) (sym (put other)) (still_held (bytes_eq name other) (Made (length old.made)) (tree.get_by_text old.by_name other) h);
+      kept = λ other h. subst (λ o. IsTrue (is_some o)) (sym (put other))
+          (still_held (bytes_eq name other) (Made (length old.made)) (tree.get_by_text old.by_name other) h);
       placed = placed_made old new name (outer name) made put placed;
     }
 
@@ -134,7 +139,8 @@ module _ (outer : RowsByName) where
   kept_where old new None takes h = h
   kept_where old new (Some name) takes h = takes.kept name h
 
-  pub takes_more : (old now next : Lists) (ts : List Transform) (i : ℕ) (t : Transform) → i < length ts → t ≡ get_or ts i t → TakesSoFar outer old (take i ts) now
+  pub takes_more : (old now next : Lists) (ts : List Transform) (i : ℕ) (t : Transform)
+      → i < length ts → t ≡ get_or ts i t → TakesSoFar outer old (take i ts) now
       → TakesIn outer now next → HoldsRead next t → TakesSoFar outer old (take (i + 1) ts) next
   takes_more old now next ts i t lt at so_far takes holds = record {
     takes = takes_both old now next so_far.takes takes;
@@ -166,7 +172,8 @@ module _ (outer : RowsByName) (old : Lists) where
   then_takes now (Ok next) takes more = takes_both outer old now next takes more
   then_takes now (Err refused) takes more = tt
 
-  pub then_held : (result : Result Lists OutOfMemory) (name : Option (List ℕ)) → IfOk result (TakesIn outer old) → IsHeldWhere old name → IfOk result (λ next. IsHeldWhere next name)
+  pub then_held : (result : Result Lists OutOfMemory) (name : Option (List ℕ))
+      → IfOk result (TakesIn outer old) → IsHeldWhere old name → IfOk result (λ next. IsHeldWhere next name)
   then_held (Ok next) name takes held = kept_where outer old next name takes held
   then_held (Err refused) name takes held = tt
 
@@ -198,7 +205,8 @@ module _ (values : Values) (a b : Scope) where
       all_alike (transforms_of set) (option_map_or a set.source (list_named sources set.name)) h
       ∙ ap (all_transformed values b (transforms_of set)) (by_case set.source source)
     where
-      by_case : (o : Option (List ℕ)) → IfSome o (λ name. a name ≡ b name) → option_map_or a o (list_named sources set.name) ≡ option_map_or b o (list_named sources set.name)
+      by_case : (o : Option (List ℕ)) → IfSome o (λ name. a name ≡ b name)
+          → option_map_or a o (list_named sources set.name) ≡ option_map_or b o (list_named sources set.name)
       by_case None h = refl
       by_case (Some name) h = h
 

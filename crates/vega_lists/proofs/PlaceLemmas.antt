@@ -1,5 +1,6 @@
 -- Which rows the names stand for once a name is put.
-use Rattle.std.proofs.Common.{◌≡◌, ℕ, ◌+◌, ◌<◌, ◌≤◌, Bool, true, false, cond, if◌then◌else◌, List, [], ◌∷◌, ◌++◌, drop, map, length, get_or, slice_get, Option, Some, None, unwrap_or, option_map, refl, sym, ap, ◌∙◌, subst, arith}
+use Rattle.std.proofs.Common.{◌≡◌, ℕ, ◌+◌, ◌<◌, ◌≤◌, Bool, true, false, cond, if◌then◌else◌, List, [], ◌∷◌, ◌++◌, drop, map, length, get_or}
+use Rattle.std.proofs.Common.{slice_get, Option, Some, None, unwrap_or, option_map, refl, sym, ap, ◌∙◌, subst, arith}
 use Rattle.std.specs.Option.{option_map_or}
 use Rattle.std.specs.BTreeMap as tree
 use Rattle.std.specs.Map.{lookup}
@@ -77,7 +78,8 @@ module _ (sources : List Named) (old new : Lists) (name : List ℕ) where
   made_there rows = unwrap_or-slice_get (old.made ++ rows ∷ []) (length old.made) [] ∙ get_or-append_seam old.made rows [] []
 
   made_either : (rows : List Keyed) (b : Bool) (o : Option RowsIn) → IsThere (length old.made) (unwrap_or o Nothing)
-      → option_map (rows_there sources (old.made ++ rows ∷ [])) (cond b (Some (Made (length old.made))) o) ≡ cond b (Some rows) (option_map (rows_there sources old.made) o)
+      → option_map (rows_there sources (old.made ++ rows ∷ [])) (cond b (Some (Made (length old.made))) o)
+      ≡ cond b (Some rows) (option_map (rows_there sources old.made) o)
   made_either rows true o h = ap Some (made_there rows)
   made_either rows false None h = refl
   made_either rows false (Some p) h = ap Some (kept_there rows p h)
@@ -91,13 +93,15 @@ module _ (sources : List Named) (old new : Lists) (name : List ℕ) where
       ∙ made_either rows (bytes_eq name other) (tree.get_by_text old.by_name other) (placed other)
 
 module _ (old new : Lists) (name : List ℕ) where
-  pub placed_put : (place : RowsIn) → new.made ≡ old.made → IsPut old.by_name name place new.by_name → IsThere (length old.made) place → ArePlaced old → ArePlaced new
+  pub placed_put : (place : RowsIn) → new.made ≡ old.made → IsPut old.by_name name place new.by_name
+      → IsThere (length old.made) place → ArePlaced old → ArePlaced new
   placed_put place same put there placed other =
       subst (λ made. IsThere (length made) (place_named new.by_name other)) (sym same)
       (subst (IsThere (length old.made)) (sym (put_named old.by_name new.by_name name place put other))
       (there_either (length old.made) (bytes_eq name other) place (place_named old.by_name other) there (placed other)))
 
-  pub placed_made : (rows : List Keyed) → new.made ≡ old.made ++ rows ∷ [] → IsPut old.by_name name (Made (length old.made)) new.by_name → ArePlaced old → ArePlaced new
+  pub placed_made : (rows : List Keyed) → new.made ≡ old.made ++ rows ∷ []
+      → IsPut old.by_name name (Made (length old.made)) new.by_name → ArePlaced old → ArePlaced new
   placed_made rows same put placed other =
       let more : length (old.made ++ rows ∷ []) ≡ length old.made + 1 = length-append old.made (rows ∷ []) in
       subst (λ made. IsThere (length made) (place_named new.by_name other)) (sym same)
@@ -118,7 +122,8 @@ no_places places e name = ap (λ entries. unwrap_or (lookup (λ k. is_eq (slice_
 
 -- a source more, from the last to the first
 pub record ArePlacesFrom (sources : List Named) (i : ℕ) (places : Places) : Type 0 where
-  pub read : (made : List (List Keyed)) (name : List ℕ) → map datum_of (rows_there sources made (place_named places name)) ≡ list_named (map dataset_of (drop i sources)) name
+  pub read : (made : List (List Keyed)) (name : List ℕ)
+      → map datum_of (rows_there sources made (place_named places name)) ≡ list_named (map dataset_of (drop i sources)) name
   pub there : (n : ℕ) (name : List ℕ) → IsThere n (place_named places name)
 
 named_either : (sources : List Named) (source : Named) (others : List Named) (i : ℕ) (made : List (List Keyed)) (b : Bool) (q : RowsIn) (name : List ℕ)
@@ -132,14 +137,18 @@ pub one_source : (sources : List Named) (i : ℕ) (source : Named) (old new : Pl
 one_source sources i source old new lt at from put = record {
   read = λ made name.
       ap (λ p. map datum_of (rows_there sources made p)) (put_named old new source.name (Source i) put name)
-      ∙ named_either sources source (drop (i + 1) sources) i made (bytes_eq source.name name) (place_named old name) name (slice_get_read sources (length sources) i source refl lt at) (from.read made name)
-      ∙ ap (λ (l : List Named). list_named (map dataset_of l) name) (sym (drop_more sources i source lt ∙ ap (λ (s : Named). s ∷ drop (i + 1) sources) (sym at)));
-  there = λ n name. subst (IsThere n) (sym (put_named old new source.name (Source i) put name)) (there_either n (bytes_eq source.name name) (Source i) (place_named old name) tt (from.there n name));
+      ∙ named_either sources source (drop (i + 1) sources) i made (bytes_eq source.name name) (place_named old name) name
+      (slice_get_read sources (length sources) i source refl lt at) (from.read made name)
+      ∙ ap (λ (l : List Named). list_named (map dataset_of l) name)
+      (sym (drop_more sources i source lt ∙ ap (λ (s : Named). s ∷ drop (i + 1) sources) (sym at)));
+  there = λ n name. subst (IsThere n) (sym (put_named old new source.name (Source i) put name))
+      (there_either n (bytes_eq source.name name) (Source i) (place_named old name) tt (from.there n name));
 }
 
 pub no_sources_yet : (sources : List Named) (places : Places) → tree.IsEmpty places → ArePlacesFrom sources (length sources) places
 no_sources_yet sources places e = record {
-  read = λ made name. ap (λ p. map datum_of (rows_there sources made p)) (no_places places e name) ∙ ap (λ (l : List Named). list_named (map dataset_of l) name) (sym (drop_all sources));
+  read = λ made name. ap (λ p. map datum_of (rows_there sources made p)) (no_places places e name)
+      ∙ ap (λ (l : List Named). list_named (map dataset_of l) name) (sym (drop_all sources));
   there = λ n name. subst (IsThere n) (sym (no_places places e name)) tt;
 }
   where

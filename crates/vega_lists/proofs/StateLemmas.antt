@@ -41,7 +41,8 @@ record IsRow (next : ℕ) (row : Datum) : Type 0 where
   pub branch : row.key.branch ≡ 0
 
 module _ (next : ℕ) (least : next ≤ greatest_id + 1) where
-  read_source : (rows : List Datum) → All (IsRow next) rows → length rows ≤ most_rows → AllPairs (λ a b. a < b) (ids_of rows) → AreKeys (data_keys rows) × KeysFit 1 (data_keys rows)
+  read_source : (rows : List Datum) → All (IsRow next) rows → length rows ≤ most_rows
+      → AllPairs (λ a b. a < b) (ids_of rows) → AreKeys (data_keys rows) × KeysFit 1 (data_keys rows)
   read_source rows each few rise =
       let key : Datum → Key = λ row. row.key in (
         record {
@@ -72,7 +73,8 @@ module _ (next : ℕ) (least : next ≤ greatest_id + 1) where
   each_source (source ∷ others) each few rise (suc k) d lt =
       let rows = map datum_of source.rows in
       let later = flat_map (λ (source : Dataset). source.rows) (map dataset_of others) in
-      each_source others (back (IsRow next) rows later each) (omega (arith, few, length-append rows later)) (λ i e below. rise (suc i) e (omega arith)) k d (omega (arith, lt))
+      each_source others (back (IsRow next) rows later each) (omega (arith, few, length-append rows later))
+      (λ i e below. rise (suc i) e (omega arith)) k d (omega (arith, lt))
 
 -- the sources of a state are such as named lists ask of them
 pub sources_of_state : (st : ChartState) → IsState (state_of st) → AreSources st.sources

@@ -1,5 +1,6 @@
 -- One transform after the other.
-use Rattle.std.proofs.Common.{◌≡◌, ℕ, zero, suc, ◌+◌, ◌-◌, ◌*◌, ◌<◌, ◌≤◌, Bool, IsTrue, List, [], ◌∷◌, take, drop, map, length, get_or, Option, Some, Err, sym, ap, ◌∙◌, subst, arith}
+use Rattle.std.proofs.Common.{◌≡◌, ℕ, zero, suc, ◌+◌, ◌-◌, ◌*◌, ◌<◌, ◌≤◌, Bool, IsTrue, List, [], ◌∷◌, take, drop, map, length, get_or}
+use Rattle.std.proofs.Common.{Option, Some, Err, sym, ap, ◌∙◌, subst, arith}
 use Rattle.std.proofs.Math.Seq.{take-length}
 use Rattle.std.proofs.lemmas.List.{drop_more}
 use Rattle.fixed_num.specs.Ranges.{◌>>=◌}
@@ -18,7 +19,8 @@ use Rattle.vega_lists.specs.Held.{MayFold}
 use Rattle.vega_lists.proofs.KeyLemmas.{data_keys, keys_seen, transformed_fits}
 
 -- the element at a place passes
-pub passes_at : (test : Transform → Bool) (ts : List Transform) (i : ℕ) (t : Transform) → AllTransforms test ts → i < length ts → t ≡ get_or ts i t → IsTrue (test t)
+pub passes_at : (test : Transform → Bool) (ts : List Transform) (i : ℕ) (t : Transform)
+    → AllTransforms test ts → i < length ts → t ≡ get_or ts i t → IsTrue (test t)
 passes_at test ts i t all lt at = subst (λ x. IsTrue (test x)) (sym at) (all i t lt)
 
 pub first_may_fold : (rows : List Keyed) (t : Transform) (ts : List Transform) → MayFold rows (t ∷ ts) → MayFold rows (t ∷ [])
@@ -73,7 +75,8 @@ module _ (values : Values) (scope : Scope) (whole : Option (List Datum)) where
   more_at ts i t made next lt at way = one_more (drop (i + 1) ts) t made next (at_place ts i t made lt at way)
 
 -- after the first transform the others may fold
-pub rest_may_fold : (values : Values) (scope : Scope) (rows made : List Keyed) (first : Transform) (ts : List Transform) → MayFold rows ts → 1 ≤ length ts → first ≡ get_or ts 0 first
+pub rest_may_fold : (values : Values) (scope : Scope) (rows made : List Keyed) (first : Transform) (ts : List Transform)
+    → MayFold rows ts → 1 ≤ length ts → first ≡ get_or ts 0 first
     → transformed values scope first (map datum_of rows) ≡ Some (map datum_of made) → MayFold made (take (length ts - 1) (drop 1 ts))
 rest_may_fold values scope rows made first [] folds some at e = absurd (omega arith)
 rest_may_fold values scope rows made first (t ∷ ts) folds some at e =

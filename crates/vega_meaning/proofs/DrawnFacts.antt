@@ -93,7 +93,8 @@ choices_long [] = (refl, tt)
 choices_long (cells ∷ others) =
     each-flat (AreSoMany (suc (length others))) (λ cell. map (λ rest. cell ∷ rest) (choices others))
     (λ cell. each-map (AreSoMany (suc (length others))) (λ rest. cell ∷ rest) (choices others)
-    (each_weaker (AreSoMany (length others)) (λ rest. length (cell ∷ rest) ≡ suc (length others)) (λ rest is. ap suc is) (choices others) (choices_long others)))
+    (each_weaker (AreSoMany (length others)) (λ rest. length (cell ∷ rest) ≡ suc (length others))
+    (λ rest is. ap suc is) (choices others) (choices_long others)))
     cells
 
 each_first : {X : Type 0} (P : X → Type 0) (alike : X → X → Bool) (before xs : List X) → Each P xs → Each P (firsts_behind alike before xs)

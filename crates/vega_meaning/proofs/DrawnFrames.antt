@@ -137,7 +137,8 @@ own_of_chart of name (s ∷ ss) [] fits = absurd fits
 own_of_chart of name (s ∷ ss) (d ∷ ds) fits = by_tests (of s) (bytes_eq s.name name) refl refl (own_of_chart of name ss ds fits.1)
   where
     by_tests : (a b : Bool) → of s ≡ a → bytes_eq s.name name ≡ b
-        → option_map of_specification (find (named name) (filter (λ (s : ScaleHere). s.is_of_chart) (own_scales of ss ds))) ≡ find (has_name name) (filter of ss)
+        → option_map of_specification (find (named name) (filter (λ (s : ScaleHere). s.is_of_chart) (own_scales of ss ds)))
+        ≡ find (has_name name) (filter of ss)
         → option_map of_specification (find (named name) (cond (of s) (own_scale of (s, d) ∷ filter (λ (s : ScaleHere). s.is_of_chart) (own_scales of ss ds))
         (filter (λ (s : ScaleHere). s.is_of_chart) (own_scales of ss ds))))
         ≡ find (has_name name) (cond (of s) (s ∷ filter of ss) (filter of ss))
@@ -151,20 +152,24 @@ all_pass (x ∷ xs) = ap (λ rest. x ∷ rest) (all_pass xs)
 
 -- where none of an object's own has a name, none is found
 no_own : (name : List ℕ) (scales : List VegaScale) (domains : List Scaled) → AllZip FitsScale scales domains
-    → option_map of_specification (find (named_here name) (own_scales of_no_chart scales domains)) ≡ None → has_scale (own_scales of_no_chart scales domains) name ≡ false
+    → option_map of_specification (find (named_here name) (own_scales of_no_chart scales domains)) ≡ None
+    → has_scale (own_scales of_no_chart scales domains) name ≡ false
 no_own name [] [] fits none = refl
 no_own name [] (d ∷ ds) fits none = absurd fits
 no_own name (s ∷ ss) [] fits none = absurd fits
 no_own name (s ∷ ss) (d ∷ ds) fits none = by_test (bytes_eq s.name name) refl none (λ e. no_own name ss ds fits.1 e)
   where
     by_test : (b : Bool) → bytes_eq s.name name ≡ b
-        → option_map of_specification (cond (bytes_eq s.name name) (Some (own_scale of_no_chart (s, d))) (find (named_here name) (own_scales of_no_chart ss ds))) ≡ None
+        → option_map of_specification
+        (cond (bytes_eq s.name name) (Some (own_scale of_no_chart (s, d))) (find (named_here name) (own_scales of_no_chart ss ds))) ≡ None
         → (option_map of_specification (find (named_here name) (own_scales of_no_chart ss ds)) ≡ None → has_scale (own_scales of_no_chart ss ds) name ≡ false)
         → list_any (λ (x : ScaleHere). bytes_eq (name_of x) name) (own_scale of_no_chart (s, d) ∷ own_scales of_no_chart ss ds) ≡ false
     by_test true is e rest =
-        absurd (cc (sym (ap (λ b. option_map of_specification (cond b (Some (own_scale of_no_chart (s, d))) (find (named_here name) (own_scales of_no_chart ss ds)))) is) ∙ e))
+        absurd (cc (sym (ap (λ b.
+        option_map of_specification (cond b (Some (own_scale of_no_chart (s, d))) (find (named_here name) (own_scales of_no_chart ss ds)))) is) ∙ e))
     by_test false is e rest =
-        rw is (rest (sym (ap (λ b. option_map of_specification (cond b (Some (own_scale of_no_chart (s, d))) (find (named_here name) (own_scales of_no_chart ss ds)))) is) ∙ e))
+        rw is (rest (sym (ap (λ b.
+        option_map of_specification (cond b (Some (own_scale of_no_chart (s, d))) (find (named_here name) (own_scales of_no_chart ss ds)))) is) ∙ e))
 
 both_true : (a b : Bool) → (a && b) ≡ true → b ≡ true
 both_true true b e = e
@@ -350,7 +355,8 @@ module _ (o : Object) (facts : Facts) (keeps : KeepsObject o) (are : FactsAre o 
 
   top_scale : (name : List ℕ) → scale_among (chart_scales tops) tops name ≡ find (has_name name) (scales_of_top o)
   top_scale name =
-      ap₂ option_or (own_here (of_chart o.layout) name o.scales facts.domains are.domains) (own_of_chart (of_chart o.layout) name o.scales facts.domains are.domains)
+      ap₂ option_or (own_here (of_chart o.layout) name o.scales facts.domains are.domains)
+      (own_of_chart (of_chart o.layout) name o.scales facts.domains are.domains)
       ∙ sym (find-append (has_name name) (filter (λ s. not (of_chart o.layout s)) o.scales) (filter (of_chart o.layout) o.scales))
 
   abbrev bare_top : Frame
@@ -368,7 +374,8 @@ module _ (o : Object) (facts : Facts) (keeps : KeepsObject o) (are : FactsAre o 
         kept = subst (Each IsKeptHere) all (own_kept (of_chart o.layout) o.scales facts.domains keeps.scales keeps.bounds are.domains);
       }
 
-  pub top_frame_is : (width height : Option Size) (here : Frame) → IsSizeKept width → IsSizeKept height → top_frame width height o facts ≡ Some here → IsTop o here
+  pub top_frame_is : (width height : Option Size) (here : Frame) → IsSizeKept width
+      → IsSizeKept height → top_frame width height o facts ≡ Some here → IsTop o here
   top_frame_is width height here w h e = by_layout (is_some o.layout) refl e
     where
       by_layout : (b : Bool) → is_some o.layout ≡ b → cond b (Some (as_grid o bare_top)) (sized_top width height bare_top) ≡ Some here → IsTop o here

@@ -42,7 +42,8 @@ few_panels {A} n o a e = by_test (nat_lt most_panels n) e
     by_test false f = f
 
 -- what is drawn is drawn over names
-pub drawing_is : (g : VgSpec) (stores : Values) (params : Valued) (sources : List Dataset) (drawing : Drawing) → drawing_of g stores params sources ≡ Drawn drawing
+pub drawing_is : (g : VgSpec) (stores : Values) (params : Valued) (sources : List Dataset) (drawing : Drawing)
+    → drawing_of g stores params sources ≡ Drawn drawing
     → (names : Names) × (drawing_over g sources (outline_of g) names ≡ Some drawing)
 drawing_is g stores params sources drawing e =
     let top : Opened = outline_of g in
@@ -66,7 +67,8 @@ picture_with scene inverts = record { scene = scene; inverts = inverts }
 pub picture_is : (g : VgSpec) (st : State) (picture : Picture) → vega_picture_of g st ≡ Drawn picture → IsPictureOf g st picture
 picture_is g st picture e =
     let first = drawn_first (drawing_of g (values_of_stores st.stores) st.params st.sources) (picture_of g st.stores) picture e in
-    let second = drawn_first (brushed_scene g st.stores first.0.scales first.0.scene) (λ scene. Drawn (picture_with scene (inverts_in g first.0))) picture first.2 in
+    let second = drawn_first (brushed_scene g st.stores first.0.scales first.0.scene)
+    (λ scene. Drawn (picture_with scene (inverts_in g first.0))) picture first.2 in
     let same : picture_with second.0 (inverts_in g first.0) ≡ picture = cc second.2 in
     record {
       drawing = first.0;
@@ -77,7 +79,8 @@ picture_is g st picture e =
     }
 
 -- and over the names of the top
-pub drawing_named : (g : VgSpec) (stores : Values) (params : Valued) (sources : List Dataset) (drawing : Drawing) → drawing_of g stores params sources ≡ Drawn drawing
+pub drawing_named : (g : VgSpec) (stores : Values) (params : Valued) (sources : List Dataset) (drawing : Drawing)
+    → drawing_of g stores params sources ≡ Drawn drawing
     → (names : Names) × (names_at_top stores params sources (outline_of g).object ≡ Some names) × (drawing_over g sources (outline_of g) names ≡ Some drawing)
 drawing_named g stores params sources drawing e =
     let top : Opened = outline_of g in
@@ -85,5 +88,8 @@ drawing_named g stores params sources drawing e =
     in_reach (plots_in_facets sources top.marks false (is_some top.object.layout) names) >>= λ plots.
     with_panels plots (in_reach (drawing_over g sources top names))) drawing e in
     let second = reached (plots_in_facets sources top.marks false (is_some top.object.layout) first.0) (λ plots.
-    with_panels plots (in_reach (drawing_over g sources top first.0))) drawing first.2 in
-    (first.0, first.1, in_reach_is (drawing_over g sources top first.0) drawing (few_panels second.0 (in_reach (drawing_over g sources top first.0)) drawing second.2))
+    with_panels plots (in_reach (drawing_over g sources top first.0))) drawing first.2 in (
+      first.0,
+      first.1,
+      in_reach_is (drawing_over g sources top first.0) drawing (few_panels second.0 (in_reach (drawing_over g sources top first.0)) drawing second.2),
+    )

@@ -186,7 +186,8 @@ found_of_chart width height name (s ∷ ss) = by_test (named name s) (found_of_c
 abbrev pub IsSound : ScaleIn → Type 0
 IsSound s = IsScale s.scale
 
-pub laid_sound : (width height : ℤ) → IsPixel width → IsPixel height → (scales : List ScaleHere) → Each IsKeptHere scales → Each IsSound (map (scale_in width height) scales)
+pub laid_sound : (width height : ℤ) → IsPixel width → IsPixel height → (scales : List ScaleHere)
+    → Each IsKeptHere scales → Each IsSound (map (scale_in width height) scales)
 laid_sound width height w h [] kept = tt
 laid_sound width height w h (s ∷ ss) kept =
     (scale_is s.scale width height kept.0.built kept.0.bounds w h s.domain kept.0.fits, laid_sound width height w h ss kept.1)
@@ -236,7 +237,8 @@ part_later of_chart n m xs ys (OfPlot here) e h = (
       record { place = total xs + s.place; at = omega (arith, at, e); stretch = s.stretch; there = at_later xs ys s.place ∙ s.there; is = s.is },
 )
 
-view_first : (of_chart : List ScaleIn) (n : ℕ) (xs ys : List Stretch) (vs : List Placed) → Each (IsView of_chart n xs) vs → Each (IsView of_chart n (xs ++ ys)) vs
+view_first : (of_chart : List ScaleIn) (n : ℕ) (xs ys : List Stretch) (vs : List Placed)
+    → Each (IsView of_chart n xs) vs → Each (IsView of_chart n (xs ++ ys)) vs
 view_first of_chart n xs ys =
     each_weaker (IsView of_chart n xs) (IsView of_chart n (xs ++ ys))
     (λ v. each_weaker (IsPart of_chart n xs) (IsPart of_chart n (xs ++ ys)) (part_first of_chart n xs ys) v.parts)
@@ -344,7 +346,8 @@ module _ (items : ItemsOfMarks) (chart : List ScaleHere) (width height : ℤ) (c
       (all_parts (IsPart of_chart n js) vs (within vs refl)))
 
   module _ (n : ℕ) (o : Object) (marks : Marks) (found : Found) (r : Round) (frame : Frame) (numbers : IsNumbered n marks) where
-    plot_is : FrameIs chart r frame → HasPixels frame → (v : Placed) (p : Option Plot) → plot_of items o marks found frame ≡ p → option_map placed_plot p ≡ Some v
+    plot_is : FrameIs chart r frame → HasPixels frame → (v : Placed) (p : Option Plot)
+        → plot_of items o marks found frame ≡ p → option_map placed_plot p ≡ Some v
         → IsView of_chart n (plot_in (count_marks marks) r ∷ []) v
     plot_is h pixels v None is e = absurd (cc e)
     plot_is h pixels v (Some p) is e =
@@ -396,10 +399,13 @@ module _ (items : ItemsOfMarks) (chart : List ScaleHere) (width height : ℤ) (c
       (λ cell of v is. cell_view n o inside r frame grid keeps.0 numbers.0 h cell of v
       (λ f ws it same. views_are n inside cell.1.inside (inside_round o r) f (grid_here o cell.1.inside) 0 ws numbers.0 keeps.1 of.1 it same)
       (cell_at frame grid o cell.0 cell.1.facts) refl is)
-      (enumerate_from index (first_copies found)) (each-numbered (λ (c : CopyFound). FactsAre o c.facts × FoundIs inside c.inside) index (first_copies found) are.0)
+      (enumerate_from index (first_copies found))
+      (each-numbered (λ (c : CopyFound). FactsAre o c.facts × FoundIs inside c.inside) index (first_copies found) are.0)
       parts.0 parts.2 in
-      let rest = views_are (n + count_marks inside) others (behind_first found) r frame grid (index + length (first_copies found)) parts.1 numbers.1 keeps.2 are.1 h parts.3 in
-      let size = total_object (is_some o.layout) (count_marks inside) (inside_round o r) (stretches (inside_round o r) inside) (total_count (inside_round o r) inside) in
+      let rest = views_are (n + count_marks inside) others (behind_first found) r frame grid
+      (index + length (first_copies found)) parts.1 numbers.1 keeps.2 are.1 h parts.3 in
+      let size = total_object (is_some o.layout) (count_marks inside) (inside_round o r)
+      (stretches (inside_round o r) inside) (total_count (inside_round o r) inside) in
       subst (Each (IsView of_chart n (here ++ stretches r others))) parts.4
       (each-append (IsView of_chart n (here ++ stretches r others)) parts.0 parts.1 (view_first of_chart n here (stretches r others) parts.0 own)
       (view_later of_chart n (n + count_marks inside) here (stretches r others) parts.1 (ap (λ k. n + k) (sym size)) rest))

@@ -1,5 +1,6 @@
 -- What is drawn of a specification: its panels are those of its plots, and its scales are such as callers ask for.
-use Rattle.std.proofs.Common.{◌≡◌, ◌≢◌, ℕ, zero, suc, ◌+◌, ◌<◌, ◌&&◌, Bool, true, false, cond, Option, Some, None, List, [], ◌∷◌, ◌++◌, map, refl, sym, ap, ap₂, subst, ◌∙◌, arith}
+use Rattle.std.proofs.Common.{◌≡◌, ◌≢◌, ℕ, zero, suc, ◌+◌, ◌<◌, ◌&&◌, Bool, true, false, cond, Option, Some, None, List, [], ◌∷◌, ◌++◌, map}
+use Rattle.std.proofs.Common.{refl, sym, ap, ap₂, subst, ◌∙◌, arith}
 use Rattle.std.specs.Prelude.{ℤ, find, flat_map, slice_get, ◌==◌}
 use Rattle.std.specs.Option.{option_map, option_or}
 use Rattle.std.specs.List.{All, enumerate_from}
@@ -106,7 +107,8 @@ of_panels n ps = flat_map scales_at (enumerate_from n ps)
 
 panels_sound : (n : ℕ) (ps : List PanelHere) → Each (λ (p : PanelHere). Each IsSound p.scales) ps → Each IsSound (of_panels n ps)
 panels_sound n [] h = tt
-panels_sound n (p ∷ ps) h = each-append IsSound (scales_at (n, p)) (of_panels (n + 1) ps) (each-map IsSound (scale_at n) p.scales h.0) (panels_sound (n + 1) ps h.1)
+panels_sound n (p ∷ ps) h =
+    each-append IsSound (scales_at (n, p)) (of_panels (n + 1) ps) (each-map IsSound (scale_at n) p.scales h.0) (panels_sound (n + 1) ps h.1)
 
 other_number : (a b : ℕ) → a ≢ b → (a == b) ≡ false
 other_number a b h = false_from_ne_true (a == b) (λ e. h ((Decides-eqb a b).0 e))
@@ -130,7 +132,8 @@ this_panel m n name (s ∷ ss) h =
     ∙ by_test (bytes_eq s.name name) (this_panel m n name ss h)
   where
     by_test : (b : Bool) → find (is_of_panel n name) (map (scale_at m) ss) ≡ option_map (scale_at m) (find (named_in name) ss)
-        → cond (true && b) (Some (scale_at m s)) (find (is_of_panel n name) (map (scale_at m) ss)) ≡ option_map (scale_at m) (cond b (Some s) (find (named_in name) ss))
+        → cond (true && b) (Some (scale_at m s)) (find (is_of_panel n name) (map (scale_at m) ss))
+        ≡ option_map (scale_at m) (cond b (Some s) (find (named_in name) ss))
     by_test true rest = refl
     by_test false rest = rest
 
@@ -167,7 +170,8 @@ of_its_panel n zero name (p ∷ ps) here is =
 of_its_panel n (suc k) name (p ∷ ps) here is =
     let at : (n + 1) + k ≡ n + suc k = omega arith in
     ap (option_map scale_only) (find-append (is_of_panel (n + suc k) name) (scales_at (n, p)) (of_panels (n + 1) ps)
-    ∙ ap (λ o. option_or o (find (is_of_panel (n + suc k) name) (of_panels (n + 1) ps))) (other_panel n (n + suc k) name p.scales (λ e. absurd (omega (arith, e)))))
+    ∙ ap (λ o. option_or o (find (is_of_panel (n + suc k) name) (of_panels (n + 1) ps)))
+    (other_panel n (n + suc k) name p.scales (λ e. absurd (omega (arith, e)))))
     ∙ subst (λ m. option_map scale_only (find (is_of_panel m name) (of_panels (n + 1) ps)) ≡ option_map scale_only (find (named_in name) here.scales)) at
     (of_its_panel (n + 1) k name ps here is)
 
@@ -247,7 +251,8 @@ module _ (g : VgSpec) (keeps : KeepsAll g) where
 
   of_view : (frame : Frame) (view : Placed) (drawing : Drawing) → Each IsSound (scales_of_chart frame)
       → IsView (scales_of_chart frame) 0 (js_of g) view → (blocks : Option (List Block))
-      → option_map (drawn (padding_round g.padding) (scales_of_chart frame) (content_of (padding_round g.padding) view)) blocks ≡ Some drawing → IsDrawnOf g drawing
+      → option_map (drawn (padding_round g.padding) (scales_of_chart frame) (content_of (padding_round g.padding) view)) blocks
+      ≡ Some drawing → IsDrawnOf g drawing
   of_view frame view drawing sound parts None e = absurd (cc e)
   of_view frame view drawing sound parts (Some blocks) e =
       let padding : ℤ = padding_round g.padding in
@@ -273,9 +278,11 @@ module _ (g : VgSpec) (keeps : KeepsAll g) where
       let kept = each-filter IsKeptHere (λ (s : ScaleHere). s.is_of_chart) frame.scales is.copy.is.kept in
       let view = first_some (view_of items_in_copy top.object top.marks found.inside frame) (λ view.
       drawing_with (padding_round g.padding) (scales_of_chart frame) view) drawing e in
-      let parts = top_view items_in_copy (chart_scales frame.scales) frame.width frame.height kept top.object top.marks found.inside (top_round top.object) frame view.0
+      let parts = top_view items_in_copy (chart_scales frame.scales) frame.width frame.height
+      kept top.object top.marks found.inside (top_round top.object) frame view.0
       (numbered_is 0 1 (opened g.group).marks) keeps.marks inside is.copy view.1 in
-      of_view frame view.0 drawing (laid_sound frame.width frame.height is.pixels.0 is.pixels.1 (chart_scales frame.scales) kept) parts (blocks_of view.0.legends) view.2
+      of_view frame view.0 drawing (laid_sound frame.width frame.height is.pixels.0 is.pixels.1 (chart_scales frame.scales) kept)
+      parts (blocks_of view.0.legends) view.2
 
   -- what is drawn over names
   pub drawn_of : (sources : List Dataset) (names : Names) (drawing : Drawing) → drawing_over g sources top names ≡ Some drawing → IsDrawnOf g drawing
@@ -294,4 +301,5 @@ scales_sound g drawing d =
     subst AreScales (sym d.scales)
     (all_of_each IsSound (map (scale_in d.width d.height) d.chart ++ of_panels 0 d.panels)
     (each-append IsSound (map (scale_in d.width d.height) d.chart) (of_panels 0 d.panels) d.sound
-    (panels_sound 0 d.panels (each_weaker (IsPanel (map (scale_in d.width d.height) d.chart) (js_of g)) (λ (p : PanelHere). Each IsSound p.scales) (λ p h. h.0) d.panels d.are))))
+    (panels_sound 0 d.panels (each_weaker (IsPanel (map (scale_in d.width d.height) d.chart) (js_of g))
+    (λ (p : PanelHere). Each IsSound p.scales) (λ p h. h.0) d.panels d.are))))

@@ -12,7 +12,8 @@ use Rattle.guide_kit.specs.declared.frames.Frame.{Frame as Sides}
 use Rattle.guide_kit.specs.declared.legends.Block.{Block}
 use Rattle.guide_kit.specs.declared.signs.Sign.{Sign}
 use Rattle.guide_kit.specs.declared.signs.Sign.TheVariants as sign
-use Rattle.guide_kit.specs.Axes.{grid_line, axis_line, tick_line, tick_label, axis_title, line_part, tick_part, label_part, title_part, axis_with, axis_ticks, axis_of, extent_of}
+use Rattle.guide_kit.specs.Axes.{grid_line, axis_line, tick_line, tick_label, axis_title, line_part, tick_part, label_part, title_part}
+use Rattle.guide_kit.specs.Axes.{axis_with, axis_ticks, axis_of, extent_of}
 use Rattle.guide_kit.specs.Items.{line_between}
 use Rattle.guide_kit.specs.Legends.{block_with, entries_of, sign_item, label_item, legend_with, rows_of, title_height}
 use Rattle.guide_kit.specs.Legends as legends

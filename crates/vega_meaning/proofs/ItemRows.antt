@@ -19,7 +19,8 @@ use Rattle.scene_tree.specs.declared.scene.Panel.{Panel}
 use Rattle.scene_tree.specs.declared.scene.Scene.{Scene}
 use Rattle.scale_kit.specs.declared.scale.ScaleIn.{ScaleIn}
 use Rattle.selection_events.specs.declared.selection.PlotOf.{PlotOf}
-use Rattle.selection_events.specs.Brushes.{brush_in, brush_item, brushed_at, brushed_with, panel_with, panels_with, span_along, with_extents_of, with_brush, all_brushed, with_brushes}
+use Rattle.selection_events.specs.Brushes.{brush_in, brush_item, brushed_at, brushed_with, panel_with, panels_with, span_along}
+use Rattle.selection_events.specs.Brushes.{with_extents_of, with_brush, all_brushed, with_brushes}
 use Rattle.selection_events.specs.Events.{Inverts}
 use Rattle.plot_scenes.specs.declared.axes.Axes.{Axes}
 use Rattle.plot_scenes.specs.declared.contents.Content.{Content}
@@ -109,7 +110,8 @@ cell_names : (outer : Frame) (grid : Grid) (o : Object) (index : ℕ) (facts : F
 cell_names outer grid o index facts here e = by_layout (is_some o.layout) e
   where
     by_layout : (b : Bool)
-        → (if b then Some (as_grid o (cell_copy outer o (spot_of grid.columns grid.cells index) facts)) else sized o (cell_copy outer o (spot_of grid.columns grid.cells index) facts))
+        → (if b then Some (as_grid o (cell_copy outer o (spot_of grid.columns grid.cells index) facts))
+        else sized o (cell_copy outer o (spot_of grid.columns grid.cells index) facts))
         ≡ Some here → here.names ≡ facts.names
     by_layout true e = ap names_of (sym (same_Some (as_grid o (cell_copy outer o (spot_of grid.columns grid.cells index) facts)) here e))
     by_layout false e = sized_names o (cell_copy outer o (spot_of grid.columns grid.cells index) facts) here e
@@ -265,7 +267,8 @@ module _ (rows : UnitLists) where
       view_round items_in_copy o inner cell.1.inside here (views_in items_in_copy inner cell.1.inside here (grid_here o cell.1.inside) 0) in
       let own = first_some (all_found (map give (enumerate_from index (first_copies found)))) (λ own.
       views_in items_in_copy others (behind_first found) frame grid (index + length (first_copies found)) >>= λ rest. Some (own ++ rest)) vs e in
-      let rest = first_some (views_in items_in_copy others (behind_first found) frame grid (index + length (first_copies found))) (λ rest. Some (own.0 ++ rest)) vs own.2 in
+      let rest = first_some (views_in items_in_copy others (behind_first found) frame grid (index + length (first_copies found)))
+      (λ rest. Some (own.0 ++ rest)) vs own.2 in
       let same : own.0 ++ rest.0 ≡ vs = cc rest.2 in
       let are = each_within of_copy (first_copies found) (λ u key there. within u key
       (first_within (flat_map (of_copy u) (first_copies found)) (rows_inside u others (behind_first found) names) key there)) in
@@ -279,7 +282,8 @@ module _ (rows : UnitLists) where
       view_has o inner cell.1.inside here.0 (views_in items_in_copy inner cell.1.inside here.0 (grid_here o cell.1.inside) 0) v
       (λ u key there. w u key (subst (λ (n : Names). IsThere (rows_inside u inner cell.1.inside n) key) standing there))
       (λ ws same. views_have inner cell.1.inside cell.1.facts.names here.0 (grid_here o cell.1.inside) 0 ws w same) here.2)
-      (enumerate_from index (first_copies found)) (each_numbered (λ (copy : CopyFound). AreWithin (λ unit. of_copy unit copy) rows) index (first_copies found) are)
+      (enumerate_from index (first_copies found))
+      (each_numbered (λ (copy : CopyFound). AreWithin (λ unit. of_copy unit copy) rows) index (first_copies found) are)
       own.0 own.1)
       (views_have others (behind_first found) names frame grid (index + length (first_copies found)) rest.0 (λ u key there. within u key
       (later_within (flat_map (of_copy u) (first_copies found)) (rows_inside u others (behind_first found) names) key there)) rest.1))
@@ -340,7 +344,8 @@ module _ (rows : UnitLists) where
     one_brushed panels after store [] h e = let same : panels ≡ after = cc e in subst (Each PanelHas) same h
     one_brushed panels after store (x ∷ xs) h e = with_place panels after store (brushed_at plots panels store) h e
 
-    all_have : (stores : List StoreOf) (panels after : List Panel) → Each PanelHas panels → all_brushed plots scale stores panels ≡ Some after → Each PanelHas after
+    all_have : (stores : List StoreOf) (panels after : List Panel) → Each PanelHas panels
+        → all_brushed plots scale stores panels ≡ Some after → Each PanelHas after
     all_have [] panels after h e = let same : panels ≡ after = cc e in subst (Each PanelHas) same h
     all_have (store ∷ stores) panels after h e =
         let first = first_some (with_brush plots scale store panels) (all_brushed plots scale stores) after e in
@@ -359,7 +364,8 @@ drawn_has : (g : VgSpec) (rows : UnitLists) (found : CopyFound) (drawing : Drawi
     → Each (PanelHas rows) drawing.scene.panels
 drawn_has g rows found drawing within e =
     let top = outline_of g in
-    let frame = first_some (top_frame g.width g.height top.object found.facts) (λ frame. view_of items_in_copy top.object top.marks found.inside frame >>= λ view.
+    let frame = first_some (top_frame g.width g.height top.object found.facts)
+    (λ frame. view_of items_in_copy top.object top.marks found.inside frame >>= λ view.
     drawing_with (padding_round g.padding) (scales_of_chart frame) view) drawing e in
     let view = first_some (view_of items_in_copy top.object top.marks found.inside frame.0) (λ view.
     drawing_with (padding_round g.padding) (scales_of_chart frame.0) view) drawing frame.2 in
@@ -367,7 +373,8 @@ drawn_has g rows found drawing within e =
     let here : AreWithin (λ unit. rows_inside unit top.marks found.inside frame.0.names) rows =
     λ u key there. within u key (subst (λ (n : Names). IsThere (rows_inside u top.marks found.inside n) key) standing there) in
     scene_has rows (padding_round g.padding) (scales_of_chart frame.0) view.0 drawing
-    (view_has rows top.object top.marks found.inside frame.0 (views_in items_in_copy top.marks found.inside frame.0 (grid_here top.object found.inside) 0) view.0 here
+    (view_has rows top.object top.marks found.inside frame.0
+    (views_in items_in_copy top.marks found.inside frame.0 (grid_here top.object found.inside) 0) view.0 here
     (λ vs is. views_have rows top.marks found.inside frame.0.names frame.0 (grid_here top.object found.inside) 0 vs here is) view.1) view.2
 
 pub items_have_rows : ItemsHaveRows
@@ -379,9 +386,11 @@ items_have_rows g st picture rules draws =
     let found = first_some (facts_of st.sources top.object top.marks names.0) (drawn_from_facts items_in_copy g top) p.drawing names.2 in
     let rows : UnitLists = rows_in g st in
     let same : (unit : ℕ) → rows unit ≡ rows_found unit top found.0 = λ unit.
-    ap (λ (o : Option Names). unwrap_or (o >>= λ names. facts_of st.sources top.object top.marks names >>= λ found. Some (rows_found unit top found)) []) names.1
+    ap (λ (o : Option Names).
+    unwrap_or (o >>= λ names. facts_of st.sources top.object top.marks names >>= λ found. Some (rows_found unit top found)) []) names.1
     ∙ ap (λ (o : Option CopyFound). unwrap_or (o >>= λ found. Some (rows_found unit top found)) []) found.1 in
     let drawn = drawn_has g rows found.0 p.drawing (λ unit key there. subst (λ r. IsThere r key) (sym (same unit)) there) found.2 in
     let all = brushed_have rows (plots_of g) (inverts_in g p.drawing) st.stores p.drawing.scene picture.scene drawn p.brushed in
     all_of_each _ picture.scene.panels
-    (each_weaker (PanelHas rows) (λ (panel : Panel). All (HasRow rows) panel.items) (λ panel h. all_of_each (HasRow rows) panel.items h) picture.scene.panels all)
+    (each_weaker (PanelHas rows) (λ (panel : Panel). All (HasRow rows) panel.items)
+    (λ panel h. all_of_each (HasRow rows) panel.items h) picture.scene.panels all)

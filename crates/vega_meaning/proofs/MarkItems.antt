@@ -74,7 +74,8 @@ there_named rows key name there = by_found (find (has_key key) rows) there
     by_found (Some d) h = refl
 
 -- an item of this unit and this key
-pub there_has : (rows : UnitLists) (item : Item) (unit : ℕ) (key : Key) → item.unit ≡ Some unit → item.key ≡ Some key → IsThere (rows unit) key → HasRow rows item
+pub there_has : (rows : UnitLists) (item : Item) (unit : ℕ) (key : Key)
+    → item.unit ≡ Some unit → item.key ≡ Some key → IsThere (rows unit) key → HasRow rows item
 there_has rows item unit key of keyed there hit e name =
     let hits : hit_with unit key ≡ hit =
     cc (sym (λ i. of i >>= λ unit. keyed i >>= λ key. Some (hit_with unit key)) ∙ e) in
@@ -266,6 +267,7 @@ pub mark_has : (rows : UnitLists) (unit : ℕ) (m : PlainMark) (frame : Frame) (
 mark_has rows unit m frame items within e =
     let own : List Datum = rows_of_mark frame.names.lists m.from in
     let first = first_some (items_in_plot frame unit m own) (λ items. all_found (map (moved_item frame.x frame.y) items)) items e in
-    let drawn = of_mark rows unit m.type own within (is_path m.type) frame.width frame.height (channel_values (set_of frame.width frame.height frame.scales) m.encode)
+    let drawn = of_mark rows unit m.type own within (is_path m.type) frame.width frame.height
+    (channel_values (set_of frame.width frame.height frame.scales) m.encode)
     frame.names.values (rows_in_order m.sort own) first.0 (rows_ordered (λ (d : Datum). IsThere own d.key) m.sort own (each_there own)) first.1 in
     all_given (moved_item frame.x frame.y) (HasRow rows) (HasRow rows) (moved_has rows frame.x frame.y) first.0 drawn items first.2

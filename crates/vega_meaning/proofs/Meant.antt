@@ -45,7 +45,8 @@ spans_are g =
     let o = (outline_of g).object in
     let marks = (outline_of g).marks in
     outline_spans g
-    ∙ sym (in_object_spanned (is_some o.layout) (top_round o) None None (scales_of_top o) (count_marks marks) (spans_of marks) (stretches (top_round o) marks) refl
+    ∙ sym (in_object_spanned (is_some o.layout) (top_round o) None None (scales_of_top o)
+    (count_marks marks) (spans_of marks) (stretches (top_round o) marks) refl
     (sizes_count marks) (spanned (top_round o) marks))
 
 -- and so are the scales
@@ -80,7 +81,8 @@ plot_there g plot u j is there =
     }
 
 -- a panel that has a plot has marks
-view_there : (plots : List PlotOf) (view : Option ℕ) (plot : PlotOf) → (view >>= plot_with plots) ≡ Some plot → (u : ℕ) × (view ≡ Some u) × (plot_with plots u ≡ Some plot)
+view_there : (plots : List PlotOf) (view : Option ℕ) (plot : PlotOf)
+    → (view >>= plot_with plots) ≡ Some plot → (u : ℕ) × (view ≡ Some u) × (plot_with plots u ≡ Some plot)
 view_there plots None plot e = absurd (cc e)
 view_there plots (Some u) plot e = (u, refl, e)
 
@@ -145,7 +147,8 @@ module _ (g : VgSpec) (drawing : Drawing) (d : IsDrawnOf g drawing) where
 
   -- a scale that a drag inverts there
   inverted_there : (index u : ℕ) (panel : Panel) (plot : PlotOf) (s : SelectionOf) (c : DragOf) (scale : Scale) → IsAt index u panel
-      → plot_with (plots_of g) u ≡ Some plot → inverts_in g drawing index s.name c.channel ≡ Some scale → IsScale scale × (is_time scale ≡ temporal_of g plot s c)
+      → plot_with (plots_of g) u ≡ Some plot → inverts_in g drawing index s.name c.channel ≡ Some scale
+      → IsScale scale × (is_time scale ≡ temporal_of g plot s c)
   inverted_there index u panel plot s c scale at is e =
       let p = plot_there g plot u at.stands.stretch is at.there in
       let v = some_of (find (is_named s.name) (selections_of g)) (λ v. inverted_by drawing.scales v index s.name c.channel) scale e in

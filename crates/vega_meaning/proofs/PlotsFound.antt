@@ -1,6 +1,6 @@
 -- The plot that has a mark is the stretch in which the mark stands.
-use Rattle.std.proofs.Common.{◌≡◌, ◌≢◌, ℕ, zero, suc, ◌+◌, ◌-◌, ◌<◌, ◌≤◌, nat_lt, not, ◌&&◌, ◌||◌, Bool, true, false, cond, Option, Some, None, List, [], ◌∷◌, ◌++◌, map}
-use Rattle.std.proofs.Common.{refl, sym, ap, ap₂, subst, ◌∙◌, arith}
+use Rattle.std.proofs.Common.{◌≡◌, ◌≢◌, ℕ, zero, suc, ◌+◌, ◌-◌, ◌<◌, ◌≤◌, nat_lt, not, ◌&&◌, ◌||◌, Bool, true, false, cond, Option, Some}
+use Rattle.std.proofs.Common.{None, List, [], ◌∷◌, ◌++◌, map, refl, sym, ap, ap₂, subst, ◌∙◌, arith}
 use Rattle.std.specs.Prelude.{find, slice_get, ◌==◌}
 use Rattle.std.specs.Option.{option_or, option_map_or}
 use Rattle.std.specs.List.{list_any}
@@ -206,7 +206,8 @@ found (s ∷ ss) n k plot is =
     by_size true small e later = by_kind (s.is_plot && not (s.size == 0)) (ltb-true k s.size small) refl e
     by_size false large e later =
         let past = ltb-false k s.size large in
-        let none = without n (span_of s) (n + k) (no_number s.size n (n + k) (λ j below same. absurd (omega (arith, past, below, same)))) (s.is_plot && not (s.size == 0)) refl in
+        let none = without n (span_of s) (n + k) (no_number s.size n (n + k) (λ j below same. absurd (omega (arith, past, below, same))))
+        (s.is_plot && not (s.size == 0)) refl in
         let rest = none_here (find (has_unit (n + k)) (plot_at n (span_of s))) (find (has_unit (n + k)) (numbered (n + s.size) (spans ss))) plot none e in
         let same : n + k ≡ n + s.size + (k - s.size) = omega (arith, past) in
         later_found s ss n k plot past

@@ -58,12 +58,14 @@ mark_from_group m group others = by_type (is_group (out-VgMark m)) refl
     by_type false e =
         ap spans_of (plain_first m others e)
         ∙ ap (λ own. own ++ spans_of others)
-        (sym (mark_spans_are m ∙ ap (λ b. cond b (of_group (out-VgMark m).from (spans_in (out-VgMark m).group)) (alone ∷ [])) (same_types (out-VgMark m).type_ ∙ e)))
+        (sym (mark_spans_are m ∙ ap (λ b. cond b (of_group (out-VgMark m).from (spans_in (out-VgMark m).group)) (alone ∷ []))
+        (same_types (out-VgMark m).type_ ∙ e)))
     by_type true e =
         ap spans_of (group_first m others e)
         ∙ ap (λ own. own ++ spans_of others)
         (ap₂ all_under (sym (same_fields (out-VgMark m).from)) (sym group)
-        ∙ sym (mark_spans_are m ∙ ap (λ b. cond b (of_group (out-VgMark m).from (spans_in (out-VgMark m).group)) (alone ∷ [])) (same_types (out-VgMark m).type_ ∙ e)))
+        ∙ sym (mark_spans_are m ∙ ap (λ b. cond b (of_group (out-VgMark m).from (spans_in (out-VgMark m).group)) (alone ∷ []))
+        (same_types (out-VgMark m).type_ ∙ e)))
 
 mutual
   group_spanned : (g : Group) → GroupSpanned g

@@ -1,6 +1,7 @@
 -- The marks of a specification in stretches, as the text has them, with the facets and the scales round them: they are the spans of the marks, and the
 -- scales of their plots.
-use Rattle.std.proofs.Common.{◌≡◌, ℕ, suc, ◌+◌, Bool, true, false, cond, Option, Some, None, List, [], ◌∷◌, ◌++◌, map, refl, sym, ap, ap₂, ◌∙◌, append_assoc, append-nil, arith}
+use Rattle.std.proofs.Common.{◌≡◌, ℕ, suc, ◌+◌, Bool, true, false, cond, Option, Some, None, List, [], ◌∷◌, ◌++◌, map, refl, sym, ap, ap₂}
+use Rattle.std.proofs.Common.{◌∙◌, append_assoc, append-nil, arith}
 use Rattle.std.specs.Prelude.{is_some, unwrap_or}
 use Rattle.std.specs.Option.{option_map}
 use Rattle.std.proofs.lemmas.List.{map-append}
@@ -137,7 +138,8 @@ sizes_count (AGroup o inside others) =
 -- the stretches of an object are its spans
 pub in_object_spanned : (b : Bool) (r : Round) (own : Option (List (List ℕ))) (facet : Option (List (List ℕ))) (scales : List VegaScale) (count : ℕ)
     (inside : List Span) (here : List Stretch) → facet ≡ more_fields r.facet own → size_of inside ≡ count → map span_of here ≡ all_under facet inside
-    → map span_of (cond b here (record { size = count; is_plot = true; facet = facet; scales = scales } ∷ [])) ≡ all_under r.facet (all_under own (as_object b inside))
+    → map span_of (cond b here (record { size = count; is_plot = true; facet = facet; scales = scales } ∷ []))
+    ≡ all_under r.facet (all_under own (as_object b inside))
 in_object_spanned true r own facet scales count inside here is counted same =
     same ∙ ap (λ fields. all_under fields inside) is ∙ sym (under_more r.facet own inside)
 in_object_spanned false r own facet scales count inside here is counted same =

@@ -13,7 +13,7 @@ use Rattle.spec_walk.specs.Paths.{path_of}
 use Rattle.vega_rules.specs.declared.fault.PlacedFault.{PlacedFault}
 use Rattle.vega_rules.specs.Faults.{sooner, earliest}
 use Rattle.vega_rules.specs.Rules.{rule_faults}
-use Rattle.vega_needs.specs.Cycles.{first_cycle}
+use Rattle.vega_rules.specs.Cycles.{first_cycle}
 
 -- the first fault by the table of members
 unfoldable pub fault_by_members : Json → Option Fault

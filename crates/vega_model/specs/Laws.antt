@@ -2,7 +2,7 @@
 use Rattle.std.specs.Prelude.{◌≡◌, None, Ok}
 use Rattle.vega_spec.specs.declared.spec.VgSpec.{VgSpec}
 use Rattle.vega_writing.specs.Spec.{tree_of}
-use Rattle.vega_round_trip.specs.Law.{HasCodes, HasReadings}
+use Rattle.vega_model.specs.RoundTrip.{HasCodes, HasReadings}
 use Rattle.vega_model.specs.Faults.{first_fault_of}
 use Rattle.vega_model.specs.Reading.{read_of}
 

@@ -9,9 +9,8 @@ use spec_schema::{Fault, earlier, first_fault};
 use spec_walk::path_of;
 use std::alloc::Global;
 use text_kit::{OutOfMemory, Seq};
-use vega_needs::first_in_need;
 use vega_parts::{Part, parts_of};
-use vega_rules::{PlacedFault, first_by_rules, sooner};
+use vega_rules::{PlacedFault, first_by_rules, first_in_need, sooner};
 use vega_schema::{TOP, vega_schema};
 
 // The first fault by the table of members.

@@ -3,7 +3,9 @@ use Rattle.std.specs.Prelude.{ℕ, ◌==◌, Bool, true, false, ◌||◌, if◌t
 use Rattle.json_exact.specs.declared.json.Json.{Json}
 use Rattle.spec_walk.specs.Walk.{seen_in}
 use Rattle.vega_schema.specs.Schema.{vega_schema}
-use Rattle.vega_schema.specs.declared.codes.TheConstants.{AXIS, CHANNEL, DATA, EXPRESSION, EXTENT, FACET, LABEL_FORMAT, LEGEND, MARK, MARK_FROM, REFERENCE, SCALE, SCALE_DOMAIN, SIGNAL, SIZE_CHANNEL, SIZE_EXPRESSION, SIZE_VALUE, SORT, TOP, TRANSFORM, VALUE, WORDS_CHANNEL, WORDS_VALUE}
+use Rattle.vega_schema.specs.declared.codes.TheConstants.{AXIS, CHANNEL, DATA, EXPRESSION, EXTENT, FACET, LABEL_FORMAT, LEGEND, MARK}
+use Rattle.vega_schema.specs.declared.codes.TheConstants.{MARK_FROM, REFERENCE, SCALE, SCALE_DOMAIN, SIGNAL, SIZE_CHANNEL, SIZE_EXPRESSION}
+use Rattle.vega_schema.specs.declared.codes.TheConstants.{SIZE_VALUE, SORT, TOP, TRANSFORM, VALUE, WORDS_CHANNEL, WORDS_VALUE}
 use Rattle.vega_parts.specs.declared.part.Part.{Part}
 use Rattle.vega_parts.specs.declared.part.Used.TheVariants as for_
 use Rattle.vega_parts.specs.Trails.{Trail, noted}

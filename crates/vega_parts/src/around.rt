@@ -1,7 +1,8 @@
 //! The values round a value.
 ghost use Rattle.std.specs.Prelude.{◌≡◌, ◌-◌, drop, length, map, reverse, IfOk};
 ghost use Rattle.std.specs.List.{list_any};
-ghost use Rattle.vega_parts.specs.Trails.{is_group, is_object, has_facet, noted, place_of, child, grandchild, object_at, object_round, scope_of, has_layout, is_object_itself, is_top, is_faceted, is_plot, is_in_plot};
+ghost use Rattle.vega_parts.specs.Trails.{is_group, is_object, has_facet, noted, place_of, child, grandchild, object_at, object_round};
+ghost use Rattle.vega_parts.specs.Trails.{scope_of, has_layout, is_object_itself, is_top, is_faceted, is_plot, is_in_plot};
 
 use crate::members::{has_member, member_at, says_text};
 use crate::part::Place;

@@ -3,7 +3,9 @@ ghost use Rattle.std.specs.Prelude.{◌≡◌, ◌++◌, ◌∷◌, [], reverse,
 ghost use Rattle.json_exact.specs.declared.json.Json.{out-Json};
 ghost use Rattle.vega_parts.specs.Names.{given};
 ghost use Rattle.vega_parts.specs.Trails.{place_of, child};
-ghost use Rattle.vega_parts.specs.Facets.{group_of, facet_name, facet_item, facet_items, facet_names_in, facet_names, only_row, facet_rows_in, facet_rows, header, headers_in, headers, facet_faults, facet_names_and_rows, facet_parts};
+ghost use Rattle.vega_parts.specs.Facets.{group_of, facet_name, facet_item, facet_items, facet_names_in, facet_names, only_row};
+ghost use Rattle.vega_parts.specs.Facets.{facet_rows_in, facet_rows, header, headers_in, headers, facet_faults, facet_names_and_rows};
+ghost use Rattle.vega_parts.specs.Facets.{facet_parts};
 
 use crate::around::{Around, child, grandchild, object_round, place_of, round};
 use crate::lengths::{push_apart, push_other_length};

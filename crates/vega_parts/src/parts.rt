@@ -1,6 +1,7 @@
 //! The parts of a Vega specification.
 ghost use Rattle.std.specs.Prelude.{◌≡◌, ◌++◌, reverse, IfOk, OnOk};
-ghost use Rattle.vega_parts.specs.Parts.{signal_itself, signal_parts, leaf_parts, use_parts, is_value, is_size, guide_parts, mark_side, by_shape, parts_at, parts_of};
+ghost use Rattle.vega_parts.specs.Parts.{signal_itself, signal_parts, leaf_parts, use_parts, is_value, is_size, guide_parts, mark_side};
+ghost use Rattle.vega_parts.specs.Parts.{by_shape, parts_at, parts_of};
 
 use crate::around::{Around, noted};
 use crate::data::push_data_parts;

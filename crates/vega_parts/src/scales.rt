@@ -1,6 +1,7 @@
 //! What scales, and what uses them, give.
 ghost use Rattle.std.specs.Prelude.{◌≡◌, ◌++◌, reverse, OnOk};
-ghost use Rattle.vega_parts.specs.Scales.{type_named, type_of, range_named, range_of, traits_of, scale_name, scale_parts, for_size, for_legend, two_scales, legend_parts};
+ghost use Rattle.vega_parts.specs.Scales.{type_named, type_of, range_named, range_of, traits_of, scale_name, scale_parts, for_size};
+ghost use Rattle.vega_parts.specs.Scales.{for_legend, two_scales, legend_parts};
 ghost use Rattle.std.specs.Str.{bytes_eq};
 
 use crate::around::{

@@ -4,7 +4,10 @@ ghost use Rattle.std.specs.Option.{option_to_list};
 ghost use Rattle.std.specs.List.{list_any};
 ghost use Rattle.json_exact.specs.declared.json.Json.{out-Json};
 ghost use Rattle.json_exact.specs.Inside.{text_in};
-ghost use Rattle.vega_parts.specs.Selections.{entry_with, entry_by, entry_of, entries_in, entries_of, is_of_another, misses_channels, clashes_with, is_wrong_alone, is_wrong, is_wrong_entry, entry_fault, interval, intervals_in, intervals_of, entry_intervals, entry_parts, entries_parts, texts_of, marks_of, concerned_by, own_name, updates_in, update_parts};
+ghost use Rattle.vega_parts.specs.Selections.{entry_with, entry_by, entry_of, entries_in, entries_of, is_of_another, misses_channels};
+ghost use Rattle.vega_parts.specs.Selections.{clashes_with, is_wrong_alone, is_wrong, is_wrong_entry, entry_fault, interval, intervals_in};
+ghost use Rattle.vega_parts.specs.Selections.{intervals_of, entry_intervals, entry_parts, entries_parts, texts_of, marks_of, concerned_by};
+ghost use Rattle.vega_parts.specs.Selections.{own_name, updates_in, update_parts};
 
 use crate::around::{Around, grandchild, scope_of};
 use crate::members::{items_at, text_at, text_in};

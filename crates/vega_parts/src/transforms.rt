@@ -1,6 +1,7 @@
 //! What the transforms of data sets give.
 ghost use Rattle.std.specs.Prelude.{◌≡◌, ◌++◌, reverse, OnOk, IfOk};
-ghost use Rattle.vega_parts.specs.Transforms.{data_of, extent_name, longer_list, count_of_ops, count_of_window, aggregate_lists, window_lists, lookup_parts, fold_fields, by_type, step, transform_parts};
+ghost use Rattle.vega_parts.specs.Transforms.{data_of, extent_name, longer_list, count_of_ops, count_of_window, aggregate_lists};
+ghost use Rattle.vega_parts.specs.Transforms.{window_lists, lookup_parts, fold_fields, by_type, step, transform_parts};
 
 use crate::around::{Around, child, place_of, round, scope_of};
 use crate::lengths::push_other_length;

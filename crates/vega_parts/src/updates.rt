@@ -3,7 +3,9 @@ ghost use Rattle.std.specs.Prelude.{◌≡◌, ◌&&◌, ◌||◌, not, List, �
 ghost use Rattle.std.specs.List.{list_any, list_all};
 ghost use Rattle.std.specs.BTreeSet.{contains_text};
 ghost use Rattle.std.specs.Str.{bytes_eq};
-ghost use Rattle.vega_parts.specs.Updates.{change_named, takes, update_by, update_in, update_of, selector_of, is_selector, is_of, fields_of, is_point, is_toggle, is_drag, is_click, is_channel, channels_fit, mix, same_fields, are_clicks, differ, clash};
+ghost use Rattle.vega_parts.specs.Updates.{change_named, takes, update_by, update_in, update_of, selector_of, is_selector, is_of};
+ghost use Rattle.vega_parts.specs.Updates.{fields_of, is_point, is_toggle, is_drag, is_click, is_channel, channels_fit, mix, same_fields};
+ghost use Rattle.vega_parts.specs.Updates.{are_clicks, differ, clash};
 
 use expr_reading::call_of;
 use expr_syntax::TextCall;

@@ -1,5 +1,6 @@
 -- The products that are kept decide as the products do.
-use Rattle.std.proofs.Common.{◌≡◌, ℕ, zero, suc, ◌+◌, ◌*◌, ◌<◌, ◌≤◌, Bool, true, false, List, [], ◌∷◌, length, drop, get_or, Option, Some, None, cond, refl, sym, ap, ◌∙◌, subst, arith, inl, inr, min}
+use Rattle.std.proofs.Common.{◌≡◌, ℕ, zero, suc, ◌+◌, ◌*◌, ◌<◌, ◌≤◌, Bool, true, false, List, [], ◌∷◌, length, drop, get_or, Option, Some}
+use Rattle.std.proofs.Common.{None, cond, refl, sym, ap, ◌∙◌, subst, arith, inl, inr, min}
 use Rattle.std.specs.Prelude.{Vec, bytes_eq, nat_lt, unwrap_or, option_and_then}
 use Rattle.std.specs.Option.{option_map_or}
 use Rattle.std.specs.declared.alloc.Global.{Global}

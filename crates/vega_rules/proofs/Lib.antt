@@ -8,3 +8,7 @@ mod SearchLemmas
 mod FoldLemmas
 mod MetLemmas
 mod DragLemmas
+mod PlaceLemmas
+mod ReaderLemmas
+mod NeedRowLemmas
+mod PlacedLemmas

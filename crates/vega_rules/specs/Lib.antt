@@ -10,4 +10,9 @@ pub mod Folds
 pub mod Below
 pub mod Intervals
 pub mod Rules
+pub mod Nodes
+pub mod Edges
+pub mod Graph
+pub mod Cycles
 pub mod inner
+pub mod Examples

@@ -5,3 +5,5 @@ pub mod Counted
 pub mod Kept
 pub mod Met
 pub mod Drags
+pub mod Placed
+pub mod NeedRows

@@ -8,7 +8,8 @@ ghost use Rattle.json_exact.specs.declared.spec_error.SpecKind.TheVariants.{Wron
 ghost use Rattle.vega_rules.specs.Names.{given_names};
 ghost use Rattle.vega_rules.specs.Places.{is_inside};
 ghost use Rattle.vega_rules.specs.Resolved.{resolved};
-ghost use Rattle.vega_rules.specs.Intervals.{is_continuous, is_ramp, can_invert, inverts, is_among, concerned, all_invert, is_given_in_plot, fails_drag, interval_by, intervals};
+ghost use Rattle.vega_rules.specs.Intervals.{is_continuous, is_ramp, can_invert, inverts, is_among, concerned, all_invert};
+ghost use Rattle.vega_rules.specs.Intervals.{is_given_in_plot, fails_drag, interval_by, intervals};
 ghost use Rattle.vega_rules.specs.declared.keys.By.TheVariants as by;
 ghost use Rattle.vega_rules.specs.inner.Keyed.{number_at};
 ghost use Rattle.vega_rules.specs.inner.Index.{IsIndex};

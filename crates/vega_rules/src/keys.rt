@@ -6,7 +6,8 @@ ghost use Rattle.vega_rules.specs.Places.{parent};
 ghost use Rattle.vega_rules.specs.Folds.{is_source, used_by};
 ghost use Rattle.vega_rules.specs.Below.{is_of_mark};
 ghost use Rattle.vega_rules.specs.Intervals.{is_in_plot};
-ghost use Rattle.vega_rules.specs.inner.Index.{name_key, mark_key, key_of_name, key_of_source, key_of_mark, key_in_plot, key_elsewhere, is_inner_scale, is_plot_scale, key_by};
+ghost use Rattle.vega_rules.specs.inner.Index.{name_key, mark_key, key_of_name, key_of_source, key_of_mark, key_in_plot, key_elsewhere};
+ghost use Rattle.vega_rules.specs.inner.Index.{is_inner_scale, is_plot_scale, key_by};
 
 use std::alloc::Global;
 use text_kit::{OutOfMemory, Seq};

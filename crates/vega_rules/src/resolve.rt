@@ -2,7 +2,8 @@
 ghost use Rattle.std.specs.Prelude.{◌≡◌, ◌≤◌, length, take, option_map, option_and_then, IfOk};
 ghost use Rattle.std.specs.Option.{option_copied, option_or};
 ghost use Rattle.vega_rules.specs.Places.{ends_before, fronts};
-ghost use Rattle.vega_rules.specs.Resolved.{giver, other_giver, asks_before, uses_in_data, served, served_by, given_as, given_in, first_found, fronts_round, nearest_given, behind_own, resolved, resolved_use};
+ghost use Rattle.vega_rules.specs.Resolved.{giver, other_giver, asks_before, uses_in_data, served, served_by, given_as, given_in};
+ghost use Rattle.vega_rules.specs.Resolved.{first_found, fronts_round, nearest_given, behind_own, resolved, resolved_use};
 ghost use Rattle.vega_rules.specs.declared.keys.By.TheVariants as by;
 ghost use Rattle.vega_rules.specs.inner.Index.{name_key, key_of_given, IsIndex};
 ghost use Rattle.vega_rules.specs.inner.Looked.{given_front, given_fronts};

@@ -1,6 +1,6 @@
 -- Why the numbers of a scale stay within their bounds.
-use Rattle.std.proofs.Common.{◌≡◌, ◌↔◌, ◌&&◌, ◌||◌, ◌==◌, if◌then◌else◌, not, Bool, true, false, ℤ, pos, Option, Some, None, List, [], ◌∷◌, length, IfSome, IsTrue}
-use Rattle.std.proofs.Common.{unwrap_or, reverse, refl, sym, ap, ◌∙◌, subst, arith}
+use Rattle.std.proofs.Common.{◌≡◌, ◌↔◌, ◌&&◌, ◌||◌, ◌==◌, if◌then◌else◌, not, Bool, true, false, ℤ, pos, Option, Some, None, List, [], ◌∷◌}
+use Rattle.std.proofs.Common.{length, IfSome, IsTrue, unwrap_or, reverse, refl, sym, ap, ◌∙◌, subst, arith}
 use Rattle.std.specs.Option.{option_map}
 use Rattle.cell_value.specs.declared.cell.Cell.{Cell}
 use Rattle.std.proofs.lemmas.Bool.Decides.{Decides-eqb}

@@ -11,7 +11,8 @@ use Rattle.vega_selections.specs.Plots.{as_object, of_group, alone, spans_here, 
 -- ---- names
 
 marks_named : (o : Option (List VgMark))
-    → flat_map (λ names. names) (unwrap_or (former-Group-marks.map VgMark MarkNames mark_names o) []) ≡ flat_map (λ names. names) (map mark_names (unwrap_or o []))
+    → flat_map (λ names. names) (unwrap_or (former-Group-marks.map VgMark MarkNames mark_names o) [])
+    ≡ flat_map (λ names. names) (map mark_names (unwrap_or o []))
 marks_named None = refl
 marks_named (Some marks) = refl
 
@@ -40,7 +41,8 @@ name_of_plain m old new plain is =
 -- ---- spans
 
 pub marks_spanned : (o : Option (List VgMark))
-    → flat_map (λ spans. spans) (unwrap_or (former-Group-marks.map VgMark (List Span) mark_spans o) []) ≡ flat_map (λ spans. spans) (map mark_spans (unwrap_or o []))
+    → flat_map (λ spans. spans) (unwrap_or (former-Group-marks.map VgMark (List Span) mark_spans o) [])
+    ≡ flat_map (λ spans. spans) (map mark_spans (unwrap_or o []))
 marks_spanned None = refl
 marks_spanned (Some marks) = refl
 

@@ -1,6 +1,7 @@
 // The plots of a specification.
 ghost use Rattle.std.specs.Prelude.{◌≡◌, ◌++◌, ◌+◌, [], ◌∷◌, flat_map, map, unwrap_or, Some, option_copied, IfOk, OnOk};
-ghost use Rattle.vega_selections.specs.Plots.{size_of, whole_plot, as_object, fields_of, under, of_group, alone, spans_in, mark_spans, numbers_from, plot_at, numbered, plots_of};
+ghost use Rattle.vega_selections.specs.Plots.{size_of, whole_plot, as_object, fields_of, under, of_group, alone, spans_in, mark_spans};
+ghost use Rattle.vega_selections.specs.Plots.{numbers_from, plot_at, numbered, plots_of};
 
 use crate::marks::{is_group, marks_in};
 use selection_events::PlotOf;

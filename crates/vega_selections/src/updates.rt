@@ -3,7 +3,8 @@ ghost use Rattle.std.specs.Prelude.{◌≡◌, ◌++◌, ◌||◌, ℕ, List, []
 ghost use Rattle.std.specs.List.{list_any};
 ghost use Rattle.std.specs.BTreeSet.{contains_text};
 ghost use Rattle.std.specs.Str.{bytes_eq};
-ghost use Rattle.vega_selections.specs.Updates.{number_of, is_same, texts_of, entry_with, texts_with, once_behind, each_once, channel_of, channels_in, scales_in};
+ghost use Rattle.vega_selections.specs.Updates.{number_of, is_same, texts_of, entry_with, texts_with, once_behind, each_once, channel_of};
+ghost use Rattle.vega_selections.specs.Updates.{channels_in, scales_in};
 
 use expr_reading::call_of;
 use selection_events::DragOf;

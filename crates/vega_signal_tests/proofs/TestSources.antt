@@ -71,7 +71,8 @@ products_one : (before : ℕ) (ts : List Transform) → before ≤ 1 → All IsP
 products_one before [] small each k d lt = absurd (omega (arith, lt))
 products_one before (t ∷ ts) small each zero d lt = let one = no_more before (fold_length t) small (each 0 t (omega arith)).short in omega (arith, one)
 products_one before (t ∷ ts) small each (suc k) d lt =
-    products_one (before * fold_length t) ts (no_more before (fold_length t) small (each 0 t (omega arith)).short) (λ i e below. each (suc i) e (omega arith)) k d (omega (arith, lt))
+    products_one (before * fold_length t) ts (no_more before (fold_length t) small (each 0 t (omega arith)).short)
+    (λ i e below. each (suc i) e (omega arith)) k d (omega (arith, lt))
 
 product_one : (before : ℕ) (ts : List Transform) → before ≤ 1 → All IsPlain ts → fold_product before ts ≤ 1
 product_one before [] small each = small

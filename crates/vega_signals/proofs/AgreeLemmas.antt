@@ -50,7 +50,8 @@ module _ (outer a b : Values) (row : CellAt) where
 
   -- a form does, where it gives the same for the values of its parts
   formed : (z : Expr-F Expr) (names : List (List ℕ)) → parameters_in (roll-Expr z) ≡ names
-      → (AgreeOn a b names → value_here row (reading outer a) (map-Expr Expr (Option Cell) first z) ≡ value_here row (reading outer b) (map-Expr Expr (Option Cell) second z))
+      → (AgreeOn a b names → value_here row (reading outer a) (map-Expr Expr (Option Cell) first z)
+      ≡ value_here row (reading outer b) (map-Expr Expr (Option Cell) second z))
       → Same (roll-Expr z)
   formed z names is same h =
       fold-roll-Expr (Option Cell) (value_here row (reading outer a)) z ∙ same (subst (AgreeOn a b) is h)
@@ -66,7 +67,8 @@ module _ (outer a b : Values) (row : CellAt) where
         let rest = flat_map (λ arg. arg) (map parameters_in (map part xs)) in
         ap₂ (λ v vs. v ∷ vs) (same x (front a b (names x) rest h)) (all_same xs (back a b (names x) rest h))
 
-    two_same : (x y : X) (f : Option Cell → Option Cell → Option Cell) → AgreeOn a b (names x ++ names y) → f (first (part x)) (first (part y)) ≡ f (second (part x)) (second (part y))
+    two_same : (x y : X) (f : Option Cell → Option Cell → Option Cell) → AgreeOn a b (names x ++ names y)
+        → f (first (part x)) (first (part y)) ≡ f (second (part x)) (second (part y))
     two_same x y f h = ap₂ f (same x (front a b (names x) (names y) h)) (same y (back a b (names x) (names y) h))
 
     step : (y : Expr-F X) → Same (roll-Expr (map-Expr X Expr part y))
@@ -77,10 +79,13 @@ module _ (outer a b : Values) (row : CellAt) where
     step (form.Field name) = formed (form.Field name) [] (fold-roll-Expr _ _ (form.Field name)) (λ h. refl)
     step (form.Param name) = formed (form.Param name) (name ∷ []) (fold-roll-Expr _ _ (form.Param name)) (λ h. h.0.value)
     step (form.Member name field) = formed (form.Member name field) (name ∷ []) (fold-roll-Expr _ _ (form.Member name field)) (λ h. ap Some (h.0.member field))
-    step (form.Not x) = let z = form.Not (part x) in formed z (names x) (fold-roll-Expr _ _ z) (λ h. ap (λ o. o >>= λ v. Some (Flag (not (truth v)))) (same x h))
+    step (form.Not x) = let z = form.Not (part x) in
+        formed z (names x) (fold-roll-Expr _ _ z) (λ h. ap (λ o. o >>= λ v. Some (Flag (not (truth v)))) (same x h))
     step (form.Minus x) = let z = form.Minus (part x) in formed z (names x) (fold-roll-Expr _ _ z) (λ h. ap (λ o. o >>= negated) (same x h))
-    step (form.Plus x) = let z = form.Plus (part x) in formed z (names x) (fold-roll-Expr _ _ z) (λ h. ap (λ o. o >>= λ v. Some (number_or_null (cell_number v))) (same x h))
-    step (form.Binary op x y) = let z = form.Binary op (part x) (part y) in formed z (names x ++ names y) (fold-roll-Expr _ _ z) (λ h. two_same x y (binary_of op) h)
+    step (form.Plus x) = let z = form.Plus (part x) in
+        formed z (names x) (fold-roll-Expr _ _ z) (λ h. ap (λ o. o >>= λ v. Some (number_or_null (cell_number v))) (same x h))
+    step (form.Binary op x y) = let z = form.Binary op (part x) (part y) in
+        formed z (names x ++ names y) (fold-roll-Expr _ _ z) (λ h. two_same x y (binary_of op) h)
     step (form.Choose x y w) =
         let z = form.Choose (part x) (part y) (part w) in
         formed z (names x ++ names y ++ names w) (fold-roll-Expr _ _ z) (λ h.
@@ -90,9 +95,11 @@ module _ (outer a b : Values) (row : CellAt) where
         let r = same w (back a b (names x ++ names y) (names w) h) in
         λ i. chosen (p i) (q i) (r i))
     step (form.Pair x y) =
-        let z = form.Pair (part x) (part y) in formed z (names x ++ names y) (fold-roll-Expr _ _ z) (λ h. two_same x y (λ o p. o >>= λ v. p >>= λ w. Some (paired v w)) h)
+        let z = form.Pair (part x) (part y) in
+        formed z (names x ++ names y) (fold-roll-Expr _ _ z) (λ h. two_same x y (λ o p. o >>= λ v. p >>= λ w. Some (paired v w)) h)
     step (form.Call code xs) =
-        let z = form.Call code (map part xs) in formed z (flat_map (λ arg. arg) (map parameters_in (map part xs))) (fold-roll-Expr _ _ z) (λ h. ap (called code) (all_same xs h))
+        let z = form.Call code (map part xs) in
+        formed z (flat_map (λ arg. arg) (map parameters_in (map part xs))) (fold-roll-Expr _ _ z) (λ h. ap (called code) (all_same xs h))
     step (form.Selected store) = formed (form.Selected store) [] (fold-roll-Expr _ _ (form.Selected store)) (λ h. refl)
     step (form.Stored store) = formed (form.Stored store) [] (fold-roll-Expr _ _ (form.Stored store)) (λ h. refl)
     step (form.DomainLength scale) = formed (form.DomainLength scale) [] (fold-roll-Expr _ _ (form.DomainLength scale)) (λ h. refl)

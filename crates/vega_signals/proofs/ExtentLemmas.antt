@@ -1,5 +1,6 @@
 -- The extents of data sets, one transform and one set after the other.
-use Rattle.std.proofs.Common.{◌≡◌, ℕ, ℤ, zero, suc, ◌+◌, ◌*◌, ◌<◌, ◌≤◌, Bool, true, false, cond, List, [], ◌∷◌, ◌++◌, ◌||◌, drop, map, length, get_or, Option, Some, None, unwrap_or, is_some, append_assoc, refl, sym, ap, ◌∙◌, subst, arith}
+use Rattle.std.proofs.Common.{◌≡◌, ℕ, ℤ, zero, suc, ◌+◌, ◌*◌, ◌<◌, ◌≤◌, Bool, true, false, cond, List, [], ◌∷◌, ◌++◌, ◌||◌, drop, map}
+use Rattle.std.proofs.Common.{length, get_or, Option, Some, None, unwrap_or, is_some, append_assoc, refl, sym, ap, ◌∙◌, subst, arith}
 use Rattle.std.specs.List.{cons_option, list_any}
 use Rattle.std.specs.Option.{option_map_or}
 use Rattle.std.specs.Str.{bytes_eq}
@@ -20,7 +21,8 @@ use Rattle.vega_lists.specs.Transforms.{transformed, transforms_of}
 use Rattle.vega_lists.specs.Products.{Products, KeysFit, fold_length, fold_product, begun_product, and_its_product}
 use Rattle.vega_lists.specs.Lists.{begun_rows}
 use Rattle.vega_lists.specs.Held.{scope_read, AreAllRows, AreSources, MayFold}
-use Rattle.vega_signals.specs.Extents.{Settled, extent_asked, data_extent, extent_over, extent_here, rows_left, all_left, extents_in, with_rows_left, set_extents}
+use Rattle.vega_signals.specs.Extents.{Settled, extent_asked, data_extent, extent_over, extent_here, rows_left, all_left, extents_in}
+use Rattle.vega_signals.specs.Extents.{with_rows_left, set_extents}
 use Rattle.vega_signals.specs.Outer.{Listed, ListedMayFold}
 use Rattle.vega_signals.specs.inner.Rows.{RowsByName, rows_of, scope_by, SetsMayFold, asks}
 use Rattle.vega_signals.proofs.KeyLemmas.{data_keys, keys_seen, transformed_fits}
@@ -114,10 +116,15 @@ module _ (values : Values) (scope : Scope) (rows : List Datum) (extents : Settle
 pub begun_may_fold : (sources : List Named) (sound : AreSources sources) (outer : Listed) (lists : RowsByName) (set : DataSet) (rows : List Keyed)
     → SetsMayFold outer lists (set ∷ []) → map datum_of rows ≡ begun_rows (map dataset_of sources) (scope_by outer lists) set → MayFold rows (transforms_of set)
 begun_may_fold sources sound outer lists set rows (products, fits, folds) e =
-    let n = begun_product products set in
-    (n, subst (KeysFit n) (keys_seen rows) (subst (λ (l : List Datum). KeysFit n (data_keys l)) (sym e) (begun_fit sources sound outer lists set products fits)), folds.0)
+    let n = begun_product products set in (
+      n,
+      subst (KeysFit n) (keys_seen rows)
+          (subst (λ (l : List Datum). KeysFit n (data_keys l)) (sym e) (begun_fit sources sound outer lists set products fits)),
+      folds.0,
+    )
 
-fits_either : (b : Bool) (p q : ℕ) (rows others : List Datum) → KeysFit p (data_keys rows) → KeysFit q (data_keys others) → KeysFit (cond b p q) (data_keys (cond b rows others))
+fits_either : (b : Bool) (p q : ℕ) (rows others : List Datum) → KeysFit p (data_keys rows)
+    → KeysFit q (data_keys others) → KeysFit (cond b p q) (data_keys (cond b rows others))
 fits_either true p q rows others x y = x
 fits_either false p q rows others x y = y
 
@@ -145,11 +152,14 @@ module _ (values : Values) (sources : List Named) (sound : AreSources sources) (
       let product = fold_product (begun_product products set) (transforms_of set) in
       let begun = begun_rows (map dataset_of sources) (scope_by outer lists) set in
       let made : KeysFit product (data_keys (all_left values (scope_by outer lists) (transforms_of set) begun)) =
-      all_left_fits values (scope_by outer lists) (transforms_of set) begun (begun_product products set) (begun_fit sources sound outer lists set products fits) in
-      let old : KeysFit (products other) (data_keys (scope_by outer lists other)) = subst (KeysFit (products other)) (sym (keys_seen (rows_of outer lists other))) (fits other) in
+      all_left_fits values (scope_by outer lists) (transforms_of set) begun
+      (begun_product products set) (begun_fit sources sound outer lists set products fits) in
+      let old : KeysFit (products other) (data_keys (scope_by outer lists other)) =
+      subst (KeysFit (products other)) (sym (keys_seen (rows_of outer lists other))) (fits other) in
       let now : KeysFit (and_its_product products set other) (data_keys (scope_by outer next other)) =
       subst (λ (s : Scope). KeysFit (and_its_product products set other) (data_keys (s other))) (sym scope)
-      (fits_either (bytes_eq set.name other) product (products other) (all_left values (scope_by outer lists) (transforms_of set) begun) (scope_by outer lists other) made old) in
+      (fits_either (bytes_eq set.name other) product (products other)
+      (all_left values (scope_by outer lists) (transforms_of set) begun) (scope_by outer lists other) made old) in
       subst (KeysFit (and_its_product products set other)) (keys_seen (rows_of outer next other)) now
 
   -- a data set more
@@ -162,7 +172,8 @@ module _ (values : Values) (sources : List Named) (sound : AreSources sources) (
       let here = extents_in values (scope_by outer lists) (transforms_of set) (begun_rows (map dataset_of sources) (scope_by outer lists) set) in
       let later : Scope → Settled = λ s. set_extents values (map dataset_of sources) s (drop (i + 1) all) in
       record {
-        finds = ap (λ l. l ++ later (scope_by outer next)) is ∙ append_assoc found here (later (scope_by outer next)) ∙ ap (λ s. found ++ (here ++ later s)) scope ∙ set_here.finds;
+        finds = ap (λ l. l ++ later (scope_by outer next)) is ∙ append_assoc found here (later (scope_by outer next))
+            ∙ ap (λ s. found ++ (here ++ later s)) scope ∙ set_here.finds;
         are = are;
         folds = (and_its_product products set, fits_after next products fits scope, folds.1);
       }
@@ -182,7 +193,8 @@ sets_begin values sources outer sets lists found nothing e are (products, fits, 
 pub sets_over : (values : Values) (sources : List Named) (outer : Listed) (whole : Settled) (all : List DataSet) (i : ℕ) (lists : RowsByName)
     (found : Settled) → length all ≤ i → SetsLeft values sources outer whole (drop i all) lists found → found ≡ whole
 sets_over values sources outer whole all i lists found past way =
-    let over : SetsLeft values sources outer whole [] lists found = subst (λ coming. SetsLeft values sources outer whole coming lists found) (drop_all i all past) way in
+    let over : SetsLeft values sources outer whole [] lists found =
+    subst (λ coming. SetsLeft values sources outer whole coming lists found) (drop_all i all past) way in
     sym (append-nil found) ∙ over.finds
 
 module _ (values : Values) where
@@ -192,20 +204,25 @@ module _ (values : Values) where
 
   no_extents_here : (scope : Scope) (t : Transform) (ts : List Transform) (rows : List Datum) (b : Bool) → is_some (extent_asked t) ≡ b
       → (b || list_any (λ t. is_some (extent_asked t)) ts) ≡ false
-      → (list_any (λ t. is_some (extent_asked t)) ts ≡ false → extents_in values scope ts (rows_left values scope t rows) ≡ []) → extents_in values scope (t ∷ ts) rows ≡ []
+      → (list_any (λ t. is_some (extent_asked t)) ts ≡ false → extents_in values scope ts (rows_left values scope t rows) ≡ [])
+      → extents_in values scope (t ∷ ts) rows ≡ []
   no_extents_here scope t ts rows true is e later = absurd cc
   no_extents_here scope t ts rows false is e later =
       ap (λ l. l ++ extents_in values scope ts (rows_left values scope t rows)) (none_asked (extent_asked t) rows is) ∙ later e
 
-  no_extents_in : (scope : Scope) (ts : List Transform) (rows : List Datum) → list_any (λ t. is_some (extent_asked t)) ts ≡ false → extents_in values scope ts rows ≡ []
+  no_extents_in : (scope : Scope) (ts : List Transform) (rows : List Datum)
+      → list_any (λ t. is_some (extent_asked t)) ts ≡ false → extents_in values scope ts rows ≡ []
   no_extents_in scope [] rows e = refl
-  no_extents_in scope (t ∷ ts) rows e = no_extents_here scope t ts rows (is_some (extent_asked t)) refl e (no_extents_in scope ts (rows_left values scope t rows))
+  no_extents_in scope (t ∷ ts) rows e =
+      no_extents_here scope t ts rows (is_some (extent_asked t)) refl e (no_extents_in scope ts (rows_left values scope t rows))
 
   no_extents_of : (sources : List Dataset) (scope : Scope) (set : DataSet) (sets : List DataSet) (b : Bool) → asks set ≡ b → (b || list_any asks sets) ≡ false
-      → (list_any asks sets ≡ false → set_extents values sources (with_rows_left values sources scope set) sets ≡ []) → set_extents values sources scope (set ∷ sets) ≡ []
+      → (list_any asks sets ≡ false → set_extents values sources (with_rows_left values sources scope set) sets ≡ [])
+      → set_extents values sources scope (set ∷ sets) ≡ []
   no_extents_of sources scope set sets true is e later = absurd cc
   no_extents_of sources scope set sets false is e later =
-      ap (λ l. l ++ set_extents values sources (with_rows_left values sources scope set) sets) (no_extents_in scope (transforms_of set) (begun_rows sources scope set) is) ∙ later e
+      ap (λ l. l ++ set_extents values sources (with_rows_left values sources scope set) sets)
+      (no_extents_in scope (transforms_of set) (begun_rows sources scope set) is) ∙ later e
 
   -- where no data set asks there are no extents
   pub no_extents : (sources : List Dataset) (scope : Scope) (sets : List DataSet) → list_any asks sets ≡ false → set_extents values sources scope sets ≡ []

@@ -12,7 +12,8 @@ use Rattle.vega_signals.specs.Laws.{InnerFirst}
 abbrev pub or_else : Option (List ℕ × Option Cell) → Option Cell → Option Cell
 or_else found other = option_map_or (λ (entry : List ℕ × Option Cell). entry.1) found other
 
-one_found : (b : Bool) (x : List ℕ × Option Cell) (both inner : Option (List ℕ × Option Cell)) (rest other : Option Cell) → or_else both other ≡ or_else inner rest
+one_found : (b : Bool) (x : List ℕ × Option Cell) (both inner : Option (List ℕ × Option Cell)) (rest other : Option Cell)
+    → or_else both other ≡ or_else inner rest
     → or_else (cond b (Some x) both) other ≡ or_else (cond b (Some x) inner) rest
 one_found true x both inner rest other e = refl
 one_found false x both inner rest other e = e
@@ -24,7 +25,8 @@ one_hidden false both inner rest other e = e
 module _ (own : Settled) (name : List ℕ) (other : Option Cell) where
   found : (inner : Settled) → or_else (first_named (inner ++ own) name) other ≡ or_else (first_named inner name) (or_else (first_named own name) other)
   found [] = refl
-  found (x ∷ inner) = one_found (bytes_eq x.0 name) x (first_named (inner ++ own) name) (first_named inner name) (or_else (first_named own name) other) other (found inner)
+  found (x ∷ inner) = one_found (bytes_eq x.0 name) x (first_named (inner ++ own) name)
+      (first_named inner name) (or_else (first_named own name) other) other (found inner)
 
 module _ (own : Settled) (name : List ℕ) (other : Cell) where
   hidden : (inner : Settled) → cond (is_own (inner ++ own) name) Null other ≡ cond (is_own inner name) Null (cond (is_own own name) Null other)

@@ -1,5 +1,6 @@
 -- The keys of what transforms make: how many there are, and below what their branches are.
-use Rattle.std.proofs.Common.{◌≡◌, ℕ, suc, ◌*◌, ◌<◌, ◌≤◌, Bool, false, List, [], ◌∷◌, ◌++◌, map, filter, length, All, Option, Some, None, unwrap_or, option_map, refl, sym, ap, ap₂, ◌∙◌, subst, arith}
+use Rattle.std.proofs.Common.{◌≡◌, ℕ, suc, ◌*◌, ◌<◌, ◌≤◌, Bool, false, List, [], ◌∷◌, ◌++◌, map, filter, length, All, Option, Some, None}
+use Rattle.std.proofs.Common.{unwrap_or, option_map, refl, sym, ap, ap₂, ◌∙◌, subst, arith}
 use Rattle.std.specs.FinMap.{empty}
 use Rattle.std.specs.List.{enumerate_from, list_any}
 use Rattle.std.proofs.lemmas.Bool.{cond_both}
@@ -68,7 +69,14 @@ all_keys P rows h k d lt =
 
 filter_fits : (n : ℕ) (p : Datum → Bool) (rows : List Datum) → KeysFit n (data_keys rows) → KeysFit n (data_keys (filter p rows))
 filter_fits n p rows fits = record {
-  few = omega (arith, fits.few, length-map rows (λ (row : Datum). row.key), length-map (filter p rows) (λ (row : Datum). row.key), length-filter p rows, count_by-le-length p rows);
+  few = omega (
+    arith,
+    fits.few,
+    length-map rows (λ (row : Datum). row.key),
+    length-map (filter p rows) (λ (row : Datum). row.key),
+    length-filter p rows,
+    count_by-le-length p rows,
+  );
   branches = All-map (λ (key : Key). key.branch < n) (λ (row : Datum). row.key) (filter p rows)
       (All-filter p (λ (row : Datum). row.key.branch < n) rows (all_keys (λ (key : Key). key.branch < n) rows fits.branches));
 }
@@ -78,12 +86,14 @@ one_key : (o : Option Cell) (name : List ℕ) (x y : Datum) → option_map (λ c
 one_key None name x y e = absurd cc
 one_key (Some cell) name x y e = ap (λ o. (unwrap_or o x).key) (sym e)
 
-calculated_keys : (value : Datum → Option Cell) (name : List ℕ) (xs ys : List Datum) → each_with value (datum_with name) xs ≡ Some ys → data_keys ys ≡ data_keys xs
+calculated_keys : (value : Datum → Option Cell) (name : List ℕ) (xs ys : List Datum)
+    → each_with value (datum_with name) xs ≡ Some ys → data_keys ys ≡ data_keys xs
 calculated_keys value name [] ys e = ap data_keys (sym (same_value [] ys e))
 calculated_keys value name (x ∷ xs) ys e =
     let (y, first, rest) = after_some (option_map (λ cell. datum_with name cell x) (value x)) _ ys e in
     let (zs, others, is) = after_some (each_with value (datum_with name) xs) (λ zs. Some (y ∷ zs)) ys rest in
-    ap data_keys (sym (same_value (y ∷ zs) ys is)) ∙ ap₂ (λ (key : Key) keys. key ∷ keys) (one_key (value x) name x y first) (calculated_keys value name xs zs others)
+    ap data_keys (sym (same_value (y ∷ zs) ys is))
+    ∙ ap₂ (λ (key : Key) keys. key ∷ keys) (one_key (value x) name x y first) (calculated_keys value name xs zs others)
 
 unit_keys : (t : TimeOf) (rows : List Datum) → data_keys (data_in_time_units t rows) ≡ data_keys rows
 unit_keys t [] = refl
@@ -110,7 +120,8 @@ each_key h f same [] ys e = ap data_keys (sym (same_value [] ys e))
 each_key h f same (x ∷ xs) ys e =
     let (y, first, rest) = after_some (option_map (h x) (f x)) _ ys e in
     let (zs, others, is) = after_some (all_found (map (λ x. option_map (h x) (f x)) xs)) (λ zs. Some (y ∷ zs)) ys rest in
-    ap data_keys (sym (same_value (y ∷ zs) ys is)) ∙ ap₂ (λ (key : Key) keys. key ∷ keys) (one_made (h x) x.key (same x) (f x) y first) (each_key h f same xs zs others)
+    ap data_keys (sym (same_value (y ∷ zs) ys is))
+    ∙ ap₂ (λ (key : Key) keys. key ∷ keys) (one_made (h x) x.key (same x) (f x) y first) (each_key h f same xs zs others)
 
 bin_keys : (b : BinOf) (bins : Option Bins) (rows : List Datum) → data_keys (in_bins (λ (datum : Datum). datum.cell) datum_with b bins rows) ≡ data_keys rows
 bin_keys b bins [] = refl
@@ -134,7 +145,8 @@ few_firsts : {X : Type 0} (like : X → X → Bool) (before xs : List X) → len
 few_firsts like before [] = omega arith
 few_firsts like before (x ∷ xs) =
     let later = few_firsts like (before ++ x ∷ []) xs in
-    cond_both (list_any (λ y. like y x) before) (firsts_behind like (before ++ x ∷ []) xs) (x ∷ firsts_behind like (before ++ x ∷ []) xs) (λ l. length l ≤ suc (length xs))
+    cond_both (list_any (λ y. like y x) before) (firsts_behind like (before ++ x ∷ []) xs)
+    (x ∷ firsts_behind like (before ++ x ∷ []) xs) (λ l. length l ≤ suc (length xs))
     (λ _. omega (arith, later)) (λ _. omega (arith, later))
 
 firsts_fit : (n : ℕ) (like : Datum → Datum → Bool) (rows : List Datum) → KeysFit n (data_keys rows) → KeysFit n (data_keys (firsts like rows))
@@ -172,7 +184,8 @@ module _ (f : FoldOf) where
   bare_keys (row ∷ rows) = ap (λ (keys : List Key). row.key ∷ keys) (bare_keys rows)
 
   pub fold_fits : (n : ℕ) (rows : List Datum) → KeysFit n (data_keys rows) → KeysFit (n * length f.fields) (data_keys (data_folded f rows))
-  fold_fits n rows fits = subst (KeysFit (n * length f.fields)) (sym (folded_keys rows)) (folded_fits n (map bare rows) (subst (KeysFit n) (bare_keys rows) fits))
+  fold_fits n rows fits = subst (KeysFit (n * length f.fields)) (sym (folded_keys rows))
+      (folded_fits n (map bare rows) (subst (KeysFit n) (bare_keys rows) fits))
     where
       folded_fits : (n : ℕ) (rows : List Keyed) → KeysFit n (keys_of rows) → KeysFit (n * length f.fields) (keys_of (folded f rows))
       folded_fits n rows fits = record {

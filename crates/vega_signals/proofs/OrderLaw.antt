@@ -1,5 +1,6 @@
 -- Where signals stand in an order, they settle.
-use Rattle.std.proofs.Common.{◌≡◌, ℕ, zero, suc, ◌≤◌, Bool, true, false, cond, List, [], ◌∷◌, ◌++◌, append_assoc, ◌||◌, flat_map, length, All, Option, Some, None, unwrap_or, refl, sym, ap, ap₂, ◌∙◌, arith}
+use Rattle.std.proofs.Common.{◌≡◌, ℕ, zero, suc, ◌≤◌, Bool, true, false, cond, List, [], ◌∷◌, ◌++◌, append_assoc, ◌||◌, flat_map, length}
+use Rattle.std.proofs.Common.{All, Option, Some, None, unwrap_or, refl, sym, ap, ap₂, ◌∙◌, arith}
 use Rattle.std.specs.Option.{option_map, option_map_or}
 use Rattle.std.specs.Str.{bytes_eq}
 use Rattle.std.proofs.lemmas.List.{append-nil}
@@ -32,9 +33,11 @@ use Rattle.vega_lists.specs.Scopes.{Scope, with_list, list_named}
 use Rattle.vega_lists.specs.Settings.{bin_settings, extent_in, lookup_settings, pair_in}
 use Rattle.vega_lists.specs.Transforms.{transformed, transforms_of}
 use Rattle.vega_lists.specs.Lists.{begun_rows}
-use Rattle.vega_signals.specs.Extents.{Settled, update_of, is_computed, computed_here, extent_asked, extent_over, extent_here, rows_left, all_left, extents_in, set_extents}
+use Rattle.vega_signals.specs.Extents.{Settled, update_of, is_computed, computed_here, extent_asked, extent_over, extent_here, rows_left}
+use Rattle.vega_signals.specs.Extents.{all_left, extents_in, set_extents}
 use Rattle.vega_signals.specs.Settling.{as_given, is_own, first_named, values_inside, own_names, own_after}
-use Rattle.vega_signals.specs.Needs.{Need, Reads, no_reads, with_reads, extent_reads, transform_reads, all_reads, begun_reads, extent_needs, set_needs, computed_needs, own_needs, AreInOrder}
+use Rattle.vega_signals.specs.Needs.{Need, Reads, no_reads, with_reads, extent_reads, transform_reads, all_reads, begun_reads, extent_needs}
+use Rattle.vega_signals.specs.Needs.{set_needs, computed_needs, own_needs, AreInOrder}
 use Rattle.vega_signals.specs.Laws.{SettleInOrder}
 use Rattle.vega_signals.proofs.InnerLaw.{or_else}
 use Rattle.vega_signals.proofs.AgreeLemmas.{SameNamed, AgreeOn, reading, front, back, same_value}
@@ -59,7 +62,8 @@ module _ (outer v w : Values) where
   both_follow (x ∷ xs) (y ∷ ys) (d ∷ ds) xs' ys' ds' h k = (h.0, both_follow xs ys ds xs' ys' ds' h.1 k)
 
   -- a computed signal follows what its update mentions
-  updated : (o : Option Expr) → AgreeOn v w (option_map_or parameters_in o []) → option_map_or (value_of null_row (reading outer v)) o (Some Null) ≡ option_map_or (value_of null_row (reading outer w)) o (Some Null)
+  updated : (o : Option Expr) → AgreeOn v w (option_map_or parameters_in o [])
+      → option_map_or (value_of null_row (reading outer v)) o (Some Null) ≡ option_map_or (value_of null_row (reading outer w)) o (Some Null)
   updated None h = refl
   updated (Some e) h = same_value outer v w null_row e h
 
@@ -68,7 +72,8 @@ module _ (outer v w : Values) where
   computed_either true name c d reads h = ((refl, refl, h), tt)
   computed_either false name c d reads h = tt
 
-  computed_follow : (signals : List Signal) → Follow (flat_map (computed_here (reading outer v)) signals) (flat_map (computed_here (reading outer w)) signals) (flat_map computed_needs signals)
+  computed_follow : (signals : List Signal) → Follow (flat_map (computed_here (reading outer v)) signals)
+      (flat_map (computed_here (reading outer w)) signals) (flat_map computed_needs signals)
   computed_follow [] = tt
   computed_follow (s ∷ signals) =
       both_follow (computed_here (reading outer v) s) (computed_here (reading outer w) s) (computed_needs s) _ _ _
@@ -85,7 +90,8 @@ module _ (outer v w : Values) where
 
   module _ (reads : Reads) (a b : Scope) (lists : SameLists reads a b) where
     -- what a transform makes follows what it reads
-    same_made : (t : Transform) (rows : List Datum) → AgreeOn v w (transform_reads reads t) → transformed (reading outer v) a t rows ≡ transformed (reading outer w) b t rows
+    same_made : (t : Transform) (rows : List Datum) → AgreeOn v w (transform_reads reads t)
+        → transformed (reading outer v) a t rows ≡ transformed (reading outer w) b t rows
     same_made (vega.Filter f) rows h = λ i. kept (λ (row : Datum). option_map truth (same_value outer v w row.cell f.expr h i)) rows
     same_made (vega.Formula f) rows h = λ i. each_with (λ (row : Datum). same_value outer v w row.cell f.expr h i) (datum_with f.as_) rows
     same_made (vega.Extent e) rows h = refl
@@ -101,16 +107,19 @@ module _ (outer v w : Values) where
     same_left : (t : Transform) (before : List (List ℕ)) (p q : List Datum) → (AgreeOn v w before → p ≡ q) → AgreeOn v w (before ++ transform_reads reads t)
         → rows_left (reading outer v) a t p ≡ rows_left (reading outer w) b t q
     same_left t before p q same h =
-        ap (λ o. unwrap_or o []) (same_made t p (back v w before (transform_reads reads t) h)) ∙ ap (rows_left (reading outer w) b t) (same (front v w before (transform_reads reads t) h))
+        ap (λ o. unwrap_or o []) (same_made t p (back v w before (transform_reads reads t) h))
+        ∙ ap (rows_left (reading outer w) b t) (same (front v w before (transform_reads reads t) h))
 
     same_all_left : (ts : List Transform) (before : List (List ℕ)) (p q : List Datum) → (AgreeOn v w before → p ≡ q) → AgreeOn v w (all_reads reads ts before)
         → all_left (reading outer v) a ts p ≡ all_left (reading outer w) b ts q
     same_all_left [] before p q same h = same h
     same_all_left (t ∷ ts) before p q same h =
-        same_all_left ts (before ++ transform_reads reads t) (rows_left (reading outer v) a t p) (rows_left (reading outer w) b t q) (same_left t before p q same) h
+        same_all_left ts (before ++ transform_reads reads t) (rows_left (reading outer v) a t p)
+        (rows_left (reading outer w) b t q) (same_left t before p q same) h
 
     extent_follows : (o : Option Extent) (before : List (List ℕ)) (p q : List Datum) → (AgreeOn v w before → p ≡ q)
-        → Follow (option_map_or (λ e. extent_over p e ∷ []) o []) (option_map_or (λ e. extent_over q e ∷ []) o []) (option_map_or (λ (e : Extent). (e.signal, before) ∷ []) o [])
+        → Follow (option_map_or (λ e. extent_over p e ∷ []) o []) (option_map_or (λ e. extent_over q e ∷ []) o [])
+        (option_map_or (λ (e : Extent). (e.signal, before) ∷ []) o [])
     extent_follows None before p q same = tt
     extent_follows (Some e) before p q same = ((refl, refl, (λ h. ap (λ rows. (extent_over rows e).1) (same h))), tt)
 
@@ -120,16 +129,19 @@ module _ (outer v w : Values) where
     extents_follow (t ∷ ts) before p q same =
         both_follow (extent_here t p) (extent_here t q) (option_map_or (λ (e : Extent). (e.signal, before) ∷ []) (extent_asked t) []) _ _ _
         (extent_follows (extent_asked t) before p q same)
-        (extents_follow ts (before ++ transform_reads reads t) (rows_left (reading outer v) a t p) (rows_left (reading outer w) b t q) (same_left t before p q same))
+        (extents_follow ts (before ++ transform_reads reads t) (rows_left (reading outer v) a t p)
+        (rows_left (reading outer w) b t q) (same_left t before p q same))
 
     begun_same : (sources : List Dataset) (set : DataSet) → AgreeOn v w (begun_reads reads set) → begun_rows sources a set ≡ begun_rows sources b set
     begun_same sources set = by_source set.source
       where
-        by_source : (o : Option (List ℕ)) → AgreeOn v w (option_map_or reads o []) → option_map_or a o (list_named sources set.name) ≡ option_map_or b o (list_named sources set.name)
+        by_source : (o : Option (List ℕ)) → AgreeOn v w (option_map_or reads o [])
+            → option_map_or a o (list_named sources set.name) ≡ option_map_or b o (list_named sources set.name)
         by_source None h = refl
         by_source (Some name) h = lists name h
 
-    either_same : (x : Bool) (names : List (List ℕ)) (p q : List Datum) (other : List ℕ) → (AgreeOn v w names → p ≡ q) → AgreeOn v w (cond x names (reads other))
+    either_same : (x : Bool) (names : List (List ℕ)) (p q : List Datum) (other : List ℕ)
+        → (AgreeOn v w names → p ≡ q) → AgreeOn v w (cond x names (reads other))
         → cond x p (a other) ≡ cond x q (b other)
     either_same true names p q other same h = same h
     either_same false names p q other same h = lists other h
@@ -143,11 +155,13 @@ module _ (outer v w : Values) where
       let names = all_reads reads ts (begun_reads reads set) in
       let p = all_left (reading outer v) a ts (begun_rows sources a set) in
       let q = all_left (reading outer w) b ts (begun_rows sources b set) in
-      both_follow (extents_in (reading outer v) a ts (begun_rows sources a set)) (extents_in (reading outer w) b ts (begun_rows sources b set)) (extent_needs reads ts (begun_reads reads set)) _ _ _
+      both_follow (extents_in (reading outer v) a ts (begun_rows sources a set))
+      (extents_in (reading outer w) b ts (begun_rows sources b set)) (extent_needs reads ts (begun_reads reads set)) _ _ _
       (extents_follow reads a b lists ts (begun_reads reads set) (begun_rows sources a set) (begun_rows sources b set) (begun_same reads a b lists sources set))
       (sets_follow sources (with_reads set.name names reads) (with_list set.name p a) (with_list set.name q b)
       (λ other. either_same reads a b lists (bytes_eq set.name other) names p q other
-      (same_all_left reads a b lists ts (begun_reads reads set) (begun_rows sources a set) (begun_rows sources b set) (begun_same reads a b lists sources set))) sets)
+      (same_all_left reads a b lists ts (begun_reads reads set) (begun_rows sources a set)
+      (begun_rows sources b set) (begun_same reads a b lists sources set))) sets)
 
   -- a name reads the same where all that have it follow what is the same, and else as something does
   module _ (name : List ℕ) (other : Option Cell) where
@@ -173,7 +187,8 @@ module _ (outer v w : Values) where
     named_behind : (ps xs ys : Settled) → or_else (first_named xs name) other ≡ or_else (first_named ys name) other
         → or_else (first_named (ps ++ xs) name) other ≡ or_else (first_named (ps ++ ys) name) other
     named_behind [] xs ys e = e
-    named_behind (p ∷ ps) xs ys e = found_same (bytes_eq p.0 name) p p (first_named (ps ++ xs) name) (first_named (ps ++ ys) name) (λ _. refl) (named_behind ps xs ys e)
+    named_behind (p ∷ ps) xs ys e =
+        found_same (bytes_eq p.0 name) p p (first_named (ps ++ xs) name) (first_named (ps ++ ys) name) (λ _. refl) (named_behind ps xs ys e)
 
     skipped : (b : Bool) (x : List ℕ × Option Cell) (rest : Option (List ℕ × Option Cell)) → (b ≡ true → ⊥) → or_else rest other ≡ other
         → or_else (cond b (Some x) rest) other ≡ other
@@ -220,7 +235,8 @@ module _ (outer v w : Values) where
   all_same_values (x ∷ xs) (y ∷ ys) [] h each = absurd h
   all_same_values (x ∷ xs) (y ∷ ys) (d ∷ ds) h each =
       let (named, other, same) = h.0 in
-      ap₂ (λ (p : List ℕ × Option Cell) ps. p ∷ ps) ((λ i. ((named ∙ sym other) i, same (each 0 d (omega arith)) i))) (all_same_values xs ys ds h.1 (λ k e lt. each (suc k) e (omega arith)))
+      ap₂ (λ (p : List ℕ × Option Cell) ps. p ∷ ps) ((λ i. ((named ∙ sym other) i, same (each 0 d (omega arith)) i)))
+      (all_same_values xs ys ds h.1 (λ k e lt. each (suc k) e (omega arith)))
 
 -- where no signal is there, no value is
 no_values_there : (outer v w : Values) (xs ys : Settled) (ds : List Need) → Follow outer v w xs ys ds → All (λ (d : Need). ⊥) ds → xs ≡ []
@@ -290,8 +306,10 @@ module _ (sources : List Dataset) (lists : Scope) (outer : Values) (given : Sett
       let v = read_at n in
       let w = read_at (suc n) in
       let each : All (λ (d : Need). d.0 ≡ name → AgreeOn v w d.1) needs =
-      λ k d lt e. agree v w place n (for_good n) _ (λ i m below. let lesser = (order k d lt).lesser i m below in let same = ap place e in omega (arith, lesser, same, le)) in
-      same_behind w (read_at (suc (suc n))) name (made_by v) (made_by w) (ap (λ l. values_inside l outer) (next_is n)) (ap (λ l. values_inside l outer) (next_is (suc n)))
+      λ k d lt e. agree v w place n (for_good n) _
+      (λ i m below. let lesser = (order k d lt).lesser i m below in let same = ap place e in omega (arith, lesser, same, le)) in
+      same_behind w (read_at (suc (suc n))) name (made_by v) (made_by w)
+      (ap (λ l. values_inside l outer) (next_is n)) (ap (λ l. values_inside l outer) (next_is (suc n)))
       (named_same outer v w name (outer.value name) (made_by v) (made_by w) needs (follow v w) each)
       (own_same outer v w name (made_by v) (made_by w) needs (follow v w))
 

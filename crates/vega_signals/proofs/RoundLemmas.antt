@@ -1,5 +1,7 @@
 -- Rounds of the values of signals.
-use Rattle.std.proofs.Common.{◌≡◌, ℕ, zero, suc, ◌+◌, ◌-◌, ◌<◌, ◌≤◌, Bool, true, false, cond, List, [], ◌∷◌, ◌++◌, take, map, filter, flat_map, length, get_or, Option, Some, None, length-append, append_assoc, add-one, max, Result, Ok, Err, IfOk, refl, sym, ap, ap₂, ◌∙◌, arith}
+use Rattle.std.proofs.Common.{◌≡◌, ℕ, zero, suc, ◌+◌, ◌-◌, ◌<◌, ◌≤◌, Bool, true, false, cond, List, [], ◌∷◌, ◌++◌, take, map, filter}
+use Rattle.std.proofs.Common.{flat_map, length, get_or, Option, Some, None, length-append, append_assoc, add-one, max, Result, Ok, Err}
+use Rattle.std.proofs.Common.{IfOk, refl, sym, ap, ap₂, ◌∙◌, arith}
 use Rattle.std.specs.List.{filter_map, cons_option}
 use Rattle.std.specs.Option.{option_map_or}
 use Rattle.std.proofs.Math.Seq.{take-suc}
@@ -16,7 +18,8 @@ use Rattle.vega_spec.specs.declared.transforms.Transform.{Transform}
 use Rattle.vega_lists.specs.Scopes.{Scope}
 use Rattle.vega_lists.specs.Transforms.{transforms_of}
 use Rattle.vega_lists.specs.Lists.{begun_rows}
-use Rattle.vega_signals.specs.Extents.{Settled, is_computed, computed_here, extent_asked, extent_over, rows_left, extents_in, with_rows_left, set_extents, extent_names}
+use Rattle.vega_signals.specs.Extents.{Settled, is_computed, computed_here, extent_asked, extent_over, rows_left, extents_in}
+use Rattle.vega_signals.specs.Extents.{with_rows_left, set_extents, extent_names}
 use Rattle.vega_signals.specs.Settling.{values_inside, own_names, next_own, own_after}
 
 -- what is made of the last in each round
@@ -51,9 +54,11 @@ more_extents (Some x) rows rest kept e = ap (λ (l : List (List ℕ)). x.signal 
 module _ (values : Values) where
   computed_names : (signals : List Signal) → names (flat_map (computed_here values) signals) ≡ map (λ (s : Signal). s.name) (filter is_computed signals)
   computed_names [] = refl
-  computed_names (s ∷ signals) = more_computed s (is_computed s) _ (flat_map (computed_here values) signals) (filter is_computed signals) (computed_names signals)
+  computed_names (s ∷ signals) =
+      more_computed s (is_computed s) _ (flat_map (computed_here values) signals) (filter is_computed signals) (computed_names signals)
 
-  names_in_set : (scope : Scope) (ts : List Transform) (rows : List Datum) → names (extents_in values scope ts rows) ≡ map (λ (e : Extent). e.signal) (filter_map extent_asked ts)
+  names_in_set : (scope : Scope) (ts : List Transform) (rows : List Datum)
+      → names (extents_in values scope ts rows) ≡ map (λ (e : Extent). e.signal) (filter_map extent_asked ts)
   names_in_set scope [] rows = refl
   names_in_set scope (t ∷ ts) rows =
       more_extents (extent_asked t) rows (extents_in values scope ts (rows_left values scope t rows)) (filter_map extent_asked ts)
@@ -63,7 +68,8 @@ module _ (values : Values) where
   set_names sources scope [] = refl
   set_names sources scope (set ∷ sets) =
       map-append (λ (value : List ℕ × Option Cell). value.0) (extents_in values scope (transforms_of set) (begun_rows sources scope set)) _
-      ∙ ap₂ (λ (a b : List (List ℕ)). a ++ b) (names_in_set scope (transforms_of set) (begun_rows sources scope set)) (set_names sources (with_rows_left values sources scope set) sets)
+      ∙ ap₂ (λ (a b : List (List ℕ)). a ++ b) (names_in_set scope (transforms_of set) (begun_rows sources scope set))
+      (set_names sources (with_rows_left values sources scope set) sets)
 
 module _ (sources : List Dataset) (lists : Scope) (outer : Values) (params : Settled) (signals : List Signal) (sets : List DataSet) where
   -- a round gives as many values as there are signals
@@ -74,8 +80,10 @@ module _ (sources : List Dataset) (lists : Scope) (outer : Values) (params : Set
       let extents = set_extents values sources lists sets in
       let first = map (λ (s : Signal). s.name) (filter is_computed signals) in
       let second = flat_map extent_names sets in
-      let a : length computed ≡ length first = sym (length-map computed (λ (value : List ℕ × Option Cell). value.0)) ∙ ap length (computed_names values signals) in
-      let b : length extents ≡ length second = sym (length-map extents (λ (value : List ℕ × Option Cell). value.0)) ∙ ap length (set_names values sources lists sets) in
+      let a : length computed ≡ length first =
+      sym (length-map computed (λ (value : List ℕ × Option Cell). value.0)) ∙ ap length (computed_names values signals) in
+      let b : length extents ≡ length second =
+      sym (length-map extents (λ (value : List ℕ × Option Cell). value.0)) ∙ ap length (set_names values sources lists sets) in
       omega (arith, length-append (params ++ computed) extents, length-append params computed, length-append first second, a, b)
 
   -- where there are no values but the settable ones, a round gives these
@@ -89,8 +97,10 @@ module _ (sources : List Dataset) (lists : Scope) (outer : Values) (params : Set
       only a [] (x ∷ c) le = absurd (omega (arith, le, length-append (a ++ []) (x ∷ c), length-append a []))
       only a (x ∷ b) c le = absurd (omega (arith, le, length-append (a ++ (x ∷ b)) c, length-append a (x ∷ b)))
 
-  by_count : (n rounds : ℕ) → length (own_names signals sets) ≡ n → rounds ≡ max 1 n → own_after sources lists outer params signals sets rounds ≡ own_after sources lists outer params signals sets (length (own_names signals sets))
-  by_count zero rounds e is = ap (own_after sources lists outer params signals sets) is ∙ nothing_unset e ∙ sym (ap (own_after sources lists outer params signals sets) e)
+  by_count : (n rounds : ℕ) → length (own_names signals sets) ≡ n → rounds ≡ max 1 n
+      → own_after sources lists outer params signals sets rounds ≡ own_after sources lists outer params signals sets (length (own_names signals sets))
+  by_count zero rounds e is =
+      ap (own_after sources lists outer params signals sets) is ∙ nothing_unset e ∙ sym (ap (own_after sources lists outer params signals sets) e)
   by_count (suc n) rounds e is =
       let same : rounds ≡ length (own_names signals sets) = omega arith in
       ap (own_after sources lists outer params signals sets) same

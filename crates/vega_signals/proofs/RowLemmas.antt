@@ -1,5 +1,6 @@
 -- Rows by the names of data sets.
-use Rattle.std.proofs.Common.{◌≡◌, ℕ, suc, Bool, true, false, cond, IsTrue, List, [], ◌∷◌, map, length, Option, Some, None, unwrap_or, Result, Ok, Err, IfOk, refl, sym, ap, ◌∙◌, subst, arith, rules, lit≤}
+use Rattle.std.proofs.Common.{◌≡◌, ℕ, suc, Bool, true, false, cond, IsTrue, List, [], ◌∷◌, map, length, Option, Some, None, unwrap_or}
+use Rattle.std.proofs.Common.{Result, Ok, Err, IfOk, refl, sym, ap, ◌∙◌, subst, arith, rules, lit≤}
 use Rattle.std.specs.Option.{option_map_or}
 use Rattle.std.specs.BTreeMap as tree
 use Rattle.std.specs.Ordering.{nat_cmp}
@@ -86,7 +87,8 @@ none_fit n = record { few = omega arith; branches = λ k d lt. absurd (omega (ar
 pub scope_yet : (outer : Listed) (lists : RowsByName) → ((name : List ℕ) → rows_of outer lists name ≡ outer name) → scope_by outer lists ≡ scope_read outer
 scope_yet outer lists e = λ i name. map datum_of (e name i)
 
-pub rows_yet : (outer : Listed) (lists : RowsByName) → ((name : List ℕ) → rows_of outer lists name ≡ outer name) → AreAllRows outer → AreAllRows (rows_of outer lists)
+pub rows_yet : (outer : Listed) (lists : RowsByName) → ((name : List ℕ) → rows_of outer lists name ≡ outer name)
+    → AreAllRows outer → AreAllRows (rows_of outer lists)
 rows_yet outer lists e are name = subst AreRows (sym (e name)) (are name)
 
 -- what holds of the keys of rows as they are read holds of their keys
@@ -129,7 +131,8 @@ module _ (sources : List Named) (sound : AreSources sources) (outer : Listed) (l
       → KeysFit (begun_product products set) (data_keys (begun_rows (map dataset_of sources) (scope_by outer lists) set))
   begun_fit products fits = by_source set.source
     where
-      by_source : (o : Option (List ℕ)) → KeysFit (option_map_or products o 1) (data_keys (option_map_or (scope_by outer lists) o (list_named (map dataset_of sources) set.name)))
+      by_source : (o : Option (List ℕ))
+          → KeysFit (option_map_or products o 1) (data_keys (option_map_or (scope_by outer lists) o (list_named (map dataset_of sources) set.name)))
       by_source None = (named_source sources sound set.name).fits
       by_source (Some name) = subst (KeysFit (products name)) (sym (keys_seen (rows_of outer lists name))) (fits name)
 
@@ -148,7 +151,8 @@ is_lookup (vega.Window w) l e = absurd cc
 is_lookup (vega.Fold f) l e = absurd cc
 
 -- another transform reads no other lists
-pub reads_no_lists : (values : Values) (a b : Scope) (t : Transform) (rows : List Datum) → None ≡ lookup_in t → transformed values a t rows ≡ transformed values b t rows
+pub reads_no_lists : (values : Values) (a b : Scope) (t : Transform) (rows : List Datum)
+    → None ≡ lookup_in t → transformed values a t rows ≡ transformed values b t rows
 reads_no_lists values a b (vega.Lookup k) rows e = absurd cc
 reads_no_lists values a b (vega.Filter f) rows e = refl
 reads_no_lists values a b (vega.Formula f) rows e = refl

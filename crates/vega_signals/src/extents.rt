@@ -7,7 +7,8 @@ ghost use Rattle.vega_lists.specs.Transforms.{is_kept, transforms_of, AllTransfo
 ghost use Rattle.vega_lists.specs.Held.{scope_read, AreAllRows, AreLists, AreSources, MayFold};
 ghost use Rattle.vega_lists.specs.Lists.{begun_rows};
 ghost use Rattle.vega_signals.specs.Outer.{ListedMayFold};
-ghost use Rattle.vega_signals.specs.Extents.{extent_asked, extent_cell, data_extent, extent_over, extent_here, all_left, extents_in, with_rows_left, set_extents};
+ghost use Rattle.vega_signals.specs.Extents.{extent_asked, extent_cell, data_extent, extent_over, extent_here, all_left, extents_in};
+ghost use Rattle.vega_signals.specs.Extents.{with_rows_left, set_extents};
 ghost use Rattle.std.specs.List.{list_any};
 ghost use Rattle.vega_signals.specs.inner.Rows.{SetsMayFold, rows_of, scope_by, asks};
 

@@ -5,7 +5,7 @@ use Rattle.json_exact.specs.declared.json.Json.{Json}
 use Rattle.vega_parts.specs.Parts.{parts_of}
 use Rattle.vega_rules.specs.Faults.{earliest}
 use Rattle.vega_rules.specs.Rules.{rule_faults}
-use Rattle.vega_needs.specs.Cycles.{first_cycle}
+use Rattle.vega_rules.specs.Cycles.{first_cycle}
 use Rattle.vega_model.specs.Faults.{fault_by_members, fault_by_rules, judged, gathered, first_fault_of}
 use Rattle.vega_building.specs.Spec.{spec_of}
 use Rattle.vega_copies.specs.Outlines.{Object, outline_of}

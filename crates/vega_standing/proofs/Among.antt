@@ -58,7 +58,8 @@ pub position_there : {X : Type 0} (t : X → Bool) (x : X) (n : ℕ) (xs : List 
 position_there t x n [] i e = absurd i
 position_there t x n (y ∷ xs) i e = by_test (t y) refl i (λ j. position_there t x (n + 1) xs j e)
   where
-    by_test : (b : Bool) → t y ≡ b → In x (y ∷ xs) → (In x xs → (k : ℕ) × (position_from t (n + 1) xs ≡ Some k)) → (k : ℕ) × (cond b (Some n) (position_from t (n + 1) xs) ≡ Some k)
+    by_test : (b : Bool) → t y ≡ b → In x (y ∷ xs) → (In x xs → (k : ℕ) × (position_from t (n + 1) xs ≡ Some k)) →
+        (k : ℕ) × (cond b (Some n) (position_from t (n + 1) xs) ≡ Some k)
     by_test true f j rest = (n, refl)
     by_test false f (inl same) rest = absurd (let g : t y ≡ true = ap t (sym same) ∙ e in cc)
     by_test false f (inr j) rest = rest j

@@ -72,7 +72,8 @@ few_count parts e =
     at_most : (xs : List (List ℕ)) → weight one_mark parts ≡ length xs → slice_get xs 32 ≡ None → weight one_mark parts ≤ 32
     at_most xs same none = by_place (slice_get_cases xs 32).1
       where
-        by_place : ((x : List ℕ) × (32 < length xs) × (slice_get xs 32 ≡ Some x) × (get_or xs 32 x ≡ x)) ⊎ ((length xs ≤ 32) × (slice_get xs 32 ≡ None)) → weight one_mark parts ≤ 32
+        by_place : ((x : List ℕ) × (32 < length xs) × (slice_get xs 32 ≡ Some x) × (get_or xs 32 x ≡ x))
+            ⊎ ((length xs ≤ 32) × (slice_get xs 32 ≡ None)) → weight one_mark parts ≤ 32
         by_place (inl there) = absurd (let f = there.2 in cc)
         by_place (inr past) = few (weight one_mark parts) (length xs) same past.0
 
@@ -99,10 +100,12 @@ module _ (round : Trail) (number : ℕ) (tree : Json) (ms : List Member) (is : o
       ap (λ (m : VgMark-F Group VgMark). is_group_type m.type_) (mark_opened ms (marks_at ms (codes "marks")))
       ∙ ap (λ o. is_group_type (unwrap_or (option_and_then mark_type_named o) mark.Rect)) e
 
-  no_group : (b : Bool) → says_text (codes "type") (codes "group") tree ≡ b → is_group (out-VgMark own) ≡ false → says_text (codes "type") (codes "group") tree ≡ false
+  no_group : (b : Bool) → says_text (codes "type") (codes "group") tree ≡ b →
+      is_group (out-VgMark own) ≡ false → says_text (codes "type") (codes "group") tree ≡ false
   no_group false e other = e
   no_group true e other =
-      let group : is_group (out-VgMark own) ≡ true = named_group (said (codes "group") (member_value ms (codes "type")) (sym (says_member tree ms is (codes "type") (codes "group")) ∙ e)) in
+      let group : is_group (out-VgMark own) ≡ true =
+      named_group (said (codes "group") (member_value ms (codes "type")) (sym (says_member tree ms is (codes "type") (codes "group")) ∙ e)) in
       absurd cc
 
   one_least : (b : Bool) (at : List ℕ) (rest : ℕ) → b ≡ false → 1 ≤ option_map_or (λ (at : List ℕ). 1) (if b then None else Some at) 0 + rest
@@ -123,25 +126,31 @@ module _ (round : Trail) (number : ℕ) (tree : Json) (ms : List Member) (is : o
   marks_inside = ap (λ (m : VgMark-F Group VgMark). outlined.marks_in (out-Group m.group)) (mark_opened ms (marks_at ms (codes "marks")))
       ∙ ap (λ (g : Group-F Group VgMark). unwrap_or g.marks []) (group_opened ms (marks_at ms (codes "marks")))
 
-  heavy : marks_of_one own ≤ weight one_mark (parts_at (noted number MARK tree ∷ round) tree) + 0 + total marks_of_one (unwrap_or (marks_at ms (codes "marks")) [])
+  heavy : marks_of_one own
+      ≤ weight one_mark (parts_at (noted number MARK tree ∷ round) tree) + 0 + total marks_of_one (unwrap_or (marks_at ms (codes "marks")) [])
   heavy = by_type (is_group (out-VgMark own)) refl
     where
       by_type : (b : Bool) → is_group (out-VgMark own) ≡ b →
-          marks_of_one own ≤ weight one_mark (parts_at (noted number MARK tree ∷ round) tree) + 0 + total marks_of_one (unwrap_or (marks_at ms (codes "marks")) [])
+          marks_of_one own ≤ weight one_mark (parts_at (noted number MARK tree ∷ round) tree)
+          + 0 + total marks_of_one (unwrap_or (marks_at ms (codes "marks")) [])
       by_type true e =
-          alone (marks_of_one own) (count_marks (marks_of (outlined.marks_in (out-Group (out-VgMark own).group)))) (weight one_mark (parts_at (noted number MARK tree ∷ round) tree))
+          alone (marks_of_one own) (count_marks (marks_of (outlined.marks_in (out-Group (out-VgMark own).group))))
+          (weight one_mark (parts_at (noted number MARK tree ∷ round) tree))
           (total marks_of_one (unwrap_or (marks_at ms (codes "marks")) [])) (group_counted own [] e)
           (ap (λ xs. count_marks (marks_of xs)) marks_inside ∙ total_marks (unwrap_or (marks_at ms (codes "marks")) []))
       by_type false e =
-          single (marks_of_one own) (weight one_mark (parts_at (noted number MARK tree ∷ round) tree)) (total marks_of_one (unwrap_or (marks_at ms (codes "marks")) []))
+          single (marks_of_one own) (weight one_mark (parts_at (noted number MARK tree ∷ round) tree))
+          (total marks_of_one (unwrap_or (marks_at ms (codes "marks")) []))
           (plain_counted own [] e) (weighs_one (no_group (says_text (codes "type") (codes "group") tree) refl e))
 
 -- the marks of an object are at most as many as count among its parts
-pub few_marks : (trail : Trail) (l : Layout) (ms : List Member) (here whole : List Part) → StandsObject trail l ms → shape_in l (codes "data") ≡ Some DATA_LIST →
+pub few_marks : (trail : Trail) (l : Layout) (ms : List Member) (here whole : List Part) →
+    StandsObject trail l ms → shape_in l (codes "data") ≡ Some DATA_LIST →
     shape_in l (codes "marks") ≡ Some MARKS → whole ≡ here ++ parts_of_members trail l 0 ms → limits whole ≡ [] →
     count_marks (marks_of (unwrap_or (marks_at ms (codes "marks")) [])) < 2 ^ 32
 few_marks trail l ms here whole s sets marks is none =
-    few (count_marks (marks_of (unwrap_or (marks_at ms (codes "marks")) []))) (total marks_of_one (unwrap_or (marks_at ms (codes "marks")) [])) (weight one_mark whole)
+    few (count_marks (marks_of (unwrap_or (marks_at ms (codes "marks")) [])))
+    (total marks_of_one (unwrap_or (marks_at ms (codes "marks")) [])) (weight one_mark whole)
     (total_marks (unwrap_or (marks_at ms (codes "marks")) []))
     (object_weighs one_mark marks_of_one (λ ms. 0) (λ round number tree ms s is l applies o. heavy round number tree ms is) (λ trail l ms s ruled. nothing _)
     trail l ms here whole s sets marks is) (few_count whole none)

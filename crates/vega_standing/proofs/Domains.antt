@@ -101,7 +101,8 @@ unfolding vega_schema leaves named lists objects
 sort_object ms f e = (if_taken (is_some (layout_in vega_schema DOMAIN_SORT ms)) _ f e, form_taken (is_some (layout_in vega_schema DOMAIN_SORT ms)) _ f e)
 
 order_by : (ms : List Member) (b : Bool) → IfSome (text_at ms (codes "op")) IsAggregate →
-    IsTrue (is_order_built (Some (if b then domain_order.Operation (named_at order_named ms (codes "order")) (needed_operation ms (codes "op")) (needed_text ms (codes "field"))
+    IsTrue (is_order_built (Some
+    (if b then domain_order.Operation (named_at order_named ms (codes "order")) (needed_operation ms (codes "op")) (needed_text ms (codes "field"))
     else domain_order.Cells (named_at order_named ms (codes "order")))))
 order_by ms false op = refl
 order_by ms true op = coded (text_at ms (codes "op")) op
@@ -136,7 +137,8 @@ unfolding vega_schema group_mark axis legend grid_layout top data_set data_forma
     linear_scale time_scale band_scale point_scale ordinal_scale no_scale domain_of_signal domain_of_field domain_of_fields reference
     sort_by_operation sort_by_cells rect_mark symbol_mark line_mark area_mark rule_mark text_mark mark_from group_from facet cross
     encode no_mark channel_members value words_value size_signal group_encode group_channels size_value
-sort_ruled ms l e = three_layouts (MayBe (codes "sort") DOMAIN_ORDER) _ _ _ domain_of_signal domain_of_field domain_of_fields l e (inl refl) (inr refl) (inr refl)
+sort_ruled ms l e = three_layouts (MayBe (codes "sort") DOMAIN_ORDER) _ _ _
+    domain_of_signal domain_of_field domain_of_fields l e (inl refl) (inr refl) (inr refl)
 
 domain_object : (ms : List Member) (f : Form) → taken_form vega_schema SCALE_DOMAIN (level.Object ms) ≡ Some f →
     (is_some (layout_in vega_schema DOMAIN ms) ≡ true) × (form.Object DOMAIN ≡ f)
@@ -165,7 +167,8 @@ domain_by round number tree s (level.List items) e = refl
 domain_by round number tree s (level.Object ms) e =
     let l : Laid round number SCALE_DOMAIN DOMAIN tree ms = laid_out round number SCALE_DOMAIN DOMAIN tree ms s e (domain_object ms) in
     by_members ms (has_member ms (codes "signal")) (has_member ms (codes "fields")) (ordered _
-    (reads_kept_or (λ o. IsTrue (is_order_built (Some o))) domain_order_in (noted number SCALE_DOMAIN tree ∷ round) l.layout ms (codes "sort") DOMAIN_ORDER l.stands (sort_ruled ms l.layout l.applies)
+    (reads_kept_or (λ o. IsTrue (is_order_built (Some o))) domain_order_in (noted number SCALE_DOMAIN tree ∷ round) l.layout ms
+    (codes "sort") DOMAIN_ORDER l.stands (sort_ruled ms l.layout l.applies)
     (λ i v t. order_in (noted number SCALE_DOMAIN tree ∷ round) i v t (out-Json v) refl)))
 
 -- a domain is one that is built

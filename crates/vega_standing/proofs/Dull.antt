@@ -92,7 +92,8 @@ found_passes test all (y ∷ xs) x e each =
     parts : (all y ≡ true) × (list_all all xs ≡ true)
     parts = both (all y) (list_all all xs) each
 
-    by_test : (b : Bool) → test y ≡ b → cond b (Some y) (find test xs) ≡ Some x → (find test xs ≡ Some x → list_all all xs ≡ true → (test x ≡ true) × (all x ≡ true)) →
+    by_test : (b : Bool) → test y ≡ b → cond b (Some y) (find test xs) ≡ Some x →
+        (find test xs ≡ Some x → list_all all xs ≡ true → (test x ≡ true) × (all x ≡ true)) →
         (test x ≡ true) × (all x ≡ true)
     by_test true same f rest = let is : y ≡ x = cc in (subst (λ z. test z ≡ true) is same, subst (λ z. all z ≡ true) is parts.0)
     by_test false same f rest = rest f parts.1
@@ -111,7 +112,8 @@ found_form (Some s) f e = (s, refl, cc)
 -- the form of a dull value
 form_dull : (shape : ℕ) (o : Opened) (f : Form) → is_dull shape ≡ true → taken_form vega_schema shape o ≡ Some f → dull_form f ≡ true
 form_dull shape o f dull e =
-    let s : (s : Shape) × (find (takes vega_schema shape o) vega_schema.shapes ≡ Some s) × (s.form ≡ f) = found_form (find (takes vega_schema shape o) vega_schema.shapes) f e in
+    let s : (s : Shape) × (find (takes vega_schema shape o) vega_schema.shapes ≡ Some s) × (s.form ≡ f) =
+    found_form (find (takes vega_schema shape o) vega_schema.shapes) f e in
     let passed : (takes vega_schema shape o s.0 ≡ true) × (dull_entry s.0 ≡ true) =
     found_passes (takes vega_schema shape o) dull_entry vega_schema.shapes s.0 s.1 dull_shapes in
     let code : s.0.code ≡ shape = same_code s.0.code shape (both (s.0.code == shape) (fits vega_schema s.0.form o) passed.0).0 in
@@ -122,7 +124,8 @@ pub items_dull : (o : Option ℕ) (inner : ℕ) → option_map_or is_dull o true
 items_dull None inner e is = absurd cc
 items_dull (Some i) inner e is = let same : i ≡ inner = cc in subst (λ x. is_dull x ≡ true) same e
 
-pub ruled_dull : (o : Option Rule) (others : Option ℕ) (inner : ℕ) → ((r : Rule) → o ≡ Some r → is_dull r.shape ≡ true) → option_map_or is_dull others true ≡ true →
+pub ruled_dull : (o : Option Rule) (others : Option ℕ) (inner : ℕ) →
+    ((r : Rule) → o ≡ Some r → is_dull r.shape ≡ true) → option_map_or is_dull others true ≡ true →
     option_or (option_map (λ (r : Rule). r.shape) o) others ≡ Some inner → is_dull inner ≡ true
 ruled_dull None others inner a b e = items_dull others inner b e
 ruled_dull (Some r) others inner a b e = let same : r.shape ≡ inner = cc in subst (λ x. is_dull x ≡ true) same (a r refl)
@@ -130,7 +133,8 @@ ruled_dull (Some r) others inner a b e = let same : r.shape ≡ inner = cc in su
 laid_dull : (object : ℕ) (ms : List Member) (l : Layout) (name : List ℕ) (inner : ℕ) → is_dull object ≡ true → layout_in vega_schema object ms ≡ Some l →
     shape_in l name ≡ Some inner → is_dull inner ≡ true
 laid_dull object ms l name inner dull laid ruled =
-    let passed : (applies vega_schema object ms l ≡ true) × (dull_layout l ≡ true) = found_passes (applies vega_schema object ms) dull_layout vega_schema.layouts l laid dull_layouts in
+    let passed : (applies vega_schema object ms l ≡ true) × (dull_layout l ≡ true) =
+    found_passes (applies vega_schema object ms) dull_layout vega_schema.layouts l laid dull_layouts in
     let code : l.object ≡ object = same_code l.object object (both (l.object == object) (list_all (holds vega_schema ms) l.when) passed.0).0 in
     let members : dull_members l ≡ true = then_dull (is_dull l.object) (dull_members l) passed.1 (ap is_dull code ∙ dull) in
     let parts : (list_all (λ (r : Rule). is_dull r.shape) l.rules ≡ true) × (option_map_or is_dull l.others true ≡ true) =

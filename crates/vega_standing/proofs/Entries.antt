@@ -41,7 +41,8 @@ use Rattle.vega_parts.specs.declared.updates.Update.{Update}
 use Rattle.vega_parts.specs.Trails.{Trail, noted}
 use Rattle.vega_parts.specs.Members.{text_at as part_text}
 use Rattle.vega_parts.specs.Updates.{update_of, selector_of, is_selector, clash}
-use Rattle.vega_parts.specs.Selections.{entry_with, entry_by, entry_of, is_of_another, misses_channels, clashes_with, is_wrong_alone, is_wrong, is_wrong_entry, entry_fault, entry_intervals, entry_parts, entries_parts}
+use Rattle.vega_parts.specs.Selections.{entry_with, entry_by, entry_of, is_of_another, misses_channels, clashes_with, is_wrong_alone}
+use Rattle.vega_parts.specs.Selections.{is_wrong, is_wrong_entry, entry_fault, entry_intervals, entry_parts, entries_parts}
 use Rattle.vega_rules.specs.Rules.{shown}
 use Rattle.vega_spec.specs.declared.signals.EventSelector.TheVariants.{Click}
 use Rattle.vega_spec.specs.declared.signals.EventUpdate.{EventUpdate}
@@ -123,7 +124,8 @@ pub record IsEntry (item : Json) : Type 0 where
   pub built_events : (built item).events ≡ unwrap_or (selector_named events) Click
   pub built_update : (built item).update ≡ update
 
-entry_by_members : (round : Trail) (number : ℕ) (item : Json) (ms : List Member) → out-Json item ≡ level.Object ms → StandsObject (noted number ON item ∷ round) on_event ms →
+entry_by_members : (round : Trail) (number : ℕ) (item : Json) (ms : List Member) →
+    out-Json item ≡ level.Object ms → StandsObject (noted number ON item ∷ round) on_event ms →
     has_name ms (codes "events") ≡ true → has_name ms (codes "update") ≡ true → IsEntry item
 entry_by_members round number item ms is s first second =
     let trail : Trail = noted number ON item ∷ round in
@@ -131,7 +133,8 @@ entry_by_members round number item ms is s first second =
     let b : (v : Json) × (member_value ms (codes "update") ≡ Some v) = valued ms (codes "update") second in
     let at : (i : ℕ) × Stands trail i EVENTS a.0 = found_as trail on_event ms (codes "events") a.0 EVENTS s on_rules.0 a.1 in
     let f : (f : Form) × (taken_form vega_schema EVENTS (out-Json a.0) ≡ Some f) = formed EVENTS a.0 at.1.fine in
-    let x : (t : List ℕ) × (text_in (out-Json a.0) ≡ Some t) × (among event_names t ≡ true) = a_selector (out-Json a.0) (events_tested (out-Json a.0) f.0 f.1) in
+    let x : (t : List ℕ) × (text_in (out-Json a.0) ≡ Some t) × (among event_names t ≡ true) =
+    a_selector (out-Json a.0) (events_tested (out-Json a.0) f.0 f.1) in
     let there : (i : ℕ) × Stands trail i TEXT b.0 = found_as trail on_event ms (codes "update") b.0 TEXT s on_rules.1 b.1 in
     let y : (t : List ℕ) × (text_in (out-Json b.0) ≡ Some t) = the_text (text_in (out-Json b.0)) (text_stands trail there.0 b.0 there.1) in
     let events : text_at ms (codes "events") ≡ Some x.0 = ap (λ o. option_and_then (λ v. text_in (out-Json v)) o) a.1 ∙ x.1 in
@@ -176,7 +179,8 @@ judged : (trail : Trail) (number n : ℕ) (item : Json) (e : IsEntry item) → J
 judged trail number n item e = by_events (part_text (codes "events") item) refl e.events_there
   where
     by_update : (o : Option (ℕ × List ℕ)) → option_map (λ (m : ℕ × List ℕ). m.1) o ≡ Some e.update →
-        (x : Entry) × (option_map_or (λ (m : ℕ × List ℕ). entry_with trail number n e.events m ∷ []) o [] ≡ x ∷ []) × (x.events ≡ e.events) × (x.update ≡ update_of e.update)
+        (x : Entry) × (option_map_or (λ (m : ℕ × List ℕ). entry_with trail number n e.events m ∷ []) o [] ≡ x ∷ [])
+        × (x.events ≡ e.events) × (x.update ≡ update_of e.update)
     by_update None same = absurd cc
     by_update (Some m) same = let text : m.1 ≡ e.update = cc in (entry_with trail number n e.events m, refl, refl, ap update_of text)
 
@@ -246,7 +250,8 @@ said_right own earlier before item e x events_are update_is same right = by_upda
         let parts = or_parts (is_wrong_alone own x.events u) (list_any (clashes_with u) earlier) f in
         let alone = or_parts (not (bytes_eq x.events (selector_of u.change)) || is_of_another own u) (misses_channels u) parts.0 in
         let first = or_parts (not (bytes_eq x.events (selector_of u.change))) (is_of_another own u) alone.0 in
-        let belongs : x.events ≡ selector_of u.change = (bytes_eq-Decides x.events (selector_of u.change)).0 (not_true (bytes_eq x.events (selector_of u.change)) first.0) in
+        let belongs : x.events ≡ selector_of u.change =
+        (bytes_eq-Decides x.events (selector_of u.change)).0 (not_true (bytes_eq x.events (selector_of u.change)) first.0) in
         let said : update_of (built item).update ≡ Some u = ap update_of e.built_update ∙ sym update_is ∙ at in
         let none : Each (λ (f : EventUpdate). beside u (update_of f.update) ≡ false) before =
         none_passes (λ (f : EventUpdate). beside u (update_of f.update)) before
@@ -262,7 +267,8 @@ said_right own earlier before item e x events_are update_is same right = by_upda
         )
 
 -- where the entries of items show no fault, the items say updates, of which none clashes with an earlier one
-pub items_clean : (concerned : Concerned) (trail : Trail) (number n : ℕ) (earlier : List Entry) (before : List EventUpdate) (items : List Json) → Each IsEntry items →
+pub items_clean : (concerned : Concerned) (trail : Trail) (number n : ℕ) (earlier : List Entry) (before : List EventUpdate) (items : List Json) →
+    Each IsEntry items →
     updates earlier ≡ said_updates before → shown (entries_parts concerned earlier (flat_map (entry_of trail number) (enumerate_from n items))) ≡ [] →
     AreUpdates before (map built items)
 items_clean concerned trail number n earlier before [] each same quiet = tt

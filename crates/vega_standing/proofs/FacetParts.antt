@@ -34,7 +34,8 @@ use Rattle.vega_parts.specs.declared.part.Part.{Part}
 use Rattle.vega_parts.specs.declared.part.Used.TheVariants as for_
 use Rattle.vega_parts.specs.Trails.{Trail, Place, noted, place_of, child, grandchild, object_round}
 use Rattle.vega_parts.specs.Members.{member_at, items_at, has_member}
-use Rattle.vega_parts.specs.Facets.{group_of, facet_name, facet_item, facet_names_in, facet_names, facet_rows_in, facet_rows, header, headers_in, headers, facet_faults, facet_names_and_rows, facet_parts}
+use Rattle.vega_parts.specs.Facets.{group_of, facet_name, facet_item, facet_names_in, facet_names, facet_rows_in, facet_rows, header}
+use Rattle.vega_parts.specs.Facets.{headers_in, headers, facet_faults, facet_names_and_rows, facet_parts}
 use Rattle.vega_parts.specs.Lengths.{apart, other_length}
 use Rattle.vega_parts.specs.Parts.{parts_at}
 use Rattle.vega_standing.proofs.Trees.{Each}
@@ -60,7 +61,8 @@ module _ (P : List ℕ → Type 0) (trail : Trail) (holds_group : P (place_of (g
   name_each place name = (holds_group, (tt, tt))
 
   item_each : (number : ℕ) (item : ℕ × Json) → Each Concerns (facet_item trail number item)
-  item_each number item = some_each (λ (name : List ℕ). facet_name trail (grandchild trail number item.0) name) (λ name. name_each (grandchild trail number item.0) name) (text_in (out-Json item.1))
+  item_each number item = some_each (λ (name : List ℕ). facet_name trail (grandchild trail number item.0) name)
+      (λ name. name_each (grandchild trail number item.0) name) (text_in (out-Json item.1))
 
   names_each : (number : ℕ) (o : Opened) → Each Concerns (facet_names_in trail number o)
   names_each number level.Null = tt
@@ -84,7 +86,8 @@ module _ (P : List ℕ → Type 0) (trail : Trail) (holds_group : P (place_of (g
   header_quiet number item = some_quiet _ (λ (name : List ℕ). (refl, tt)) (text_in (out-Json item.1))
 
   headers_quiet : (tree : Json) → AreQuiet (headers trail tree)
-  headers_quiet tree = some_quiet (λ (m : ℕ × List Json). headers_in trail m.0 m.1) (λ m. each_flat IsQuiet (header trail m.0) (header_quiet m.0) (enumerate_from 0 m.1)) (items_at (codes "headers") tree)
+  headers_quiet tree = some_quiet (λ (m : ℕ × List Json). headers_in trail m.0 m.1)
+      (λ m. each_flat IsQuiet (header trail m.0) (header_quiet m.0) (enumerate_from 0 m.1)) (items_at (codes "headers") tree)
 
   pub facet_each : (tree : Json) → Each Concerns (facet_parts trail tree)
   facet_each tree =
@@ -92,7 +95,8 @@ module _ (P : List ℕ → Type 0) (trail : Trail) (holds_group : P (place_of (g
       (each_append Concerns (facet_names_and_rows trail tree) (headers trail tree)
       (each_append Concerns (facet_names trail tree) (facet_rows trail tree)
       (some_each (λ (m : ℕ × Json). facet_names_in trail m.0 (out-Json m.1)) (λ m. names_each m.0 (out-Json m.1)) (member_at (codes "name") tree))
-      (quiet_holds P (facet_rows trail tree) (some_quiet (λ (m : ℕ × Json). facet_rows_in trail m.0 (out-Json m.1)) (λ m. rows_quiet m.0 (out-Json m.1)) (member_at (codes "data") tree))))
+      (quiet_holds P (facet_rows trail tree)
+      (some_quiet (λ (m : ℕ × Json). facet_rows_in trail m.0 (out-Json m.1)) (λ m. rows_quiet m.0 (out-Json m.1)) (member_at (codes "data") tree))))
       (quiet_holds P (headers trail tree) (headers_quiet tree)))
       (quiet_holds P (facet_faults trail tree)
       (both_quiet (apart (codes "name") (codes "data") trail tree) (other_length (codes "headers") (codes "groupby") trail tree)
@@ -170,7 +174,8 @@ unfolding group_from
 from_alone = refl
 
 -- what holds of the group, holds of all that its facet concerns
-pub facet_concerns : (P : List ℕ → Type 0) (round : Trail) (number : ℕ) (tree : Json) → Stands round number FACET tree → P (place_of (group_of (noted number FACET tree ∷ round))) →
+pub facet_concerns : (P : List ℕ → Type 0) (round : Trail) (number : ℕ) (tree : Json) →
+    Stands round number FACET tree → P (place_of (group_of (noted number FACET tree ∷ round))) →
     Each (λ p. IfSome (concern p) P) (parts_in round number FACET tree)
 facet_concerns P round number tree s p =
     let form = formed FACET tree s.fine in
@@ -178,12 +183,15 @@ facet_concerns P round number tree s p =
     let l : Laid round number FACET FACET tree ms.0 = laid_out round number FACET FACET tree ms.0 s ms.1 (λ f e. facet_taken (level.Object ms.0) f e) in
     let is : l.layout ≡ facet = let a = l.applies in let b = facet_layout ms.0 in cc in
     subst (Each (λ p. IfSome (concern p) P)) (sym l.parts)
-    (each_append (λ p. IfSome (concern p) P) (parts_at (noted number FACET tree ∷ round) tree) (parts_of_members (noted number FACET tree ∷ round) l.layout 0 ms.0)
+    (each_append (λ p. IfSome (concern p) P) (parts_at (noted number FACET tree ∷ round) tree)
+    (parts_of_members (noted number FACET tree ∷ round) l.layout 0 ms.0)
     (facet_each P (noted number FACET tree ∷ round) p tree)
     (members_each (λ p. IfSome (concern p) P) (noted number FACET tree ∷ round) l.layout 0 ms.0 l.stands.each
-    (λ i m shape ruled st. quiet_holds P (parts_in (noted number FACET tree ∷ round) i shape m.value) (dull_parts (noted number FACET tree ∷ round) i shape m.value
+    (λ i m shape ruled st. quiet_holds P (parts_in (noted number FACET tree ∷ round) i shape m.value)
+    (dull_parts (noted number FACET tree ∷ round) i shape m.value
     (ruled_as facet.rules facet.others m.name shape (λ i. is_dull i ≡ true) facet_alone
-    (λ r found. (found_passes (λ (r : Rule). bytes_eq r.name m.name) (λ (r : Rule). is_dull r.shape) facet.rules r found facet_dull).1) (ap (λ x. shape_in x m.name) (sym is) ∙ ruled))))))
+    (λ r found. (found_passes (λ (r : Rule). bytes_eq r.name m.name) (λ (r : Rule). is_dull r.shape) facet.rules r found facet_dull).1)
+    (ap (λ x. shape_in x m.name) (sym is) ∙ ruled))))))
 
 or_other : (a b : Bool) → (a || b) ≡ true → a ≡ false → b ≡ true
 or_other true b e f = absurd cc
@@ -204,7 +212,8 @@ no_value ms name e = by_test (has_name ms name) refl
   where
     by_test : (b : Bool) → has_name ms name ≡ b → b ≡ false
     by_test false f = refl
-    by_test true f = let g : is_some (member_value ms name) ≡ true = has_value ms name f in absurd (let h : is_some (member_value ms name) ≡ false = ap is_some e in cc)
+    by_test true f = let g : is_some (member_value ms name) ≡ true = has_value ms name f in
+        absurd (let h : is_some (member_value ms name) ≡ false = ap is_some e in cc)
 
 -- what holds of the group, holds of all that its `from` concerns
 pub from_concerns : (P : List ℕ → Type 0) (round : Trail) (number : ℕ) (tree : Json) → Stands round number GROUP_FROM tree → P (place_of round) →
@@ -212,22 +221,27 @@ pub from_concerns : (P : List ℕ → Type 0) (round : Trail) (number : ℕ) (tr
 from_concerns P round number tree s p =
     let form = formed GROUP_FROM tree s.fine in
     let ms : (ms : List Member) × (out-Json tree ≡ level.Object ms) = opened_as GROUP_FROM (out-Json tree) (from_taken (out-Json tree) form.0 form.1).0 in
-    let l : Laid round number GROUP_FROM GROUP_FROM tree ms.0 = laid_out round number GROUP_FROM GROUP_FROM tree ms.0 s ms.1 (λ f e. from_taken (level.Object ms.0) f e) in
+    let l : Laid round number GROUP_FROM GROUP_FROM tree ms.0 =
+    laid_out round number GROUP_FROM GROUP_FROM tree ms.0 s ms.1 (λ f e. from_taken (level.Object ms.0) f e) in
     let is : group_from ≡ l.layout = (from_layout ms.0 l.layout l.applies).1 in
     subst (Each (λ p. IfSome (concern p) P)) (sym l.parts)
-    (each_append (λ p. IfSome (concern p) P) (parts_at (noted number GROUP_FROM tree ∷ round) tree) (parts_of_members (noted number GROUP_FROM tree ∷ round) l.layout 0 ms.0)
+    (each_append (λ p. IfSome (concern p) P) (parts_at (noted number GROUP_FROM tree ∷ round) tree)
+    (parts_of_members (noted number GROUP_FROM tree ∷ round) l.layout 0 ms.0)
     (quiet_holds P (parts_at (noted number GROUP_FROM tree ∷ round) tree) (quiet_shape GROUP_FROM refl refl refl (noted number GROUP_FROM tree ∷ round) tree))
     (members_each (λ p. IfSome (concern p) P) (noted number GROUP_FROM tree ∷ round) l.layout 0 ms.0 l.stands.each
     (λ i m shape ruled st. by_rule i m shape st (is_dull shape) refl
     (ruled_as group_from.rules group_from.others m.name shape (λ i. (is_dull i || i == FACET) ≡ true) from_alone
-    (λ r found. (found_passes (λ (r : Rule). bytes_eq r.name m.name) from_rule group_from.rules r found from_dull).1) (ap (λ x. shape_in x m.name) is ∙ ruled)))))
+    (λ r found. (found_passes (λ (r : Rule). bytes_eq r.name m.name) from_rule group_from.rules r found from_dull).1)
+    (ap (λ x. shape_in x m.name) is ∙ ruled)))))
   where
     of_facet : (shape : ℕ) (b : Bool) → is_dull shape ≡ b → b ≡ false → (is_dull shape || shape == FACET) ≡ true → shape ≡ FACET
     of_facet shape b e f either = same_code shape FACET (or_other (is_dull shape) (shape == FACET) either (e ∙ f))
 
-    by_rule : (i : ℕ) (m : Member) (shape : ℕ) → Stands (noted number GROUP_FROM tree ∷ round) i shape m.value → (b : Bool) → is_dull shape ≡ b → (is_dull shape || shape == FACET) ≡ true →
+    by_rule : (i : ℕ) (m : Member) (shape : ℕ) → Stands (noted number GROUP_FROM tree ∷ round) i shape m.value →
+        (b : Bool) → is_dull shape ≡ b → (is_dull shape || shape == FACET) ≡ true →
         Each (λ p. IfSome (concern p) P) (parts_in (noted number GROUP_FROM tree ∷ round) i shape m.value)
-    by_rule i m shape st true e either = quiet_holds P (parts_in (noted number GROUP_FROM tree ∷ round) i shape m.value) (dull_parts (noted number GROUP_FROM tree ∷ round) i shape m.value e)
+    by_rule i m shape st true e either = quiet_holds P (parts_in (noted number GROUP_FROM tree ∷ round) i shape m.value)
+        (dull_parts (noted number GROUP_FROM tree ∷ round) i shape m.value e)
     by_rule i m shape st false e either =
         let same : shape ≡ FACET = of_facet shape false e refl either in
         subst (λ c. Each (λ p. IfSome (concern p) P) (parts_in (noted number GROUP_FROM tree ∷ round) i c m.value)) (sym same)
@@ -238,8 +252,10 @@ pub from_has_facet : (round : Trail) (number : ℕ) (tree : Json) → Stands rou
 from_has_facet round number tree s =
     let form = formed GROUP_FROM tree s.fine in
     let ms : (ms : List Member) × (out-Json tree ≡ level.Object ms) = opened_as GROUP_FROM (out-Json tree) (from_taken (out-Json tree) form.0 form.1).0 in
-    let l : Laid round number GROUP_FROM GROUP_FROM tree ms.0 = laid_out round number GROUP_FROM GROUP_FROM tree ms.0 s ms.1 (λ f e. from_taken (level.Object ms.0) f e) in
-    has_of (member_at (codes "facet") tree) (member_value ms.0 (codes "facet")) (member_is tree ms.0 ms.1 (codes "facet")) (named_value ms.0 (from_layout ms.0 l.layout l.applies).0)
+    let l : Laid round number GROUP_FROM GROUP_FROM tree ms.0 =
+    laid_out round number GROUP_FROM GROUP_FROM tree ms.0 s ms.1 (λ f e. from_taken (level.Object ms.0) f e) in
+    has_of (member_at (codes "facet") tree) (member_value ms.0 (codes "facet"))
+    (member_is tree ms.0 ms.1 (codes "facet")) (named_value ms.0 (from_layout ms.0 l.layout l.applies).0)
   where
     has_of : (o : Option (ℕ × Json)) (p : Option Json) → option_map (λ (m : ℕ × Json). m.1) o ≡ p → is_some p ≡ true → is_some o ≡ true
     has_of None None e f = f

@@ -56,10 +56,12 @@ top_but : (m : Member) → DullButTwo top m
 top_but m no_set no_marks inner e =
     ruled_as top.rules top.others m.name inner (λ i. is_dull i ≡ true) top_alone
     (λ r found.
-    let passed : (bytes_eq r.name m.name ≡ true) × (top_rule r ≡ true) = found_passes (λ (r : Rule). bytes_eq r.name m.name) top_rule top.rules r found top_dull in
+    let passed : (bytes_eq r.name m.name ≡ true) × (top_rule r ≡ true) =
+    found_passes (λ (r : Rule). bytes_eq r.name m.name) top_rule top.rules r found top_dull in
     let named : r.name ≡ m.name = (bytes_eq-Decides r.name m.name).0 passed.0 in
     or_dull (is_dull r.shape) (bytes_eq r.name (codes "marks"))
-    (or_dull (is_dull r.shape || bytes_eq r.name (codes "marks")) (bytes_eq r.name (codes "data")) passed.1 (ap (λ n. bytes_eq n (codes "data")) named ∙ no_set))
+    (or_dull (is_dull r.shape || bytes_eq r.name (codes "marks")) (bytes_eq r.name (codes "data"))
+    passed.1 (ap (λ n. bytes_eq n (codes "data")) named ∙ no_set))
     (ap (λ n. bytes_eq n (codes "marks")) named ∙ no_marks)) e
 
 each_top : (ms : List Member) → Each (DullButTwo top) ms
@@ -91,7 +93,8 @@ folds_kept tree own e =
     let two : TwoLoud (noted 0 TOP tree ∷ []) top 0 ms = rules_of_top ms (noted 0 TOP tree ∷ []) t.object in
     let whole : List Part = parts_of tree in
     let fits = object_fits whole t.rules.twice t.rules.unknown t.rules.folds (noted 0 TOP tree) [] refl top ms two (go t two.marks two.marks_stand)
-    (parts_at (noted 0 TOP tree ∷ []) tree) (quiet_shape TOP refl refl refl (noted 0 TOP tree ∷ []) tree) no_folds [] [] (t.parts ∙ sym (append-nil _)) (λ x u. tt) (λ x u. tt)
+    (parts_at (noted 0 TOP tree ∷ []) tree) (quiet_shape TOP refl refl refl (noted 0 TOP tree ∷ []) tree)
+    no_folds [] [] (t.parts ∙ sym (append-nil _)) (λ x u. tt) (λ x u. tt)
     (record { meets = λ name. tt; few = λ name. one }) in
     let g : VgSpec = spec_with ms in
     let is = group_opened ms (marks_at ms (codes "marks")) in
@@ -109,7 +112,8 @@ folds_kept tree own e =
     subst (λ m. FoldsKeep (spec_with m)) (sym same) kept
   where
     go : (t : IsTop tree) (o : Option (ℕ × Json)) → IfSome o (λ (m : ℕ × Json). Stands (noted 0 TOP tree ∷ []) m.0 MARKS m.1) →
-        IfSome o (λ (m : ℕ × Json). MarksGo (parts_of tree) t.rules.twice t.rules.unknown t.rules.folds (noted 0 TOP tree ∷ []) (place_of (noted 0 TOP tree ∷ []) ++ m.0 ∷ []) m.0 m.1)
+        IfSome o (λ (m : ℕ × Json). MarksGo (parts_of tree) t.rules.twice t.rules.unknown t.rules.folds
+        (noted 0 TOP tree ∷ []) (place_of (noted 0 TOP tree ∷ []) ++ m.0 ∷ []) m.0 m.1)
     go t None s = tt
     go t (Some m) s = marks_go (parts_of tree) t.rules.twice t.rules.unknown t.rules.folds (noted 0 TOP tree) [] m.0 m.1 s
         (deep_tree (parts_of tree) t.rules.twice t.rules.unknown t.rules.folds m.1) refl

@@ -25,7 +25,9 @@ use Rattle.vega_lists.specs.Transforms.{transforms_of}
 use Rattle.vega_lists.specs.Products.{Products, fold_product, ProductsFit, begun_product, and_its_product}
 use Rattle.vega_standing.proofs.Trees.{Each}
 use Rattle.vega_standing.proofs.Quiet.{IsQuiet, AreQuiet, each_append, each_of}
-use Rattle.vega_standing.proofs.Known.{Under, under_itself, under_further, under_others, under_itself_not, unlike, concern, quiet_concern, quiet_holds, Apart, known_after, known_append, folds_append, apart_product, quiet_known, source_behind, loud_data, name_behind, name_append}
+use Rattle.vega_standing.proofs.Known.{Under, under_itself, under_further, under_others, under_itself_not, unlike, concern, quiet_concern}
+use Rattle.vega_standing.proofs.Known.{quiet_holds, Apart, known_after, known_append, folds_append, apart_product, quiet_known}
+use Rattle.vega_standing.proofs.Known.{source_behind, loud_data, name_behind, name_append}
 use Rattle.vega_standing.proofs.Rows.{parent_child}
 use Rattle.vega_standing.proofs.Steps.{Multiplied}
 use Rattle.vega_standing.proofs.Lists.{earlier_ends, itself_not, Behind, apart_behind, first_later, Meets, Outer, outer_kept, not_repeated, is_known}
@@ -60,11 +62,13 @@ pub record ASet (whole : List Part) (scope x : List ℕ) (parts : List Part) (se
   pub quiet_back : AreQuiet back
   pub made : parts ≡ set_list scope x name_child set.name front source between steps back
   pub source_is : option_map (λ (m : ℕ × List ℕ). m.1) source ≡ set.source
-  pub multiplied : (known : List (List ℕ × ℕ)) → product_of known x ≤ 8 → folds_after whole known steps ≡ [] → Multiplied whole known x steps (transforms_of set)
+  pub multiplied : (known : List (List ℕ × ℕ)) → product_of known x ≤ 8 →
+      folds_after whole known steps ≡ [] → Multiplied whole known x steps (transforms_of set)
   pub only_folds : Each (IsFoldOf x) steps
 
 -- what quiet parts keep, and what folds of the data set keep
-pub steps_keep : (P : Part → Type 0) (x : List ℕ) → ((p : Part) → IsQuiet p → P p) → ((at : List ℕ) (k : ℕ) → P (part.Fold at x k)) → (steps : List Part) → Each (IsFoldOf x) steps → Each P steps
+pub steps_keep : (P : Part → Type 0) (x : List ℕ) → ((p : Part) → IsQuiet p → P p) →
+    ((at : List ℕ) (k : ℕ) → P (part.Fold at x k)) → (steps : List Part) → Each (IsFoldOf x) steps → Each P steps
 steps_keep P x quiet fold steps each = each_of (IsFoldOf x) P by_part steps each
   where
     by_part : (p : Part) → IsFoldOf x p → P p
@@ -82,14 +86,16 @@ used_concerns P scope x p None = tt
 used_concerns P scope x p (Some c) = (subst P (sym (parent_child x c.0)) p, tt)
 
 -- what holds of the object and of the data set holds of all that its parts concern
-pub set_concerns : (P : List ℕ → Type 0) (whole : List Part) (scope x : List ℕ) (parts : List Part) (set : DataSet) → ASet whole scope x parts set → P scope → P x →
+pub set_concerns : (P : List ℕ → Type 0) (whole : List Part) (scope x : List ℕ) (parts : List Part) (set : DataSet) →
+    ASet whole scope x parts set → P scope → P x →
     Each (λ p. IfSome (concern p) P) parts
 set_concerns P whole scope x parts set s p q =
     subst (Each (λ p. IfSome (concern p) P)) (sym s.made) (
       q,
       (
         p,
-        each_append (λ p. IfSome (concern p) P) s.front (source_part scope x s.source ++ (s.between ++ (s.steps ++ s.back))) (quiet_holds P s.front s.quiet_front)
+        each_append (λ p. IfSome (concern p) P) s.front
+            (source_part scope x s.source ++ (s.between ++ (s.steps ++ s.back))) (quiet_holds P s.front s.quiet_front)
             (each_append (λ p. IfSome (concern p) P) (source_part scope x s.source) (s.between ++ (s.steps ++ s.back)) (used_concerns P scope x q s.source)
             (each_append (λ p. IfSome (concern p) P) s.between (s.steps ++ s.back) (quiet_holds P s.between s.quiet_between)
             (each_append (λ p. IfSome (concern p) P) s.steps s.back (own_steps P x s.steps s.only_folds q) (quiet_holds P s.back s.quiet_back)))),
@@ -149,13 +155,15 @@ serves at g e = ap (λ b. if not true || b then Some g else None) e
 serves_not : (at : List ℕ) (g : GivenName) → ends_before g.of at ≡ false → served for_.Source at g ≡ None
 serves_not at g e = ap (λ b. if not true || b then Some g else None) e
 
-own_means : (known : List (List ℕ × ℕ)) (at : List ℕ) (g : GivenName) (facet round : Option GivenName) (product : ℕ) → ends_before g.of at ≡ true → product_of known g.of ≡ product →
+own_means : (known : List (List ℕ × ℕ)) (at : List ℕ) (g : GivenName) (facet round : Option GivenName) (product : ℕ) →
+    ends_before g.of at ≡ true → product_of known g.of ≡ product →
     worth known (meant at (Some g) facet round) ≡ product
 own_means known at g facet round product e f =
     ap (λ o. worth known (option_or o (option_and_then (served for_.Source at) (option_or facet round)))) (serves at g e) ∙ f
 
 round_means : (known : List (List ℕ × ℕ)) (at : List ℕ) (round : Option GivenName) (product : ℕ) →
-    IfSome round (λ (g : GivenName). ends_before g.of at ≡ true → product_of known g.of ≡ product) → is_none (option_and_then (served for_.Source at) round) ≡ false →
+    IfSome round (λ (g : GivenName). ends_before g.of at ≡ true → product_of known g.of ≡ product) →
+    is_none (option_and_then (served for_.Source at) round) ≡ false →
     worth known (option_and_then (served for_.Source at) round) ≡ product
 round_means known at None product m some = absurd cc
 round_means known at (Some g) product m some = by_test (ends_before g.of at) refl
@@ -225,7 +233,8 @@ module _ (whole : List Part) (no_twice : twice whole ≡ []) (no_unknown : unkno
   abbrev rest_of : Option (ℕ × List ℕ) → List Part
   rest_of o = s.front ++ (source_part scope x o ++ (s.between ++ (s.steps ++ s.back)))
 
-  to_source : (o : Option (ℕ × List ℕ)) → s.source ≡ o → source_of whole x ≡ source_of ((source_part scope x o ++ (s.between ++ (s.steps ++ s.back))) ++ after) x
+  to_source : (o : Option (ℕ × List ℕ)) → s.source ≡ o →
+      source_of whole x ≡ source_of ((source_part scope x o ++ (s.between ++ (s.steps ++ s.back))) ++ after) x
   to_source o e =
       ap (λ ps. source_of ps x) (whole_is ∙ ap (λ o. before ++ (set_list scope x s.name_child set.name s.front o s.between s.steps s.back ++ after)) e)
       ∙ source_behind x before (set_list scope x s.name_child set.name s.front o s.between s.steps s.back ++ after) (sofar.clear j (no_less j))
@@ -256,8 +265,13 @@ module _ (whole : List Part) (no_twice : twice whole ≡ []) (no_unknown : unkno
   behind_all : (c : ℕ) → Each (Behind scope (x ++ c ∷ [])) (parts ++ after)
   behind_all c =
       each_append (Behind scope (x ++ c ∷ [])) parts after
-      (subst (Each (Behind scope (x ++ c ∷ []))) (sym s.made)
-      (tt, ((λ same loud. itself_not x c), each_of (Apart scope) (Behind scope (x ++ c ∷ [])) (apart_behind scope (x ++ c ∷ [])) (rest_of s.source) rest_apart)))
+      (subst (Each (Behind scope (x ++ c ∷ []))) (sym s.made) (
+        tt,
+        (
+          (λ same loud. itself_not x c),
+          each_of (Apart scope) (Behind scope (x ++ c ∷ [])) (apart_behind scope (x ++ c ∷ [])) (rest_of s.source) rest_apart,
+        ),
+      ))
       (behind_after (c ∷ []))
     where
       rest_apart : Each (Apart scope) (rest_of s.source)
@@ -268,7 +282,8 @@ module _ (whole : List Part) (no_twice : twice whole ≡ []) (no_unknown : unkno
           (each_append (Apart scope) s.between (s.steps ++ s.back) (quiet_holds P s.between s.quiet_between)
           (each_append (Apart scope) s.steps s.back (own_steps P x s.steps s.only_folds scope_not_x) (quiet_holds P s.back s.quiet_back))))
 
-  own_first : (name : List ℕ) → first_given whole given_as.Data scope name ≡ option_or (first_given before given_as.Data scope name) (first_given (parts ++ after) given_as.Data scope name)
+  own_first : (name : List ℕ) → first_given whole given_as.Data scope name
+      ≡ option_or (first_given before given_as.Data scope name) (first_given (parts ++ after) given_as.Data scope name)
   own_first name = ap (λ ps. first_given ps given_as.Data scope name) is ∙ name_append given_as.Data scope name before (parts ++ after)
 
   resolves : (c : ℕ × List ℕ) (own : Option GivenName) → first_given before given_as.Data scope c.1 ≡ own →
@@ -278,9 +293,11 @@ module _ (whole : List Part) (no_twice : twice whole ≡ []) (no_unknown : unkno
       λ i. meant (x ++ c.0 ∷ []) ((own_first c.1 ∙ ap (λ o. option_or o (first_given (parts ++ after) given_as.Data scope c.1)) e) i) (no_facets c.1 i)
       (first_found (given_in whole for_.Source c.1) (fronts_round scope))
 
-  met : (o : Option GivenName) (product : ℕ) (c : ℕ) → Meets known scope product o → IfSome o (λ (g : GivenName). ends_before g.of (x ++ c ∷ []) ≡ true → product_of known g.of ≡ product)
+  met : (o : Option GivenName) (product : ℕ) (c : ℕ) → Meets known scope product o →
+      IfSome o (λ (g : GivenName). ends_before g.of (x ++ c ∷ []) ≡ true → product_of known g.of ≡ product)
   met None product c m = tt
-  met (Some g) product c m = λ e. m.0 (x ++ c ∷ []) (under_further scope (k ∷ []) (x ++ c ∷ []) (under_further list (j ∷ []) (x ++ c ∷ []) (under_itself x (c ∷ [])))) e
+  met (Some g) product c m =
+      λ e. m.0 (x ++ c ∷ []) (under_further scope (k ∷ []) (x ++ c ∷ []) (under_further list (j ∷ []) (x ++ c ∷ []) (under_itself x (c ∷ [])))) e
 
   source_means : (c : ℕ × List ℕ) → is_none (resolved_use whole (use_of c)) ≡ false → worth known (resolved_use whole (use_of c)) ≡ products c.1
   source_means c some = by_own (first_given before given_as.Data scope c.1) refl (sofar.own c.1)
@@ -303,12 +320,14 @@ module _ (whole : List Part) (no_twice : twice whole ≡ []) (no_unknown : unkno
           ∙ sym o
 
   place_in_whole : (c : ℕ × List ℕ) → s.source ≡ Some c →
-      whole ≡ (before ++ (part.Data x ∷ given given_as.Data scope x (x ++ s.name_child ∷ []) set.name ∷ s.front)) ++ part.Used (use_of c) ∷ ((s.between ++ (s.steps ++ s.back)) ++ after)
+      whole ≡ (before ++ (part.Data x ∷ given given_as.Data scope x (x ++ s.name_child ∷ []) set.name ∷ s.front))
+      ++ part.Used (use_of c) ∷ ((s.between ++ (s.steps ++ s.back)) ++ after)
   place_in_whole c e =
       whole_is ∙ ap (λ o. before ++ (set_list scope x s.name_child set.name s.front o s.between s.steps s.back ++ after)) e
       ∙ ap (λ ps. before ++ part.Data x ∷ given given_as.Data scope x (x ++ s.name_child ∷ []) set.name ∷ ps)
       (append_assoc s.front (part.Used (use_of c) ∷ (s.between ++ (s.steps ++ s.back))) after)
-      ∙ sym (append_assoc before (part.Data x ∷ given given_as.Data scope x (x ++ s.name_child ∷ []) set.name ∷ s.front) (part.Used (use_of c) ∷ ((s.between ++ (s.steps ++ s.back)) ++ after)))
+      ∙ sym (append_assoc before (part.Data x ∷ given given_as.Data scope x (x ++ s.name_child ∷ []) set.name ∷ s.front)
+      (part.Used (use_of c) ∷ ((s.between ++ (s.steps ++ s.back)) ++ after)))
 
   -- the product with which the data set begins
   begins : begun whole known x ≡ begun_product products set
@@ -343,7 +362,8 @@ module _ (whole : List Part) (no_twice : twice whole ≡ []) (no_unknown : unkno
   used_nothing None kn = refl
   used_nothing (Some c) kn = refl
 
-  up_to_steps : (others : List Part) → known_after whole entered (s.front ++ (source_part scope x s.source ++ (s.between ++ others))) ≡ known_after whole entered others
+  up_to_steps : (others : List Part) →
+      known_after whole entered (s.front ++ (source_part scope x s.source ++ (s.between ++ others))) ≡ known_after whole entered others
   up_to_steps others =
       known_append whole entered s.front (source_part scope x s.source ++ (s.between ++ others))
       ∙ ap (λ kn. known_after whole kn (source_part scope x s.source ++ (s.between ++ others))) (quiet_known whole entered s.front s.quiet_front)
@@ -360,10 +380,12 @@ module _ (whole : List Part) (no_twice : twice whole ≡ []) (no_unknown : unkno
   here_folds : folds_after whole known parts ≡ []
   here_folds =
       let all : folds_after whole [] (before ++ (parts ++ after)) ≡ [] = ap (folds_after whole []) (sym is) ∙ no_folds in
-      let later = (none_of (folds_after whole [] before) (folds_after whole known (parts ++ after)) (sym (folds_append whole [] before (parts ++ after)) ∙ all)).1 in
+      let later = (none_of (folds_after whole [] before) (folds_after whole known (parts ++ after))
+      (sym (folds_append whole [] before (parts ++ after)) ∙ all)).1 in
       (none_of (folds_after whole known parts) _ (sym (folds_append whole known parts after) ∙ later)).0
 
-  front_folds : (known : List (List ℕ × ℕ)) (front others : List Part) → folds_after whole known (front ++ others) ≡ [] → folds_after whole (known_after whole known front) others ≡ []
+  front_folds : (known : List (List ℕ × ℕ)) (front others : List Part) →
+      folds_after whole known (front ++ others) ≡ [] → folds_after whole (known_after whole known front) others ≡ []
   front_folds kn front others e = (none_of (folds_after whole kn front) _ (sym (folds_append whole kn front others) ∙ e)).1
 
   step_folds : folds_after whole entered s.steps ≡ []
@@ -374,7 +396,8 @@ module _ (whole : List Part) (no_twice : twice whole ≡ []) (no_unknown : unkno
       ap (λ ps. s.front ++ ps) (sym (append_assoc (source_part scope x s.source) s.between (s.steps ++ s.back)))
       ∙ sym (append_assoc s.front (source_part scope x s.source ++ s.between) (s.steps ++ s.back)) in
       let behind = front_folds entered lead (s.steps ++ s.back) (ap (folds_after whole entered) (sym is_lead) ∙ all) in
-      let same : known_after whole entered lead ≡ entered = ap (known_after whole entered) (ap (λ ps. s.front ++ (source_part scope x s.source ++ ps)) (sym (append-nil s.between))) ∙ up_to_steps [] in
+      let same : known_after whole entered lead ≡ entered =
+      ap (known_after whole entered) (ap (λ ps. s.front ++ (source_part scope x s.source ++ ps)) (sym (append-nil s.between))) ∙ up_to_steps [] in
       let there : folds_after whole entered (s.steps ++ s.back) ≡ [] = ap (λ kn. folds_after whole kn (s.steps ++ s.back)) (sym same) ∙ behind in
       (none_of (folds_after whole entered s.steps) _ (sym (folds_append whole entered s.steps s.back) ∙ there)).0
 
@@ -430,7 +453,8 @@ module _ (whole : List Part) (no_twice : twice whole ≡ []) (no_unknown : unkno
       (set_concerns (λ t. same_place g.of t ≡ false) whole scope x parts set s
       (unlike g.of scope (λ e. let f : same_place scope (list ++ i ∷ []) ≡ false = under_itself_not scope k (list ++ i ∷ []) (under_itself list (i ∷ [])) in
       let h : same_place scope (list ++ i ∷ []) ≡ true = (bytes_eq-Decides scope (list ++ i ∷ [])).1 (sym e ∙ of) in cc))
-      (ap (λ y. same_place y x) of ∙ under_others list i j (list ++ i ∷ []) x (λ same. not_itself i j less same) (([], sym (append-nil (list ++ i ∷ [])))) (([], sym (append-nil x)))))
+      (ap (λ y. same_place y x) of ∙ under_others list i j (list ++ i ∷ []) x (λ same. not_itself i j less same)
+      (([], sym (append-nil (list ++ i ∷ [])))) (([], sym (append-nil x)))))
     where
       not_itself : (a b : ℕ) → a < b → a ≡ b → ⊥
       not_itself a b less same = omega (arith, less, same)
@@ -449,7 +473,8 @@ module _ (whole : List Part) (no_twice : twice whole ≡ []) (no_unknown : unkno
           (each_append (Apart scope) s.steps s.back (own_steps P x s.steps s.only_folds scope_not_x) (quiet_holds P s.back s.quiet_back))))
 
       none_behind : first_given (rest_of s.source) given_as.Data scope name ≡ None
-      none_behind = ap (λ ps. first_given ps given_as.Data scope name) (sym (append-nil (rest_of s.source))) ∙ name_behind given_as.Data loud_data scope name (rest_of s.source) [] rest_apart
+      none_behind = ap (λ ps. first_given ps given_as.Data scope name) (sym (append-nil (rest_of s.source)))
+          ∙ name_behind given_as.Data loud_data scope name (rest_of s.source) [] rest_apart
 
       by_scope : (b : Bool) → b ≡ true → cond (true && b && bytes_eq name set.name) (Some given_here) (first_given (rest_of s.source) given_as.Data scope name)
           ≡ (if bytes_eq name set.name then Some given_here else None)
@@ -459,11 +484,13 @@ module _ (whole : List Part) (no_twice : twice whole ≡ []) (no_unknown : unkno
   next = record {
     own = λ name. by_own name (first_given before given_as.Data scope name) refl (sofar.own name);
     outside = subst (λ kn. Outer whole kn scope (fronts_round scope) outer) (sym then_known)
-        (outer_kept whole known scope (fronts_round scope) outer parts (set_concerns (Under scope) whole scope x parts set s ([], sym (append-nil scope)) x_under_scope) sofar.outside);
+        (outer_kept whole known scope (fronts_round scope) outer parts
+        (set_concerns (Under scope) whole scope x parts set s ([], sym (append-nil scope)) x_under_scope) sofar.outside);
     few = λ name. by_name (bytes_eq set.name name) (sofar.few name);
     clear = λ i more. each_append (Apart (list ++ i ∷ [])) before parts (sofar.clear i (less i more))
         (set_concerns (λ t. same_place (list ++ i ∷ []) t ≡ false) whole scope x parts set s
-        (unlike (list ++ i ∷ []) scope (λ e. let f : same_place scope (list ++ i ∷ []) ≡ false = under_itself_not scope k (list ++ i ∷ []) (under_itself list (i ∷ [])) in
+        (unlike (list ++ i ∷ []) scope
+        (λ e. let f : same_place scope (list ++ i ∷ []) ≡ false = under_itself_not scope k (list ++ i ∷ []) (under_itself list (i ∷ [])) in
         let h : same_place scope (list ++ i ∷ []) ≡ true = (bytes_eq-Decides scope (list ++ i ∷ [])).1 (sym e) in cc))
         (under_others list i j (list ++ i ∷ []) x (λ same. over i more same) ([], sym (append-nil (list ++ i ∷ []))) ([], sym (append-nil x))));
   }
@@ -485,25 +512,33 @@ module _ (whole : List Part) (no_twice : twice whole ≡ []) (no_unknown : unkno
       by_name false e = e
 
       by_own : (name : List ℕ) (o : Option GivenName) → first_given before given_as.Data scope name ≡ o → Own known list j (products name) (outer name) o →
-          Own (known_after whole [] (before ++ parts)) list (j + 1) (and_its_product products set name) (outer name) (first_given (before ++ parts) given_as.Data scope name)
+          Own (known_after whole [] (before ++ parts)) list (j + 1) (and_its_product products set name)
+          (outer name) (first_given (before ++ parts) given_as.Data scope name)
       by_own name (Some g) e o =
           let there : first_given (before ++ parts) given_as.Data scope name ≡ Some g =
           name_append given_as.Data scope name before parts ∙ ap (λ a. option_or a (first_given parts given_as.Data scope name)) e in
           let unlike_name : bytes_eq set.name name ≡ false =
-          unlike set.name name (λ same. let f : first_given before given_as.Data scope name ≡ None = ap (first_given before given_as.Data scope) (sym same) ∙ name_new in cc) in
+          unlike set.name name (λ same. let f : first_given before given_as.Data scope name ≡ None =
+          ap (first_given before given_as.Data scope) (sym same) ∙ name_new in cc) in
           let product : and_its_product products set name ≡ products name = ap (λ b. if b then made else products name) unlike_name in
           subst (Own (known_after whole [] (before ++ parts)) list (j + 1) (and_its_product products set name) (outer name)) (sym there)
           (ap (λ kn. product_of kn g.of) then_known ∙ kept_product g o.1 o.2 o.3 ∙ o.0 ∙ sym product, o.1, farther o.1 o.2, o.3)
       by_own name None e o = by_here (bytes_eq name set.name) refl
         where
           by_here : (b : Bool) → bytes_eq name set.name ≡ b →
-              Own (known_after whole [] (before ++ parts)) list (j + 1) (and_its_product products set name) (outer name) (first_given (before ++ parts) given_as.Data scope name)
+              Own (known_after whole [] (before ++ parts)) list (j + 1) (and_its_product products set name)
+              (outer name) (first_given (before ++ parts) given_as.Data scope name)
           by_here true same =
               let there : first_given (before ++ parts) given_as.Data scope name ≡ Some given_here =
               name_append given_as.Data scope name before parts ∙ ap (λ a. option_or a (first_given parts given_as.Data scope name)) e
               ∙ given_in_set name ∙ ap (λ b. if b then Some given_here else None) same in
-              subst (Own (known_after whole [] (before ++ parts)) list (j + 1) (and_its_product products set name) (outer name)) (sym there)
-              (ap (λ kn. product_of kn x) then_known ∙ product_is ∙ sym (ap (λ b. if b then made else products name) (same_names name set.name true same)), j, last, refl)
+              subst (Own (known_after whole [] (before ++ parts)) list (j + 1) (and_its_product products set name) (outer name)) (sym there) (
+                ap (λ kn. product_of kn x) then_known ∙ product_is
+                    ∙ sym (ap (λ b. if b then made else products name) (same_names name set.name true same)),
+                j,
+                last,
+                refl,
+              )
           by_here false other =
               let there : first_given (before ++ parts) given_as.Data scope name ≡ None =
               name_append given_as.Data scope name before parts ∙ ap (λ a. option_or a (first_given parts given_as.Data scope name)) e

@@ -2,7 +2,8 @@
 use Rattle.std.proofs.Common.{◌≡◌, ℕ, suc, ◌+◌, ◌≤◌, ◌<◌, ◌^◌, Bool, true, false, List, [], ◌∷◌, length, find, cond, refl, sym, ap, subst, ◌∙◌, arith}
 use Rattle.std.specs.Prelude.{Option, Some, None, codes, unwrap_or, bytes_eq, option_map, if◌then◌else◌}
 use Rattle.std.specs.Option.{option_and_then}
-use Rattle.json_exact.specs.declared.json.Json.{Json, out-Json, Null, Flag, Number, Huge, Text, List', Object', Row_of-Json, end_of-Json, more_of-Json, Row_of-Member, end_of-Member, more_of-Member}
+use Rattle.json_exact.specs.declared.json.Json.{Json, out-Json, Null, Flag, Number, Huge, Text, List', Object', Row_of-Json, end_of-Json}
+use Rattle.json_exact.specs.declared.json.Json.{more_of-Json, Row_of-Member, end_of-Member, more_of-Member}
 use Rattle.json_exact.specs.declared.json.Json.TheOpen as level
 use Rattle.json_exact.specs.declared.json.Member.{Member}
 use Rattle.json_exact.specs.Inside.{members_in}
@@ -48,7 +49,8 @@ module _ (ms : List Member) (marks : Option (List VgMark)) where
   with_inside = by_type (is_group (out-VgMark own)) refl
     where
       by_type : (b : Bool) → is_group (out-VgMark own) ≡ b → groups_of_one own ≤ suc (total groups_of_one (unwrap_or marks []))
-      by_type true e = one_group (groups_of_one own) (count_groups (marks_of (outlined.marks_in (out-Group (out-VgMark own).group)))) (total groups_of_one (unwrap_or marks []))
+      by_type true e = one_group (groups_of_one own)
+          (count_groups (marks_of (outlined.marks_in (out-Group (out-VgMark own).group)))) (total groups_of_one (unwrap_or marks []))
           (group_grouped own [] e) (ap (λ xs. count_groups (marks_of xs)) marks_inside ∙ total_groups (unwrap_or marks []))
       by_type false e = no_group (groups_of_one own) (total groups_of_one (unwrap_or marks [])) (plain_grouped own [] e)
 
@@ -77,7 +79,8 @@ on_left a c d x = omega arith
 on_right : (a c d : ℕ) → a ≤ d → a ≤ c + d
 on_right a c d x = omega arith
 
-this_or : (b : Bool) (here others : Option (List VgMark)) (m n : ℕ) → total groups_of_one (unwrap_or here []) ≤ m → total groups_of_one (unwrap_or others []) ≤ n →
+this_or : (b : Bool) (here others : Option (List VgMark)) (m n : ℕ) →
+    total groups_of_one (unwrap_or here []) ≤ m → total groups_of_one (unwrap_or others []) ≤ n →
     total groups_of_one (unwrap_or (if b then here else others) []) ≤ m + n
 this_or true here others m n x y = on_left (total groups_of_one (unwrap_or here [])) m n x
 this_or false here others m n x y = on_right (total groups_of_one (unwrap_or others [])) m n y
@@ -91,7 +94,8 @@ mutual
   mark_groups (Text t) = no_more _ 0 empty_mark
   mark_groups (List' size items) = no_more _ (suc (held_items items)) empty_mark
   mark_groups (Object' size members) =
-      through (groups_of_one (mark_with (members_of (Object' size members)) (marks_among members))) (total groups_of_one (unwrap_or (marks_among members) [])) (held_values members)
+      through (groups_of_one (mark_with (members_of (Object' size members)) (marks_among members)))
+      (total groups_of_one (unwrap_or (marks_among members) [])) (held_values members)
       (with_inside (members_of (Object' size members)) (marks_among members)) (among_groups members)
 
   list_groups : (tree : Json) → total groups_of_one (unwrap_or (marks_in tree) []) ≤ holders tree
@@ -106,12 +110,14 @@ mutual
   items_groups : {n : _} (row : Row_of-Json n) → total groups_of_one (mark_items row) ≤ held_items row
   items_groups end_of-Json = nothing 0
   items_groups (more_of-Json item others) =
-      both_sums (groups_of_one (mark_of item)) (total groups_of_one (mark_items others)) (holders item) (held_items others) (mark_groups item) (items_groups others)
+      both_sums (groups_of_one (mark_of item)) (total groups_of_one (mark_items others))
+      (holders item) (held_items others) (mark_groups item) (items_groups others)
 
   among_groups : {n : _} (row : Row_of-Member n) → total groups_of_one (unwrap_or (marks_among row) []) ≤ held_values row
   among_groups end_of-Member = nothing 0
   among_groups (more_of-Member name value others) =
-      this_or (bytes_eq name (codes "marks")) (marks_in value) (marks_among others) (holders value) (held_values others) (list_groups value) (among_groups others)
+      this_or (bytes_eq name (codes "marks")) (marks_in value) (marks_among others)
+      (holders value) (held_values others) (list_groups value) (among_groups others)
 
 -- ---- the whole
 
@@ -124,7 +130,8 @@ value_size (m ∷ ms) name v e = by_name (bytes_eq m.name name) e (value_size ms
   where
     by_name : (b : Bool) → option_map (λ (m : Member). m.value) (cond b (Some m) (find (λ (m : Member). bytes_eq m.name name) ms)) ≡ Some v →
         (member_value ms name ≡ Some v → holders v ≤ sum_of_values ms) → holders v ≤ holders m.value + sum_of_values ms
-    by_name true f rest = let same : m.value ≡ v = cc in subst (λ x. holders x ≤ holders m.value + sum_of_values ms) same (on_left (holders m.value) (holders m.value) (sum_of_values ms) (itself (holders m.value)))
+    by_name true f rest = let same : m.value ≡ v = cc in subst (λ x. holders x ≤ holders m.value + sum_of_values ms) same
+        (on_left (holders m.value) (holders m.value) (sum_of_values ms) (itself (holders m.value)))
     by_name false f rest = on_right (holders v) (holders m.value) (sum_of_values ms) (rest f)
 
 at_most : (a b c : ℕ) → a ≤ b → b ≤ c → a ≤ c
@@ -135,7 +142,8 @@ members_groups ms = by_value (member_value ms (codes "marks")) refl
   where
     by_value : (o : Option Json) → member_value ms (codes "marks") ≡ o → total groups_of_one (unwrap_or (option_and_then marks_in o) []) ≤ sum_of_values ms
     by_value None e = nothing (sum_of_values ms)
-    by_value (Some v) e = at_most (total groups_of_one (unwrap_or (marks_in v) [])) (holders v) (sum_of_values ms) (list_groups v) (value_size ms (codes "marks") v e)
+    by_value (Some v) e = at_most (total groups_of_one (unwrap_or (marks_in v) [])) (holders v)
+        (sum_of_values ms) (list_groups v) (value_size ms (codes "marks") v e)
 
 numbered_groups : (unit number : ℕ) (marks : Marks) → count_groups (numbered unit number marks) ≡ count_groups marks
 numbered_groups unit number NoMarks = refl
@@ -147,7 +155,8 @@ spec_groups : (ms : List Member) → count_groups (outline_of (spec_with ms)).ma
 spec_groups ms =
     let g : VgSpec = spec_with ms in
     numbered_groups 0 1 (opened g.group).marks
-    ∙ ap count_groups (opened_marks g.group ∙ ap (λ (x : Group-F Group VgMark). marks_of (unwrap_or x.marks [])) (group_opened ms (marks_at ms (codes "marks"))))
+    ∙ ap count_groups
+    (opened_marks g.group ∙ ap (λ (x : Group-F Group VgMark). marks_of (unwrap_or x.marks [])) (group_opened ms (marks_at ms (codes "marks"))))
     ∙ total_groups (unwrap_or (marks_at ms (codes "marks")) [])
 
 -- the groups of a specification that a file says can be numbered in 32 bits
@@ -157,7 +166,8 @@ few_groups bytes tree ms reads small is =
     let same : members_of tree ≡ ms = ap (λ o. unwrap_or (members_in o) []) is in
     let size : holders tree ≡ suc (sum_of_values ms) = ap holders (object_of tree ms is) ∙ holders-Object ms in
     subst (λ m. 1 + count_groups (outline_of (spec_with m)).marks < 2 ^ 32) (sym same)
-    (few (count_groups (outline_of (spec_with ms)).marks) (total groups_of_one (unwrap_or (marks_at ms (codes "marks")) [])) (sum_of_values ms) (holders tree) (length bytes)
+    (few (count_groups (outline_of (spec_with ms)).marks)
+    (total groups_of_one (unwrap_or (marks_at ms (codes "marks")) [])) (sum_of_values ms) (holders tree) (length bytes)
     (spec_groups ms) (members_groups ms) size (read_size bytes tree reads) small)
   where
     few : (a b c d e : ℕ) → a ≡ b → b ≤ c → d ≡ suc c → d ≤ e → e ≤ 2 ^ 24 → 1 + a < 2 ^ 32

@@ -56,7 +56,8 @@ use Rattle.vega_standing.proofs.Owned.{Ordered}
 use Rattle.vega_standing.proofs.OwnObjects.{object_ordered}
 
 -- a value that says a text, says it
-says_of : (word : List ℕ) (o : Option Json) → option_and_then (λ v. text_in (out-Json v)) o ≡ Some word → option_map_or (λ v. text_passes (bytes_eq word) (out-Json v)) o false ≡ bytes_eq word word
+says_of : (word : List ℕ) (o : Option Json) → option_and_then (λ v. text_in (out-Json v)) o ≡ Some word →
+    option_map_or (λ v. text_passes (bytes_eq word) (out-Json v)) o false ≡ bytes_eq word word
 says_of word None e = absurd cc
 says_of word (Some v) e = by_text (out-Json v) e
   where
@@ -72,13 +73,15 @@ says_of word (Some v) e = by_text (out-Json v) e
 module _ (tree : Json) (ordered : Ordered tree) where
   -- a mark, where it stands in the tree, puts objects with orders before others
   abbrev OneOrdered : Json → Type 0
-  OneOrdered v = (round : Trail) (number : ℕ) → Seat tree round number MARK v → (others : Marks) → EachObject HasOrder others → EachObject HasOrder (before_of (mark_of v) others)
+  OneOrdered v = (round : Trail) (number : ℕ) → Seat tree round number MARK v → (others : Marks) →
+      EachObject HasOrder others → EachObject HasOrder (before_of (mark_of v) others)
 
   record Deep (v : Json) : Type 0 where
     here : OneOrdered v
     items : (xs : List Json) → out-Json v ≡ level.List xs → Each OneOrdered xs
 
-  row_ordered : (trail : Trail) (n : ℕ) (items : List Json) → Each OneOrdered items → EachFrom (λ i v. Seat tree trail i MARK v) n items → EachObject HasOrder (marks_of (map mark_of items))
+  row_ordered : (trail : Trail) (n : ℕ) (items : List Json) → Each OneOrdered items →
+      EachFrom (λ i v. Seat tree trail i MARK v) n items → EachObject HasOrder (marks_of (map mark_of items))
   row_ordered trail n [] keep seats = tt
   row_ordered trail n (item ∷ items) keep seats = keep.0 trail n seats.0 (marks_of (map mark_of items)) (row_ordered trail (n + 1) items keep.1 seats.1)
 
@@ -86,11 +89,14 @@ module _ (tree : Json) (ordered : Ordered tree) where
   list_ordered round number v s deep =
       let l = seated_items tree round number MARKS v s MARK marks_taken in
       let built : marks_in v ≡ Some (map mark_of l.items) = ap marks_in (list_of v l.items l.is_list) ∙ marks_in-List l.items in
-      subst (λ o. EachObject HasOrder (marks_of (unwrap_or o []))) (sym built) (row_ordered (noted number MARKS v ∷ round) 0 l.items (deep.items l.items l.is_list) l.each)
+      subst (λ o. EachObject HasOrder (marks_of (unwrap_or o []))) (sym built)
+      (row_ordered (noted number MARKS v ∷ round) 0 l.items (deep.items l.items l.is_list) l.each)
 
-  module _ (round : Trail) (number shape : ℕ) (v : Json) (s : Seat tree round number shape v) (ms : List Member) (deep : Each (λ (m : Member). Deep m.value) ms) where
+  module _ (round : Trail) (number shape : ℕ) (v : Json) (s : Seat tree round number shape v)
+      (ms : List Member) (deep : Each (λ (m : Member). Deep m.value) ms) where
     -- the marks of an object
-    marks_ordered : (l : Layout) → EachFrom (SeatedMember tree round number shape v s l) 0 ms → shape_in l (codes "marks") ≡ Some MARKS → EachObject HasOrder (marks_of (unwrap_or (marks_at ms (codes "marks")) []))
+    marks_ordered : (l : Layout) → EachFrom (SeatedMember tree round number shape v s l) 0 ms → shape_in l (codes "marks") ≡ Some MARKS →
+        EachObject HasOrder (marks_of (unwrap_or (marks_at ms (codes "marks")) []))
     marks_ordered l each ruled = by_value (member_value ms (codes "marks")) refl
       where
         by_value : (o : Option Json) → member_value ms (codes "marks") ≡ o → EachObject HasOrder (marks_of (unwrap_or (option_and_then marks_in o) []))
@@ -99,7 +105,8 @@ module _ (tree : Json) (ordered : Ordered tree) where
             let seat = seat_from tree round number shape v s l 0 ms (codes "marks") MARKS w each ruled e in
             list_ordered (noted number shape v ∷ round) seat.0 w seat.1 (value_of Deep ms (codes "marks") w deep e)
 
-  module _ (round : Trail) (number : ℕ) (v : Json) (s : Seat tree round number MARK v) (ms : List Member) (is : out-Json v ≡ level.Object ms) (others : Marks) (rest : EachObject HasOrder others)
+  module _ (round : Trail) (number : ℕ) (v : Json) (s : Seat tree round number MARK v) (ms : List Member)
+      (is : out-Json v ≡ level.Object ms) (others : Marks) (rest : EachObject HasOrder others)
       (deep : Each (λ (m : Member). Deep m.value) ms) (so : SeatedObject tree round number MARK v s MARK ms) where
     abbrev trail : Trail
     trail = noted number MARK v ∷ round
@@ -113,14 +120,17 @@ module _ (tree : Json) (ordered : Ordered tree) where
     stands : (l : Layout) → so.laid.layout ≡ l → StandsObject trail l ms
     stands l laid = subst (λ l. StandsObject trail l ms) laid so.laid.stands
 
-    typed : (word : List ℕ) (type : MarkType) (l : Layout) → so.laid.layout ≡ l → list_any (says (codes "type") word) ms ≡ true → mark_type_named word ≡ Some type → (out-VgMark own).type_ ≡ type
+    typed : (word : List ℕ) (type : MarkType) (l : Layout) → so.laid.layout ≡ l →
+        list_any (says (codes "type") word) ms ≡ true → mark_type_named word ≡ Some type → (out-VgMark own).type_ ≡ type
     typed word type l laid e is =
         ap (λ (m : VgMark-F Group VgMark). m.type_) (mark_opened ms (marks_at ms (codes "marks")))
         ∙ ap (λ o. unwrap_or (option_and_then mark_type_named o) mark.Rect) (says_is ms (codes "type") word (stands l laid).own e)
         ∙ ap (λ o. unwrap_or o mark.Rect) is
 
-    plain : (word : List ℕ) (type : MarkType) (l : Layout) → mark_type_named word ≡ Some type → is_group_type type ≡ false → list_any (says (codes "type") word) ms ≡ true → Put l
-    plain word type l named other e laid = subst (EachObject HasOrder) (sym (plain_first own others (ap is_group_type (typed word type l laid e named) ∙ other))) rest
+    plain : (word : List ℕ) (type : MarkType) (l : Layout) → mark_type_named word ≡ Some type →
+        is_group_type type ≡ false → list_any (says (codes "type") word) ms ≡ true → Put l
+    plain word type l named other e laid =
+        subst (EachObject HasOrder) (sym (plain_first own others (ap is_group_type (typed word type l laid e named) ∙ other))) rest
 
     group : list_any (says (codes "type") (codes "group")) ms ≡ true → Put group_mark
     unfolding group_mark
@@ -129,18 +139,22 @@ module _ (tree : Json) (ordered : Ordered tree) where
         let built : out-Group (out-VgMark own).group ≡ group_parts ms (marks_at ms (codes "marks")) =
         ap (λ (m : VgMark-F Group VgMark). out-Group m.group) (mark_opened ms (marks_at ms (codes "marks"))) ∙ group_opened ms (marks_at ms (codes "marks")) in
         let object : says_text (codes "type") (codes "group") v ≡ true =
-        says_member v ms is (codes "type") (codes "group") ∙ says_of (codes "group") (member_value ms (codes "type")) (says_is ms (codes "type") (codes "group") (stands group_mark laid).own e) in
+        says_member v ms is (codes "type") (codes "group")
+        ∙ says_of (codes "group") (member_value ms (codes "type")) (says_is ms (codes "type") (codes "group") (stands group_mark laid).own e) in
         let order = object_ordered tree ordered round number MARK v s object group_mark ms each refl refl in
         let here : HasOrder (group_object 0 (out-VgMark own)) =
         (order.0, subst (λ (g : Group-F Group VgMark). AreInOrder (unwrap_or g.signals []) (unwrap_or g.data_ []) order.0) (sym built) order.1) in
         let within : EachObject HasOrder (marks_of (outlined.marks_in (out-Group (out-VgMark own).group))) =
-        subst (λ (g : Group-F Group VgMark). EachObject HasOrder (marks_of (unwrap_or g.marks []))) (sym built) (marks_ordered round number MARK v s ms deep group_mark each refl) in
-        subst (EachObject HasOrder) (sym (group_first own others (ap is_group_type (typed (codes "group") mark.Group group_mark laid e refl)))) (here, within, rest)
+        subst (λ (g : Group-F Group VgMark). EachObject HasOrder (marks_of (unwrap_or g.marks [])))
+        (sym built) (marks_ordered round number MARK v s ms deep group_mark each refl) in
+        subst (EachObject HasOrder)
+        (sym (group_first own others (ap is_group_type (typed (codes "group") mark.Group group_mark laid e refl)))) (here, within, rest)
 
     unknown : Put no_mark
     unfolding no_mark
     unknown laid =
-        let w : (w : Json) × (member_value ms (codes "type") ≡ Some w) = required trail no_mark ms (codes "type") (must (codes "type") NOTHING) (stands no_mark laid) refl refl refl in
+        let w : (w : Json) × (member_value ms (codes "type") ≡ Some w) =
+        required trail no_mark ms (codes "type") (must (codes "type") NOTHING) (stands no_mark laid) refl refl refl in
         let there : (i : ℕ) × Stands trail i NOTHING w.0 = found_as trail no_mark ms (codes "type") w.0 NOTHING (stands no_mark laid) refl w.1 in
         absurd (nothing_stands trail there.0 w.0 there.1)
 
@@ -167,7 +181,8 @@ module _ (tree : Json) (ordered : Ordered tree) where
       let ms : (ms : List Member) × (out-Json v ≡ level.Object ms) = opened_as MARK (out-Json v) (mark_taken (out-Json v) f.0 f.1).0 in
       let o = seated_object tree round number MARK v s MARK ms.0 ms.1 (λ f e. mark_taken (level.Object ms.0) f e) in
       let is : mark_of v ≡ mark_with ms.0 (marks_at ms.0 (codes "marks")) = ap mark_of (object_of v ms.0 ms.1) ∙ mark_of-Object ms.0 in
-      subst (λ m. EachObject HasOrder (before_of m others)) (sym is) (by_mark round number v s ms.0 ms.1 others rest (inner.values ms.0 ms.1) o o.laid.layout o.laid.applies refl)
+      subst (λ m. EachObject HasOrder (before_of m others)) (sym is)
+      (by_mark round number v s ms.0 ms.1 others rest (inner.values ms.0 ms.1) o o.laid.layout o.laid.applies refl)
 
   each_here : (xs : List Json) → Each Deep xs → Each OneOrdered xs
   each_here [] each = tt
@@ -183,10 +198,12 @@ module _ (tree : Json) (ordered : Ordered tree) where
   -- ---- the top
 
   top_ordered : (s : Seat tree [] 0 TOP tree) (ms : List Member) → EachFrom (SeatedMember tree [] 0 TOP tree s top) 0 ms →
-      ((place : List ℕ → ℕ) × AreInOrder (unwrap_or (objects_at signal_of ms (codes "signals")) []) (unwrap_or (objects_at data_set_of ms (codes "data")) []) place)
+      ((place : List ℕ → ℕ) × AreInOrder (unwrap_or (objects_at signal_of ms (codes "signals")) [])
+      (unwrap_or (objects_at data_set_of ms (codes "data")) []) place)
       × EachObject HasOrder (marks_of (unwrap_or (marks_at ms (codes "marks")) []))
   unfolding top
-  top_ordered s ms each = (object_ordered tree ordered [] 0 TOP tree s refl top ms each refl refl, marks_ordered [] 0 TOP tree s ms (deep_values ms) top each refl)
+  top_ordered s ms each =
+      (object_ordered tree ordered [] 0 TOP tree s refl top ms each refl refl, marks_ordered [] 0 TOP tree s ms (deep_values ms) top each refl)
 
 -- numbers change nothing
 numbered_orders : (unit number : ℕ) (marks : Marks) → EachObject HasOrder marks → EachObject HasOrder (numbered unit number marks)
@@ -215,7 +232,8 @@ all_in_order tree stands ordered =
         subst (λ (o : Object). AreInOrder o.signals o.sets both.0.0) (sym (opened_object g.group))
             (subst (λ (x : Group-F Group VgMark). AreInOrder (unwrap_or x.signals []) (unwrap_or x.data_ []) both.0.0) (sym built) both.0.1),
       );
-      inside = numbered_orders 0 1 (opened g.group).marks (subst (EachObject HasOrder) (sym (opened_marks g.group ∙ ap (λ (x : Group-F Group VgMark). marks_of (unwrap_or x.marks [])) built)) both.1);
+      inside = numbered_orders 0 1 (opened g.group).marks (subst (EachObject HasOrder)
+          (sym (opened_marks g.group ∙ ap (λ (x : Group-F Group VgMark). marks_of (unwrap_or x.marks [])) built)) both.1);
     } in
     let same : members_of tree ≡ ms.0 = ap (λ o. unwrap_or (members_in o) []) ms.1 in
     subst (λ m. OfAll HasOrder (spec_with m)) (sym same) kept

@@ -11,7 +11,8 @@ use Rattle.expr_syntax.specs.declared.expr.Expr.{Expr}
 use Rattle.expr_syntax.specs.Expressions.{has_domain_length}
 use Rattle.expr_reading.specs.Readings.{expression_of}
 use Rattle.expr_reading.specs.Mentions.{parameters_in, selections_in, scales_in}
-use Rattle.vega_schema.specs.declared.codes.TheConstants.{AXIS, DATA, EXPRESSION, EXTENT, FACET, LABEL_FORMAT, LEGEND, MARK, MARK_FROM, REFERENCE, SCALE, SCALE_DOMAIN, SIGNAL, SIZE_EXPRESSION, SORT, TOP, TRANSFORM}
+use Rattle.vega_schema.specs.declared.codes.TheConstants.{AXIS, DATA, EXPRESSION, EXTENT, FACET, LABEL_FORMAT, LEGEND, MARK, MARK_FROM}
+use Rattle.vega_schema.specs.declared.codes.TheConstants.{REFERENCE, SCALE, SCALE_DOMAIN, SIGNAL, SIZE_EXPRESSION, SORT, TOP, TRANSFORM}
 use Rattle.vega_parts.specs.declared.part.Part.{Part}
 use Rattle.vega_parts.specs.declared.part.Part.TheVariants as part
 use Rattle.vega_parts.specs.declared.part.Given.TheVariants as given_as
@@ -26,7 +27,8 @@ use Rattle.vega_parts.specs.declared.selections.Entry.{Entry}
 use Rattle.vega_parts.specs.declared.selections.Concerned.{Concerned}
 use Rattle.vega_parts.specs.declared.updates.Update.{Update}
 use Rattle.vega_parts.specs.Updates.{fields_of, is_drag}
-use Rattle.vega_parts.specs.Selections.{entries_of, is_wrong_entry, entry_fault, intervals_in, intervals_of, entry_intervals, entry_parts, entries_parts, concerned_by, updates_in, update_parts}
+use Rattle.vega_parts.specs.Selections.{entries_of, is_wrong_entry, entry_fault, intervals_in, intervals_of, entry_intervals, entry_parts}
+use Rattle.vega_parts.specs.Selections.{entries_parts, concerned_by, updates_in, update_parts}
 use Rattle.vega_parts.specs.LabelFormats.{is_label_format, label_format_parts}
 use Rattle.vega_parts.specs.Expressions.{read_parts, expression_parts}
 use Rattle.vega_parts.specs.Scales.{scale_parts, for_size, for_legend, two_scales}
@@ -38,15 +40,17 @@ use Rattle.spec_schema.specs.Values.{Opened}
 use Rattle.vega_parts.specs.declared.around.Around.{Around}
 use Rattle.vega_parts.specs.Trails.{noted, is_faceted}
 use Rattle.vega_parts.specs.Data.{data_parts, data_set, data_names, data_name, source_name, data_faults, transform_in_facet, far_url, is_far}
-use Rattle.vega_parts.specs.Transforms.{transform_parts, step, by_type, lookup_parts, fold_fields, longer_list, window_lists, aggregate_lists, count_of_window, count_of_ops}
+use Rattle.vega_parts.specs.Transforms.{transform_parts, step, by_type, lookup_parts, fold_fields, longer_list, window_lists}
+use Rattle.vega_parts.specs.Transforms.{aggregate_lists, count_of_window, count_of_ops}
 use Rattle.vega_parts.specs.Members.{says_text}
-use Rattle.vega_parts.specs.Facets.{group_of, facet_name, facet_item, facet_names_in, facet_names, facet_rows_in, facet_rows, header, headers_in, headers, facet_faults, facet_names_and_rows, facet_parts}
+use Rattle.vega_parts.specs.Facets.{group_of, facet_name, facet_item, facet_names_in, facet_names, facet_rows_in, facet_rows, header}
+use Rattle.vega_parts.specs.Facets.{headers_in, headers, facet_faults, facet_names_and_rows, facet_parts}
 use Rattle.vega_parts.specs.Parts.{parts_at}
 use Rattle.vega_rules.specs.Places.{parent}
 use Rattle.vega_rules.specs.Folds.{is_source}
-use Rattle.vega_needs.specs.declared.nodes.Thing.{Thing}
-use Rattle.vega_needs.specs.declared.nodes.Thing.TheVariants as thing
-use Rattle.vega_needs.specs.Nodes.{key, key_of}
+use Rattle.vega_rules.specs.declared.nodes.Thing.{Thing}
+use Rattle.vega_rules.specs.declared.nodes.Thing.TheVariants as thing
+use Rattle.vega_rules.specs.Nodes.{key, key_of}
 use Rattle.vega_standing.proofs.Trees.{Each}
 use Rattle.vega_standing.proofs.Quiet.{each_append, each_of, each_flat}
 use Rattle.vega_standing.proofs.Rows.{parent_child}
@@ -80,13 +84,17 @@ some_keyless f each (Some x) = each x
 
 pub keyless_use : (kind : Used) → is_source kind ≡ false → (name : List ℕ) (trail : Trail) (tree : Json) → AreKeyless (used_member kind name trail tree)
 keyless_use kind other name trail tree =
-    some_keyless (λ (m : ℕ × List ℕ). used kind (scope_of trail) (child trail m.0) m.1 ∷ []) (λ m. (silent kind (child trail m.0) other, tt)) (text_at name tree)
+    some_keyless (λ (m : ℕ × List ℕ). used kind (scope_of trail) (child trail m.0) m.1 ∷ [])
+    (λ m. (silent kind (child trail m.0) other, tt)) (text_at name tree)
 
-keyless_item : (kind : Used) → is_source kind ≡ false → (object trail : Trail) (number : ℕ) (item : ℕ × Json) → AreKeyless (used_item kind object trail number item)
+keyless_item : (kind : Used) → is_source kind ≡ false → (object trail : Trail) (number : ℕ) (item : ℕ × Json)
+    → AreKeyless (used_item kind object trail number item)
 keyless_item kind other object trail number item =
-    some_keyless (λ (name : List ℕ). used kind (place_of object) (grandchild trail number item.0) name ∷ []) (λ name. (silent kind (grandchild trail number item.0) other, tt)) (text_in (out-Json item.1))
+    some_keyless (λ (name : List ℕ). used kind (place_of object) (grandchild trail number item.0) name ∷ [])
+    (λ name. (silent kind (grandchild trail number item.0) other, tt)) (text_in (out-Json item.1))
 
-pub keyless_items : (kind : Used) → is_source kind ≡ false → (object trail : Trail) (number : ℕ) (items : List Json) → AreKeyless (used_items kind object trail number items)
+pub keyless_items : (kind : Used) → is_source kind ≡ false
+    → (object trail : Trail) (number : ℕ) (items : List Json) → AreKeyless (used_items kind object trail number items)
 keyless_items kind other object trail number items =
     each_flat IsKeyless (used_item kind object trail number) (keyless_item kind other object trail number) (enumerate_from 0 items)
 
@@ -104,13 +112,15 @@ keyless_if_fault false at = (refl, tt)
 pub keyless_lengths : (name other : List ℕ) (trail : Trail) (tree : Json) → AreKeyless (other_length name other trail tree)
 keyless_lengths name other trail tree =
     some_keyless (λ (m : ℕ × List Json). option_map_or (λ (n : ℕ × List Json). unequal trail m.0 (length m.1) (length n.1)) (items_at other tree) [])
-    (λ m. some_keyless (λ (n : ℕ × List Json). unequal trail m.0 (length m.1) (length n.1)) (λ n. keyless_if_fault (length m.1 == length n.1) (child trail m.0)) (items_at other tree))
+    (λ m. some_keyless (λ (n : ℕ × List Json). unequal trail m.0 (length m.1) (length n.1))
+    (λ n. keyless_if_fault (length m.1 == length n.1) (child trail m.0)) (items_at other tree))
     (items_at name tree)
 
 pub keyless_apart : (name other : List ℕ) (trail : Trail) (tree : Json) → AreKeyless (apart name other trail tree)
 keyless_apart name other trail tree =
     some_keyless (λ (m : ℕ × Json). option_map_or (λ (n : ℕ × Json). unlike trail m.0 m.1 n.1) (member_at other tree) [])
-    (λ m. some_keyless (λ (n : ℕ × Json). unlike trail m.0 m.1 n.1) (λ n. keyless_if_fault (go_together (out-Json n.1) (out-Json m.1)) (child trail m.0)) (member_at other tree))
+    (λ m. some_keyless (λ (n : ℕ × Json). unlike trail m.0 m.1 n.1)
+    (λ n. keyless_if_fault (go_together (out-Json n.1) (out-Json m.1)) (child trail m.0)) (member_at other tree))
     (member_at name tree)
 
 keyless_sort : (trail : Trail) (tree : Json) → AreKeyless (sort_parts trail tree)
@@ -135,20 +145,24 @@ keyless_entry : (concerned : Concerned) (earlier : List Entry) (entry : Entry) �
 keyless_entry concerned earlier entry =
     both_keyless (entry_fault concerned.own earlier entry) (entry_intervals concerned entry)
     (if_keyless (is_wrong_entry concerned.own earlier entry) (part.Fault entry.at Wrong ∷ []) [] (refl, tt) tt)
-    (some_keyless (λ (u : Update). intervals_of concerned entry.at u) (λ (u : Update). if_keyless (is_drag u.change) (intervals_in concerned entry.at (fields_of u)) [] (keyless_scales concerned entry.at (fields_of u)) tt) entry.update)
+    (some_keyless (λ (u : Update). intervals_of concerned entry.at u) (λ (u : Update). if_keyless (is_drag u.change)
+    (intervals_in concerned entry.at (fields_of u)) [] (keyless_scales concerned entry.at (fields_of u)) tt) entry.update)
 
 keyless_entries : (concerned : Concerned) (earlier entries : List Entry) → AreKeyless (entries_parts concerned earlier entries)
 keyless_entries concerned earlier [] = tt
 keyless_entries concerned earlier (entry ∷ later) =
-    both_keyless (entry_parts concerned earlier entry) (entries_parts concerned (earlier ++ entry ∷ []) later) (keyless_entry concerned earlier entry) (keyless_entries concerned (earlier ++ entry ∷ []) later)
+    both_keyless (entry_parts concerned earlier entry) (entries_parts concerned (earlier ++ entry ∷ []) later)
+    (keyless_entry concerned earlier entry) (keyless_entries concerned (earlier ++ entry ∷ []) later)
 
 keyless_updates : (trail : Trail) (tree : Json) → AreKeyless (update_parts trail tree)
 keyless_updates trail tree =
-    some_keyless (λ (m : ℕ × List Json). updates_in trail tree m.0 m.1) (λ m. keyless_entries (concerned_by trail tree) [] (entries_of trail m.0 m.1)) (items_at (codes "on") tree)
+    some_keyless (λ (m : ℕ × List Json). updates_in trail tree m.0 m.1)
+    (λ m. keyless_entries (concerned_by trail tree) [] (entries_of trail m.0 m.1)) (items_at (codes "on") tree)
 
 keyless_formats : (trail : Trail) (tree : Json) → AreKeyless (label_format_parts trail tree)
 keyless_formats trail tree =
-    some_keyless (λ (text : List ℕ). if is_label_format text then [] else part.Fault (place_of trail) Wrong ∷ []) (λ text. keyless_if_fault (is_label_format text) (place_of trail)) (text_in (out-Json tree))
+    some_keyless (λ (text : List ℕ). if is_label_format text then [] else part.Fault (place_of trail) Wrong ∷ [])
+    (λ text. keyless_if_fault (is_label_format text) (place_of trail)) (text_in (out-Json tree))
 
 keyless_read : (lengths : Bool) (trail : Trail) (o : Option Expr) → AreKeyless (read_parts lengths trail o)
 keyless_read lengths trail None = (refl, tt)
@@ -161,7 +175,8 @@ keyless_read lengths trail (Some e) =
 
 keyless_expression : (lengths : Bool) (trail : Trail) (tree : Json) → AreKeyless (expression_parts lengths trail tree)
 keyless_expression lengths trail tree =
-    some_keyless (λ (text : List ℕ). read_parts lengths trail (expression_of text)) (λ text. keyless_read lengths trail (expression_of text)) (text_in (out-Json tree))
+    some_keyless (λ (text : List ℕ). read_parts lengths trail (expression_of text))
+    (λ text. keyless_read lengths trail (expression_of text)) (text_in (out-Json tree))
 
 keyless_scale : (trail : Trail) (tree : Json) → AreKeyless (scale_parts trail tree)
 keyless_scale trail tree = some_keyless _ (λ (m : ℕ × List ℕ). (refl, tt)) (text_at (codes "name") tree)
@@ -219,7 +234,8 @@ keyless_apart_list trail tree =
     (keyless_apart (codes "name") (codes "data") trail tree) (keyless_lengths (codes "headers") (codes "groupby") trail tree)
 
 keyless_facet_item : (trail : Trail) (number : ℕ) (item : ℕ × Json) → AreKeyless (facet_item trail number item)
-keyless_facet_item trail number item = some_keyless (λ (name : List ℕ). facet_name trail (grandchild trail number item.0) name) (λ name. (refl, (refl, tt))) (text_in (out-Json item.1))
+keyless_facet_item trail number item =
+    some_keyless (λ (name : List ℕ). facet_name trail (grandchild trail number item.0) name) (λ name. (refl, (refl, tt))) (text_in (out-Json item.1))
 
 keyless_facet_names_in : (trail : Trail) (number : ℕ) (o : Opened) → AreKeyless (facet_names_in trail number o)
 keyless_facet_names_in trail number level.Null = tt
@@ -227,7 +243,8 @@ keyless_facet_names_in trail number (level.Flag b) = tt
 keyless_facet_names_in trail number (level.Number n) = tt
 keyless_facet_names_in trail number level.Huge = tt
 keyless_facet_names_in trail number (level.Text t) = (refl, (refl, tt))
-keyless_facet_names_in trail number (level.List items) = each_flat IsKeyless (facet_item trail number) (keyless_facet_item trail number) (enumerate_from 0 items)
+keyless_facet_names_in trail number (level.List items) =
+    each_flat IsKeyless (facet_item trail number) (keyless_facet_item trail number) (enumerate_from 0 items)
 keyless_facet_names_in trail number (level.Object ms) = tt
 
 keyless_facet_rows_in : (trail : Trail) (number : ℕ) (o : Opened) → AreKeyless (facet_rows_in trail number o)
@@ -241,16 +258,20 @@ keyless_facet_rows_in trail number (level.Object ms) = tt
 
 keyless_header : (trail : Trail) (number : ℕ) (item : ℕ × Json) → AreKeyless (header trail number item)
 keyless_header trail number item =
-    some_keyless (λ (name : List ℕ). given given_as.Header (place_of trail) (place_of trail) (grandchild trail number item.0) name ∷ []) (λ name. (refl, tt)) (text_in (out-Json item.1))
+    some_keyless (λ (name : List ℕ). given given_as.Header (place_of trail) (place_of trail) (grandchild trail number item.0) name ∷ [])
+    (λ name. (refl, tt)) (text_in (out-Json item.1))
 
 keyless_facet : (trail : Trail) (tree : Json) → AreKeyless (facet_parts trail tree)
 keyless_facet trail tree =
     both_keyless (facet_names_and_rows trail tree ++ headers trail tree) (facet_faults trail tree)
     (both_keyless (facet_names_and_rows trail tree) (headers trail tree)
     (both_keyless (facet_names trail tree) (facet_rows trail tree)
-    (some_keyless (λ (m : ℕ × Json). facet_names_in trail m.0 (out-Json m.1)) (λ m. keyless_facet_names_in trail m.0 (out-Json m.1)) (member_at (codes "name") tree))
-    (some_keyless (λ (m : ℕ × Json). facet_rows_in trail m.0 (out-Json m.1)) (λ m. keyless_facet_rows_in trail m.0 (out-Json m.1)) (member_at (codes "data") tree)))
-    (some_keyless (λ (m : ℕ × List Json). headers_in trail m.0 m.1) (λ m. each_flat IsKeyless (header trail m.0) (keyless_header trail m.0) (enumerate_from 0 m.1)) (items_at (codes "headers") tree)))
+    (some_keyless (λ (m : ℕ × Json). facet_names_in trail m.0 (out-Json m.1))
+    (λ m. keyless_facet_names_in trail m.0 (out-Json m.1)) (member_at (codes "name") tree))
+    (some_keyless (λ (m : ℕ × Json). facet_rows_in trail m.0 (out-Json m.1))
+    (λ m. keyless_facet_rows_in trail m.0 (out-Json m.1)) (member_at (codes "data") tree)))
+    (some_keyless (λ (m : ℕ × List Json). headers_in trail m.0 m.1)
+    (λ m. each_flat IsKeyless (header trail m.0) (keyless_header trail m.0) (enumerate_from 0 m.1)) (items_at (codes "headers") tree)))
     (keyless_apart_list trail tree)
 
 -- ---- signals
@@ -265,7 +286,8 @@ keyless_marks trail tree =
 
 keyless_selector : (trail : Trail) (number : ℕ) (entry : ℕ × Json) → AreKeyless (selector trail number entry)
 keyless_selector trail number entry =
-    some_keyless (λ (m : ℕ × List ℕ). given given_as.Selector (place_of trail) (grandchild trail number entry.0) (grandchild trail number entry.0 ++ m.0 ∷ []) m.1 ∷ [])
+    some_keyless (λ (m : ℕ × List ℕ).
+    given given_as.Selector (place_of trail) (grandchild trail number entry.0) (grandchild trail number entry.0 ++ m.0 ∷ []) m.1 ∷ [])
     (λ m. (refl, tt)) (text_at (codes "events") entry.1)
 
 keyless_selectors : (trail : Trail) (tree : Json) → AreKeyless (selectors trail tree)
@@ -317,17 +339,20 @@ keyed_set here round tree =
     (each_append P (data_set trail ++ data_names trail tree) (used_member for_.Source (codes "source") trail tree)
     (each_append P (data_set trail) (data_names trail tree) ((thing.Set, refl, refl), tt)
     (all_keyless (place_of trail) DATA (data_names trail tree)
-    (some_keyless (λ (m : ℕ × List ℕ). data_name trail m ++ source_name trail tree m) (λ m. (refl, if_keyless (has_member (codes "source") tree) [] _ tt (refl, tt))) (text_at (codes "name") tree))))
+    (some_keyless (λ (m : ℕ × List ℕ). data_name trail m ++ source_name trail tree m)
+    (λ m. (refl, if_keyless (has_member (codes "source") tree) [] _ tt (refl, tt))) (text_at (codes "name") tree))))
     (some_each P (λ (m : ℕ × List ℕ). used for_.Source (scope_of trail) (child trail m.0) m.1 ∷ [])
     (λ m. ((thing.Source, ap (key thing.Source) (parent_child (place_of trail) m.0), refl), tt)) (text_at (codes "source") tree)))
     (all_keyless (place_of trail) DATA (data_faults trail tree)
     (both_keyless (transform_in_facet trail tree) (far_url trail tree)
     (if_keyless (is_faceted (object_round trail)) _ [] (keyless_fault Unsupported (codes "transform") trail tree) tt)
-    (some_keyless _ (λ (m : ℕ × List ℕ). if_keyless (is_far m.1) (part.Fault (child trail m.0) Unsupported ∷ []) [] (refl, tt) tt) (text_at (codes "url") tree))))
+    (some_keyless _ (λ (m : ℕ × List ℕ). if_keyless (is_far m.1) (part.Fault (child trail m.0) Unsupported ∷ []) [] (refl, tt) tt)
+    (text_at (codes "url") tree))))
 
 keyless_longer : (count : ℕ) (name : List ℕ) (trail : Trail) (tree : Json) → AreKeyless (longer_list count name trail tree)
 keyless_longer count name trail tree =
-    some_keyless _ (λ (m : ℕ × List Json). if_keyless (nat_lt count (length m.1)) (part.Fault (child trail m.0) Wrong ∷ []) [] (refl, tt) tt) (items_at name tree)
+    some_keyless _ (λ (m : ℕ × List Json). if_keyless (nat_lt count (length m.1)) (part.Fault (child trail m.0) Wrong ∷ []) [] (refl, tt) tt)
+    (items_at name tree)
 
 keyless_aggregate : (o : Option ℕ) (trail : Trail) (tree : Json) → AreKeyless (aggregate_lists o trail tree)
 keyless_aggregate None trail tree = tt
@@ -349,13 +374,15 @@ keyed_step trail tree =
     let Q : (ps : List Part) → AreKeyless ps → Each P ps = all_keyless (place_of trail) TRANSFORM in
     each_append P (step trail) (by_type trail tree) ((thing.Step, refl, refl), tt)
     (if_each P (says_text (codes "type") (codes "extent") tree) _ _
-    (some_each P (λ (m : ℕ × List ℕ). given given_as.Signal (scope_of trail) (place_of trail) (child trail m.0) m.1 ∷ []) (λ m. ((thing.Signal, refl, refl), tt)) (text_at (codes "signal") tree))
+    (some_each P (λ (m : ℕ × List ℕ). given given_as.Signal (scope_of trail) (place_of trail) (child trail m.0) m.1 ∷ [])
+    (λ m. ((thing.Signal, refl, refl), tt)) (text_at (codes "signal") tree))
     (if_each P (says_text (codes "type") (codes "lookup") tree) _ _
     (Q (lookup_parts trail tree) (both_keyless (used_member for_.From (codes "from") trail tree) (other_length (codes "as") (codes "values") trail tree)
     (keyless_use for_.From refl (codes "from") trail tree) (keyless_lengths (codes "as") (codes "values") trail tree)))
     (if_each P (says_text (codes "type") (codes "fold") tree) _ _
     (Q (fold_fields trail tree) (some_keyless _ (λ (m : ℕ × List Json). (refl, tt)) (items_at (codes "fields") tree)))
-    (if_each P (says_text (codes "type") (codes "window") tree) _ _ (Q (window_lists (count_of_window tree) trail tree) (keyless_window (count_of_window tree) trail tree))
+    (if_each P (says_text (codes "type") (codes "window") tree) _ _
+    (Q (window_lists (count_of_window tree) trail tree) (keyless_window (count_of_window tree) trail tree))
     (if_each P (says_text (codes "type") (codes "aggregate") tree || says_text (codes "type") (codes "joinaggregate") tree) _ _
     (Q (aggregate_lists (count_of_ops tree) trail tree) (keyless_aggregate (count_of_ops tree) trail tree)) tt)))))
 
@@ -378,16 +405,21 @@ same_code : (a b : ℕ) → (a == b) ≡ true → a ≡ b
 same_code a b e = grind (arith, nat_tests)
 
 -- what a value gives itself has keys that suit its shape, with its place
-pub keyed_here : (number shape : ℕ) (tree : Json) (round : Trail) → Each (IsKeyed (place_of (noted number shape tree ∷ round)) shape) (parts_at (noted number shape tree ∷ round) tree)
+pub keyed_here : (number shape : ℕ) (tree : Json) (round : Trail)
+    → Each (IsKeyed (place_of (noted number shape tree ∷ round)) shape) (parts_at (noted number shape tree ∷ round) tree)
 keyed_here number shape tree round =
-    if_known P (shape == DATA) _ _ (λ e. subst (λ s. Each (IsKeyed (place_of trail) s) (data_parts trail tree)) (sym (same_code shape DATA e)) (keyed_set (noted number shape tree) round tree)) (λ a.
-    if_known P (shape == TRANSFORM) _ _ (λ e. subst (λ s. Each (IsKeyed (place_of trail) s) (transform_parts trail tree)) (sym (same_code shape TRANSFORM e)) (keyed_step trail tree)) (λ b.
+    if_known P (shape == DATA) _ _ (λ e. subst (λ s. Each (IsKeyed (place_of trail) s) (data_parts trail tree))
+    (sym (same_code shape DATA e)) (keyed_set (noted number shape tree) round tree)) (λ a.
+    if_known P (shape == TRANSFORM) _ _ (λ e.
+    subst (λ s. Each (IsKeyed (place_of trail) s) (transform_parts trail tree)) (sym (same_code shape TRANSFORM e)) (keyed_step trail tree)) (λ b.
     if_each P (shape == SORT) _ _ (Q (sort_parts trail tree) (keyless_sort trail tree))
-    (if_known P (shape == SIGNAL) _ _ (λ e. subst (λ s. Each (IsKeyed (place_of trail) s) (signal_parts trail tree)) (sym (same_code shape SIGNAL e)) (keyed_signal trail tree)) (λ c.
+    (if_known P (shape == SIGNAL) _ _
+    (λ e. subst (λ s. Each (IsKeyed (place_of trail) s) (signal_parts trail tree)) (sym (same_code shape SIGNAL e)) (keyed_signal trail tree)) (λ c.
     if_each P (shape == TOP) _ _ (Q (plot_parts trail) (keyless_plot trail))
     (if_each P (shape == MARK) _ _ (Q (mark_parts trail tree) (keyless_mark trail tree))
     (if_each P (shape == FACET) _ _ (Q (facet_parts trail tree) (keyless_facet trail tree))
-    (if_each P (shape == SCALE) _ _ (Q (scale_parts trail tree) (keyless_scale trail tree)) (Q (guide_parts shape trail tree) (keyless_guide shape trail tree)))))))))
+    (if_each P (shape == SCALE) _ _ (Q (scale_parts trail tree) (keyless_scale trail tree))
+    (Q (guide_parts shape trail tree) (keyless_guide shape trail tree)))))))))
   where
     trail : Trail
     trail = noted number shape tree ∷ round

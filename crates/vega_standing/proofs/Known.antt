@@ -47,7 +47,8 @@ under_others place k j x t never a b =
 
 no_longer : (place : List ℕ) (k : ℕ) (rest : List ℕ) → place ≡ place ++ k ∷ rest → ⊥
 no_longer place k rest e =
-    let f : length place ≡ length place + (length rest + 1) = ap length e ∙ length-append place (k ∷ rest) ∙ ap (λ n. length place + n) (one_more (length rest)) in
+    let f : length place ≡ length place + (length rest + 1) =
+    ap length e ∙ length-append place (k ∷ rest) ∙ ap (λ n. length place + n) (one_more (length rest)) in
     never (length place) (length rest) f
   where
     one_more : (n : ℕ) → suc n ≡ n + 1
@@ -153,7 +154,8 @@ quiet_known whole known (p ∷ parts) q = ap (λ k. known_after whole k parts) (
 
 -- ---- sources
 
-no_source : (x : List ℕ) (u : UsedName) (b : Bool) → IfSome (if b then Some (parent u.at) else None) (λ t. same_place x t ≡ false) → (b && same_place x (parent u.at)) ≡ false
+no_source : (x : List ℕ) (u : UsedName) (b : Bool) →
+    IfSome (if b then Some (parent u.at) else None) (λ t. same_place x t ≡ false) → (b && same_place x (parent u.at)) ≡ false
 no_source x u true a = a
 no_source x u false a = refl
 
@@ -238,7 +240,8 @@ name_passed kind loud x name (part.Interval at scope scale marks) gs a = refl
 pub name_behind : (kind : Given) → IsLoud kind → (x name : List ℕ) (parts others : List Part) → Each (Apart x) parts →
     first_given (parts ++ others) kind x name ≡ first_given others kind x name
 name_behind kind loud x name [] others a = refl
-name_behind kind loud x name (p ∷ parts) others a = name_passed kind loud x name p (given_names (parts ++ others)) a.0 ∙ name_behind kind loud x name parts others a.1
+name_behind kind loud x name (p ∷ parts) others a =
+    name_passed kind loud x name p (given_names (parts ++ others)) a.0 ∙ name_behind kind loud x name parts others a.1
 
 first_or : (kind : Given) (x name : List ℕ) (o : Option GivenName) (xs : List GivenName) (rest : Option GivenName) (all : List GivenName) →
     find (is_given kind x name) all ≡ option_or (find (is_given kind x name) xs) rest →
@@ -255,4 +258,5 @@ pub name_append : (kind : Given) (x name : List ℕ) (parts others : List Part) 
     first_given (parts ++ others) kind x name ≡ option_or (first_given parts kind x name) (first_given others kind x name)
 name_append kind x name [] others = refl
 name_append kind x name (p ∷ parts) others =
-    first_or kind x name (given_by p) (given_names parts) (first_given others kind x name) (given_names (parts ++ others)) (name_append kind x name parts others)
+    first_or kind x name (given_by p) (given_names parts) (first_given others kind x name)
+    (given_names (parts ++ others)) (name_append kind x name parts others)

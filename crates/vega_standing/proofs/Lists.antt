@@ -1,6 +1,7 @@
 -- The folds of the data sets of an object.
 use Rattle.std.proofs.Common.{◌≡◌, ℕ, ◌+◌, ◌≤◌, ◌<◌, List, [], ◌∷◌, ◌++◌, length, cond, refl, sym, ap, subst, ◌∙◌, arith}
-use Rattle.std.specs.Prelude.{Option, Some, None, Bool, true, false, ◌==◌, ◌&&◌, ◌||◌, nat_lt, bytes_eq, IfSome, is_some, is_none, flat_map, take, if◌then◌else◌}
+use Rattle.std.specs.Prelude.{Option, Some, None, Bool, true, false, ◌==◌, ◌&&◌, ◌||◌, nat_lt, bytes_eq, IfSome, is_some, is_none, flat_map}
+use Rattle.std.specs.Prelude.{take, if◌then◌else◌}
 use Rattle.std.specs.List.{enumerate_from}
 use Rattle.std.proofs.lemmas.Bool.Decides.{nat_tests}
 use Rattle.std.proofs.lemmas.List.{append_assoc, append-nil, length-append}
@@ -52,7 +53,8 @@ pub later_not : (i j : ℕ) (xs ys : List ℕ) → j < i → ends_before (i ∷ 
 later_not i j xs ys e = λ k. not_less_than i j e k || (not_equal i j e k && ends_before xs ys)
 
 pub earlier_ends : (place : List ℕ) (i j : ℕ) (rest : List ℕ) → i < j → ends_before (place ++ i ∷ []) ((place ++ j ∷ []) ++ rest) ≡ true
-earlier_ends place i j rest e = ap (ends_before (place ++ i ∷ [])) (append_assoc place (j ∷ []) rest) ∙ ends_front place (i ∷ []) (j ∷ rest) ∙ first_ends i j rest e
+earlier_ends place i j rest e =
+    ap (ends_before (place ++ i ∷ [])) (append_assoc place (j ∷ []) rest) ∙ ends_front place (i ∷ []) (j ∷ rest) ∙ first_ends i j rest e
 
 pub later_ends_not : (place : List ℕ) (i j : ℕ) (xs ys : List ℕ) → j < i → ends_before ((place ++ i ∷ []) ++ xs) ((place ++ j ∷ []) ++ ys) ≡ false
 later_ends_not place i j xs ys e =
@@ -75,7 +77,8 @@ Behind scope at (part.Plot place) = Unit {0}
 Behind scope at (part.Step place set) = Unit {0}
 Behind scope at (part.Interval place outer scale marks) = Unit {0}
 
-apart_given : (scope : List ℕ) (g : GivenName) (b : Bool) → is_quiet_name g.kind ≡ b → IfSome (if b then None else Some g.scope) (λ t. same_place scope t ≡ false) →
+apart_given : (scope : List ℕ) (g : GivenName) (b : Bool) → is_quiet_name g.kind ≡ b →
+    IfSome (if b then None else Some g.scope) (λ t. same_place scope t ≡ false) →
     same_place scope g.scope ≡ true → is_quiet_name g.kind ≡ false → ⊥
 apart_given scope g true e a same loud = cc
 apart_given scope g false e a same loud = cc
@@ -100,7 +103,8 @@ loud_kind : (g : GivenName) (b : Bool) → is_quiet_name g.kind ≡ b → (0 == 
 loud_kind g false e f = refl
 loud_kind g true e f = let none : (0 == number_of g.kind) ≡ false = loud_data.unlike_quiet g.kind e in absurd cc
 
-pub first_later : (scope at name : List ℕ) (parts : List Part) (g : GivenName) → Each (Behind scope at) parts → first_given parts given_as.Data scope name ≡ Some g → ends_before g.of at ≡ false
+pub first_later : (scope at name : List ℕ) (parts : List Part) (g : GivenName) → Each (Behind scope at) parts →
+    first_given parts given_as.Data scope name ≡ Some g → ends_before g.of at ≡ false
 first_later scope at name [] g each e = absurd cc
 first_later scope at name (part.Given h ∷ parts) g each e = by_test (is_given given_as.Data scope name h) refl e (first_later scope at name parts g each.1)
   where
@@ -142,7 +146,8 @@ never_under place x p never u = by_concern (concern p) u
 
 -- parts in the object change nothing of it
 pub outer_kept : (whole : List Part) (known : List (List ℕ × ℕ)) (place : List ℕ) (scopes : List (List ℕ)) (products : Products) (parts : List Part) →
-    Each (λ p. IfSome (concern p) (Under place)) parts → Outer whole known place scopes products → Outer whole (known_after whole known parts) place scopes products
+    Each (λ p. IfSome (concern p) (Under place)) parts → Outer whole known place scopes products →
+    Outer whole (known_after whole known parts) place scopes products
 outer_kept whole known place scopes products parts each o = record {
   meets = λ name. kept (first_found (given_in whole for_.Source name) scopes) (products name) (o.meets name);
   few = o.few;
@@ -151,7 +156,8 @@ outer_kept whole known place scopes products parts each o = record {
     kept : (g : Option GivenName) (product : ℕ) → Meets known place product g → Meets (known_after whole known parts) place product g
     kept None product m = tt
     kept (Some g) product m = (
-      λ q u ends. apart_product whole known parts g.of (each_of (λ p. IfSome (concern p) (Under place)) (Apart g.of) (λ p u. never_under place g.of p m.1 u) parts each)
+      λ q u ends. apart_product whole known parts g.of
+          (each_of (λ p. IfSome (concern p) (Under place)) (Apart g.of) (λ p u. never_under place g.of p m.1 u) parts each)
           ∙ m.0 q u ends,
       m.1,
     )
@@ -184,7 +190,8 @@ unknown_at all [] p others none = (none_of (unknown_by all p) _ none).0
 unknown_at all (b ∷ before) p others none = unknown_at all before p others (none_of (unknown_by all b) _ none).1
 
 -- a used name means something
-pub is_known : (all before : List Part) (u : UsedName) (others : List Part) → u.kind ≡ for_.Source → all ≡ before ++ part.Used u ∷ others → unknown all ≡ [] → is_none (resolved_use all u) ≡ false
+pub is_known : (all before : List Part) (u : UsedName) (others : List Part) → u.kind ≡ for_.Source →
+    all ≡ before ++ part.Used u ∷ others → unknown all ≡ [] → is_none (resolved_use all u) ≡ false
 is_known all before u others source is none =
     by_test (is_none (resolved_use all u)) refl (ap (λ k. fault_if (is_some (giver k) && is_none (resolved_use all u)) Wrong u.at) (sym source)
     ∙ unknown_at all before (part.Used u) others (ap (flat_map (unknown_by all)) (sym is) ∙ none))

@@ -57,7 +57,8 @@ use Rattle.vega_standing.proofs.Transforms.{one_layout, last_layout}
 use Rattle.vega_standing.proofs.Marks.{mark_opened, marks_taken}
 use Rattle.vega_standing.proofs.Quiet.{IsQuiet, AreQuiet, each_append, each_of, quiet_shape}
 use Rattle.vega_standing.proofs.Dull.{is_dull, dull_parts, found_passes, same_code}
-use Rattle.vega_standing.proofs.Known.{quiet_known, Under, under_itself, under_further, under_others, under_itself_not, concern, quiet_holds, Apart, known_after, known_append}
+use Rattle.vega_standing.proofs.Known.{quiet_known, Under, under_itself, under_further, under_others, under_itself_not, concern}
+use Rattle.vega_standing.proofs.Known.{quiet_holds, Apart, known_after, known_append}
 use Rattle.vega_standing.proofs.Rows.{place_child, none_named}
 use Rattle.vega_standing.proofs.Sets.{Listed, listed_as, ruled_as, or_dull}
 use Rattle.vega_standing.proofs.Lists.{Meets, Outer, outer_kept}
@@ -78,7 +79,8 @@ module _ (trail : Trail) (ms : List Member) where
   own = mark_with ms (marks_at ms (codes "marks"))
 
   abbrev pub KindOf : Layout → Type 0
-  KindOf l = (IsPlain l × (is_group (out-VgMark own) ≡ false)) ⊎ ((l ≡ group_mark) × (is_group (out-VgMark own) ≡ true) × (text_at ms (codes "type") ≡ Some (codes "group")))
+  KindOf l = (IsPlain l × (is_group (out-VgMark own) ≡ false))
+      ⊎ ((l ≡ group_mark) × (is_group (out-VgMark own) ≡ true) × (text_at ms (codes "type") ≡ Some (codes "group")))
 
   abbrev Kind : Layout → Type 0
   Kind l = StandsObject trail l ms → KindOf l
@@ -100,7 +102,8 @@ module _ (trail : Trail) (ms : List Member) where
   no_kind : Kind no_mark
   unfolding no_mark
   no_kind s =
-      let v : (v : Json) × (member_value ms (codes "type") ≡ Some v) = required trail no_mark ms (codes "type") (must (codes "type") NOTHING) s refl refl refl in
+      let v : (v : Json) × (member_value ms (codes "type") ≡ Some v) =
+      required trail no_mark ms (codes "type") (must (codes "type") NOTHING) s refl refl refl in
       let stands : (i : ℕ) × Stands trail i NOTHING v.0 = found_as trail no_mark ms (codes "type") v.0 NOTHING s refl v.1 in
       absurd (nothing_stands trail stands.0 v.0 stands.1)
 
@@ -114,7 +117,8 @@ module _ (trail : Trail) (ms : List Member) where
       let a : List ℕ → Bool = λ word. list_any (says (codes "type") word) ms in
       one_layout Kind (a (codes "group")) group_mark l _ e group (λ e.
       one_layout Kind (a (codes "rect")) rect_mark l _ e (plain (codes "rect") mark.Rect rect_mark (record { rules = refl; others = refl }) refl refl) (λ e.
-      one_layout Kind (a (codes "symbol")) symbol_mark l _ e (plain (codes "symbol") mark.Symbol symbol_mark (record { rules = refl; others = refl }) refl refl) (λ e.
+      one_layout Kind (a (codes "symbol")) symbol_mark l _ e
+      (plain (codes "symbol") mark.Symbol symbol_mark (record { rules = refl; others = refl }) refl refl) (λ e.
       one_layout Kind (a (codes "line")) line_mark l _ e (plain (codes "line") mark.Line line_mark (record { rules = refl; others = refl }) refl refl) (λ e.
       one_layout Kind (a (codes "area")) area_mark l _ e (plain (codes "area") mark.Area area_mark (record { rules = refl; others = refl }) refl refl) (λ e.
       one_layout Kind (a (codes "rule")) rule_mark l _ e (plain (codes "rule") mark.Rule rule_mark (record { rules = refl; others = refl }) refl refl) (λ e.
@@ -150,7 +154,8 @@ pub record GoodMark (whole : List Part) (tree : Json) : Type 0 where
   pub folds : (next : Around) (round : Trail) (number : ℕ) → Stands (next ∷ round) number MARK tree → is_faceted (next ∷ round) ≡ false →
       (products : Products) (others : Marks) (before after : List Part) → whole ≡ before ++ (parts_in (next ∷ round) number MARK tree ++ after) →
       Clear (place_of (noted number MARK tree ∷ next ∷ round)) before → Clear (place_of (noted number MARK tree ∷ next ∷ round)) after →
-      Outer whole (known_after whole [] before) (place_of (noted number MARK tree ∷ next ∷ round)) (fronts_round (place_of (noted number MARK tree ∷ next ∷ round))) products →
+      Outer whole (known_after whole [] before) (place_of (noted number MARK tree ∷ next ∷ round))
+      (fronts_round (place_of (noted number MARK tree ∷ next ∷ round))) products →
       FoldsFitIn products others → FoldsFitIn products (before_of (mark_of tree) others)
   pub faceted : (next : Around) (round : Trail) (number : ℕ) → Stands (next ∷ round) number MARK tree → is_faceted (next ∷ round) ≡ true →
       (products : Products) (others : Marks) → FoldsFitIn products others → FoldsFitIn products (before_of (mark_of tree) others)
@@ -163,7 +168,8 @@ module _ (whole : List Part) (no_twice : twice whole ≡ []) (no_unknown : unkno
   abbrev known_so : List Part → List (List ℕ × ℕ)
   known_so before = known_after whole [] before
 
-  row_concerns : (list next : Around) (round : Trail) (n : ℕ) (items : List Json) → Each (GoodMark whole) items → EachFrom (λ i v. Stands (list ∷ next ∷ round) i MARK v) n items →
+  row_concerns : (list next : Around) (round : Trail) (n : ℕ) (items : List Json) →
+      Each (GoodMark whole) items → EachFrom (λ i v. Stands (list ∷ next ∷ round) i MARK v) n items →
       (P : List ℕ → Type 0) → ((i : ℕ) → n ≤ i → (t : List ℕ) → Under (place_of (list ∷ next ∷ round) ++ i ∷ []) t → P t) →
       Each (λ p. IfSome (concern p) P) (parts_of_items (list ∷ next ∷ round) MARK n items)
   row_concerns list next round n [] good each P f = tt
@@ -179,7 +185,8 @@ module _ (whole : List Part) (no_twice : twice whole ≡ []) (no_unknown : unkno
       grow : (i n : ℕ) → n + 1 ≤ i → n ≤ i
       grow i n e = omega arith
 
-  row_faceted : (list next : Around) (round : Trail) (n : ℕ) (items : List Json) → Each (GoodMark whole) items → EachFrom (λ i v. Stands (list ∷ next ∷ round) i MARK v) n items →
+  row_faceted : (list next : Around) (round : Trail) (n : ℕ) (items : List Json) →
+      Each (GoodMark whole) items → EachFrom (λ i v. Stands (list ∷ next ∷ round) i MARK v) n items →
       is_faceted (list ∷ next ∷ round) ≡ true → (products : Products) → FoldsFitIn products (marks_of (map mark_of items))
   row_faceted list next round n [] good each e products = tt
   row_faceted list next round n (v ∷ items) good each e products =
@@ -189,7 +196,8 @@ module _ (whole : List Part) (no_twice : twice whole ≡ []) (no_unknown : unkno
   inner_outer : (known : List (List ℕ × ℕ)) (place : List ℕ) (n : ℕ) (products : Products) → Outer whole known place (fronts place) products →
       Outer whole known (place ++ n ∷ []) (fronts_round (place ++ n ∷ [])) products
   inner_outer known place n products o = record {
-    meets = λ name. subst (λ fs. Meets known (place ++ n ∷ []) (products name) (first_found (given_in whole for_.Source name) (drop 1 fs))) (sym (fronts_child place n))
+    meets = λ name. subst (λ fs. Meets known (place ++ n ∷ []) (products name) (first_found (given_in whole for_.Source name) (drop 1 fs)))
+        (sym (fronts_child place n))
         (nearer (first_found (given_in whole for_.Source name) (fronts place)) (products name) (o.meets name));
     few = o.few;
   }
@@ -198,28 +206,35 @@ module _ (whole : List Part) (no_twice : twice whole ≡ []) (no_unknown : unkno
       nearer None product m = tt
       nearer (Some g) product m = ((λ q u e. m.0 q (under_further place (n ∷ []) q u) e), (λ u. m.1 (under_further place (n ∷ []) g.of u)))
 
-  row_folds : (list next : Around) (round : Trail) (place : List ℕ) (n : ℕ) (items : List Json) → place_of (list ∷ next ∷ round) ≡ place → Each (GoodMark whole) items →
-      EachFrom (λ i v. Stands (list ∷ next ∷ round) i MARK v) n items → is_faceted (list ∷ next ∷ round) ≡ false → (products : Products) (before after : List Part) →
+  row_folds : (list next : Around) (round : Trail) (place : List ℕ) (n : ℕ) (items : List Json) →
+      place_of (list ∷ next ∷ round) ≡ place → Each (GoodMark whole) items →
+      EachFrom (λ i v. Stands (list ∷ next ∷ round) i MARK v) n items →
+      is_faceted (list ∷ next ∷ round) ≡ false → (products : Products) (before after : List Part) →
       whole ≡ before ++ (parts_of_items (list ∷ next ∷ round) MARK n items ++ after) → ((i : ℕ) → n ≤ i → Clear (place ++ i ∷ []) before) → Clear place after →
       Outer whole (known_so before) place (fronts place) products → FoldsFitIn products (marks_of (map mark_of items))
   row_folds list next round place n [] at good each e products before after is clear_before clear_after outer = tt
   row_folds list next round place n (v ∷ items) at good each e products before after is clear_before clear_after outer =
       let here : List Part = parts_in (list ∷ next ∷ round) n MARK v in
       let rest : List Part = parts_of_items (list ∷ next ∷ round) MARK (n + 1) items in
-      let at_child : place_of (noted n MARK v ∷ list ∷ next ∷ round) ≡ place ++ n ∷ [] = place_child (noted n MARK v) list (next ∷ round) ∙ ap (λ p. p ++ n ∷ []) at in
+      let at_child : place_of (noted n MARK v ∷ list ∷ next ∷ round) ≡ place ++ n ∷ [] =
+      place_child (noted n MARK v) list (next ∷ round) ∙ ap (λ p. p ++ n ∷ []) at in
       let whole_is : whole ≡ before ++ (here ++ (rest ++ after)) = is ∙ ap (λ ps. before ++ ps) (append_assoc here rest after) in
-      let own : Each (λ p. IfSome (concern p) (Under (place ++ n ∷ []))) here = subst (λ x. Each (λ p. IfSome (concern p) (Under x)) here) at_child (good.0.concerns list (next ∷ round) n each.0) in
+      let own : Each (λ p. IfSome (concern p) (Under (place ++ n ∷ []))) here =
+      subst (λ x. Each (λ p. IfSome (concern p) (Under x)) here) at_child (good.0.concerns list (next ∷ round) n each.0) in
       let clear_rest : Clear (place ++ n ∷ []) (rest ++ after) =
       λ x u. each_append (Apart x) rest after
       (row_concerns list next round (n + 1) items good.1 each.1 (λ t. same_place x t ≡ false)
       (λ i more t w. under_others place n i x t (over i more) u (subst (λ p. Under (p ++ i ∷ []) t) at w)))
       (clear_after x (under_further place (n ∷ []) x u)) in
       let others : FoldsFitIn products (marks_of (map mark_of items)) =
-      row_folds list next round place (n + 1) items at good.1 each.1 e products (before ++ here) after (whole_is ∙ sym (append_assoc before here (rest ++ after)))
+      row_folds list next round place (n + 1) items at good.1 each.1 e products
+      (before ++ here) after (whole_is ∙ sym (append_assoc before here (rest ++ after)))
       (λ i more x u. each_append (Apart x) before here (clear_before i (grow i more) x u)
-      (concerns_map (Under (place ++ n ∷ [])) (λ t. same_place x t ≡ false) here (λ t w. under_others place i n x t (λ same. over i more (sym same)) u w) own)) clear_after
+      (concerns_map (Under (place ++ n ∷ [])) (λ t. same_place x t ≡ false) here
+      (λ t w. under_others place i n x t (λ same. over i more (sym same)) u w) own)) clear_after
       (subst (λ kn. Outer whole kn place (fronts place) products) (sym (known_append whole [] before here))
-      (outer_kept whole (known_so before) place (fronts place) products here (concerns_map (Under (place ++ n ∷ [])) (Under place) here (λ t w. under_further place (n ∷ []) t w) own) outer)) in
+      (outer_kept whole (known_so before) place (fronts place) products here
+      (concerns_map (Under (place ++ n ∷ [])) (Under place) here (λ t w. under_further place (n ∷ []) t w) own) outer)) in
       good.0.folds list (next ∷ round) n each.0 e products (marks_of (map mark_of items)) before (rest ++ after) whole_is
       (subst (λ x. Clear x before) (sym at_child) (clear_before n same)) (subst (λ x. Clear x (rest ++ after)) (sym at_child) clear_rest)
       (subst (λ x. Outer whole (known_so before) x (fronts_round x) products) (sym at_child) (inner_outer (known_so before) place n products outer)) others
@@ -266,15 +281,20 @@ module _ (whole : List Part) (no_twice : twice whole ≡ []) (no_unknown : unkno
         let rest : List Part = parts_of_items (noted k MARKS v ∷ here ∷ round) MARK 0 l.items in
         let place : List ℕ = place_of (here ∷ round) ++ k ∷ [] in
         let fits : FoldsFitIn products (marks_of (map mark_of l.items)) =
-        row_folds (noted k MARKS v) here round place 0 l.items (place_child (noted k MARKS v) here round) (deep.items l.items l.is_list) l.each e products (before ++ own_list) after
-        (is ∙ ap (λ ps. before ++ (ps ++ after)) l.parts ∙ ap (λ ps. before ++ ps) (append_assoc own_list rest after) ∙ sym (append_assoc before own_list (rest ++ after)))
-        (λ i more x u. each_append (Apart x) before own_list (clear_before x (under_further place (i ∷ []) x u)) (each_of IsQuiet (Apart x) (quiet_apart x) own_list quiet))
+        row_folds (noted k MARKS v) here round place 0 l.items (place_child (noted k MARKS v) here round)
+        (deep.items l.items l.is_list) l.each e products (before ++ own_list) after
+        (is ∙ ap (λ ps. before ++ (ps ++ after)) l.parts ∙ ap (λ ps. before ++ ps) (append_assoc own_list rest after)
+        ∙ sym (append_assoc before own_list (rest ++ after)))
+        (λ i more x u. each_append (Apart x) before own_list (clear_before x (under_further place (i ∷ []) x u))
+        (each_of IsQuiet (Apart x) (quiet_apart x) own_list quiet))
         clear_after
-        (subst (λ kn. Outer whole kn place (fronts place) products) (sym (known_append whole [] before own_list ∙ quiet_known whole (known_so before) own_list quiet)) outer) in
+        (subst (λ kn. Outer whole kn place (fronts place) products)
+        (sym (known_append whole [] before own_list ∙ quiet_known whole (known_so before) own_list quiet)) outer) in
         subst (λ o. FoldsFitIn products (marks_of (unwrap_or o []))) (sym (marks_are here round k v l)) fits;
   }
 
-  pub marks_faceted : (here : Around) (round : Trail) (k : ℕ) (v : Json) → Stands (here ∷ round) k MARKS v → Deep whole v → is_faceted (here ∷ round) ≡ true → (products : Products) →
+  pub marks_faceted : (here : Around) (round : Trail) (k : ℕ) (v : Json) → Stands (here ∷ round) k MARKS v →
+      Deep whole v → is_faceted (here ∷ round) ≡ true → (products : Products) →
       FoldsFitIn products (marks_of (unwrap_or (marks_in v) []))
   marks_faceted here round k v s deep e products =
       let l : Listed (here ∷ round) k MARKS MARK v = marks_listed here round k v s in
@@ -287,11 +307,13 @@ module _ (whole : List Part) (no_twice : twice whole ≡ []) (no_unknown : unkno
   group_but m no_from no_set no_marks inner e =
       ruled_as group_mark.rules group_mark.others m.name inner (λ i. is_dull i ≡ true) group_alone
       (λ r found.
-      let passed : (bytes_eq r.name m.name ≡ true) × (group_rule r ≡ true) = found_passes (λ (r : Rule). bytes_eq r.name m.name) group_rule group_mark.rules r found group_dull in
+      let passed : (bytes_eq r.name m.name ≡ true) × (group_rule r ≡ true) =
+      found_passes (λ (r : Rule). bytes_eq r.name m.name) group_rule group_mark.rules r found group_dull in
       let named : r.name ≡ m.name = (bytes_eq-Decides r.name m.name).0 passed.0 in
       or_dull (is_dull r.shape) (bytes_eq r.name (codes "from"))
       (or_dull (is_dull r.shape || bytes_eq r.name (codes "from")) (bytes_eq r.name (codes "marks"))
-      (or_dull ((is_dull r.shape || bytes_eq r.name (codes "from")) || bytes_eq r.name (codes "marks")) (bytes_eq r.name (codes "data")) passed.1 (ap (λ n. bytes_eq n (codes "data")) named ∙ no_set))
+      (or_dull ((is_dull r.shape || bytes_eq r.name (codes "from")) || bytes_eq r.name (codes "marks"))
+      (bytes_eq r.name (codes "data")) passed.1 (ap (λ n. bytes_eq n (codes "data")) named ∙ no_set))
       (ap (λ n. bytes_eq n (codes "marks")) named ∙ no_marks)) (ap (λ n. bytes_eq n (codes "from")) named ∙ no_from)) e
 
   pub each_group : (ms : List Member) → has_name ms (codes "from") ≡ false → Each (DullButTwo group_mark) ms
@@ -299,7 +321,8 @@ module _ (whole : List Part) (no_twice : twice whole ≡ []) (no_unknown : unkno
   each_group (m ∷ ms) e = let none = none_named m ms (codes "from") e in (group_but m none.0, each_group ms none.1)
 
   -- what holds of the group and of all under it, holds of all that its parts concern
-  pub group_concerns : (here : Around) (round : Trail) (ms : List Member) → StandsObject (here ∷ round) group_mark ms → here.object ≡ true → Each (λ (m : Member). Deep whole m.value) ms →
+  pub group_concerns : (here : Around) (round : Trail) (ms : List Member) →
+      StandsObject (here ∷ round) group_mark ms → here.object ≡ true → Each (λ (m : Member). Deep whole m.value) ms →
       Each (λ p. IfSome (concern p) (Under (place_of (here ∷ round)))) (parts_of_members (here ∷ round) group_mark 0 ms)
   group_concerns here round ms s object deep = by_members 0 ms s.each deep
     where
@@ -312,13 +335,15 @@ module _ (whole : List Part) (no_twice : twice whole ≡ []) (no_unknown : unkno
       itself : P S
       itself = ([], sym (append-nil S))
 
-      by_shape : (i : ℕ) (m : Member) (shape : ℕ) → Stands (here ∷ round) i shape m.value → Deep whole m.value → (a b c d : Bool) → is_dull shape ≡ a → (shape == DATA_LIST) ≡ b → (shape == MARKS) ≡ c →
+      by_shape : (i : ℕ) (m : Member) (shape : ℕ) → Stands (here ∷ round) i shape m.value → Deep whole m.value →
+          (a b c d : Bool) → is_dull shape ≡ a → (shape == DATA_LIST) ≡ b → (shape == MARKS) ≡ c →
           (shape == GROUP_FROM) ≡ d → (((a || d) || c) || b) ≡ true → Each (λ p. IfSome (concern p) P) (parts_in (here ∷ round) i shape m.value)
       by_shape i m shape st dp true b c d x y z w e = quiet_holds P (parts_in (here ∷ round) i shape m.value) (dull_parts (here ∷ round) i shape m.value x)
       by_shape i m shape st dp false true c d x y z w e =
           let same : shape ≡ DATA_LIST = same_code shape DATA_LIST y in
           subst (λ k. Each (λ p. IfSome (concern p) P) (parts_in (here ∷ round) i k m.value)) (sym same)
-          (sets_concern whole no_twice no_unknown no_folds here round object P (Some (i, m.value)) (subst (λ k. Stands (here ∷ round) i k m.value) same st) itself
+          (sets_concern whole no_twice no_unknown no_folds here round object P
+          (Some (i, m.value)) (subst (λ k. Stands (here ∷ round) i k m.value) same st) itself
           (λ j. under_further S (i ∷ []) ((S ++ i ∷ []) ++ j ∷ []) (under_itself (S ++ i ∷ []) (j ∷ []))))
       by_shape i m shape st dp false false true d x y z w e =
           let same : shape ≡ MARKS = same_code shape MARKS z in
@@ -336,9 +361,11 @@ module _ (whole : List Part) (no_twice : twice whole ≡ []) (no_unknown : unkno
       by_members n [] each dp = tt
       by_members n (m ∷ ms) each dp =
           let shape : ℕ = each.0.0 in
-          each_append (λ p. IfSome (concern p) P) (member_parts group_mark (here ∷ round) (n, (m.name, seen_in vega_schema noted parts_at m.value))) (parts_of_members (here ∷ round) group_mark (n + 1) ms)
+          each_append (λ p. IfSome (concern p) P) (member_parts group_mark (here ∷ round) (n, (m.name, seen_in vega_schema noted parts_at m.value)))
+          (parts_of_members (here ∷ round) group_mark (n + 1) ms)
           (subst (λ o. Each (λ p. IfSome (concern p) P) (option_map_or (λ shape. parts_in (here ∷ round) n shape m.value) o [])) (sym each.0.1)
           (by_shape n m each.0.0 each.0.2 dp.0 (is_dull each.0.0) (each.0.0 == DATA_LIST) (each.0.0 == MARKS) (each.0.0 == GROUP_FROM) refl refl refl refl
-          (ruled_as group_mark.rules group_mark.others m.name each.0.0 (λ i. (((is_dull i || i == GROUP_FROM) || i == MARKS) || i == DATA_LIST) ≡ true) group_alone
+          (ruled_as group_mark.rules group_mark.others m.name each.0.0
+          (λ i. (((is_dull i || i == GROUP_FROM) || i == MARKS) || i == DATA_LIST) ≡ true) group_alone
           (λ r found. (found_passes (λ (r : Rule). bytes_eq r.name m.name) group_shape group_mark.rules r found group_shapes).1) each.0.1)))
           (by_members (n + 1) ms each.1 dp.1)

@@ -106,7 +106,8 @@ built_of ms marks g is = record {
 -- ---- lists of marks
 
 abbrev KeepsMark : Json → Type 0
-KeepsMark tree = (round : Trail) (number : ℕ) → Stands round number MARK tree → (others : Marks) → KeepsMarks others → KeepsMarks (before_of (mark_of tree) others)
+KeepsMark tree = (round : Trail) (number : ℕ) → Stands round number MARK tree →
+    (others : Marks) → KeepsMarks others → KeepsMarks (before_of (mark_of tree) others)
 
 row_keeps : (trail : Trail) (n : ℕ) (items : List Json) → Each KeepsMark items → EachFrom (λ i v. Stands trail i MARK v) n items →
     KeepsMarks (marks_of (map mark_of items))
@@ -166,7 +167,8 @@ marks_keep trail l ms s ruled deep = by_value (member_value ms (codes "marks")) 
 
 -- ---- one mark
 
-placed : (g : Group-F Group VgMark) (number : ℕ) (o : Object) → KeepsObject (object_here g) → o.sets ≡ (object_here g).sets → o.scales ≡ (object_here g).scales →
+placed : (g : Group-F Group VgMark) (number : ℕ) (o : Object) → KeepsObject (object_here g) →
+    o.sets ≡ (object_here g).sets → o.scales ≡ (object_here g).scales →
     o.axes ≡ (object_here g).axes → o.layout ≡ (object_here g).layout → KeepsObject o
 placed g number o k sets scales axes grid = record {
   sets = subst (λ x. All (OfTransforms is_kept) x) (sym sets) k.sets;
@@ -202,8 +204,10 @@ module _ (trail : Trail) (ms : List Member) (others : Marks) (kept : KeepsMarks 
       let is : out-Group (out-VgMark own).group ≡ group_parts ms (marks_at ms (codes "marks")) =
       ap (λ (m : VgMark-F Group VgMark). out-Group m.group) (mark_opened ms (marks_at ms (codes "marks"))) ∙ group_opened ms (marks_at ms (codes "marks")) in
       let here : KeepsObject (object_here (out-Group (out-VgMark own).group)) =
-      object_keeps trail group_mark ms (out-Group (out-VgMark own).group) s (record { sets = refl; scales = refl; axes = refl; grid = refl }) (built_of ms (marks_at ms (codes "marks")) _ is) in
-      let object : KeepsObject (group_object 0 (out-VgMark own)) = placed (out-Group (out-VgMark own).group) 0 (group_object 0 (out-VgMark own)) here refl refl refl refl in
+      object_keeps trail group_mark ms (out-Group (out-VgMark own).group) s
+      (record { sets = refl; scales = refl; axes = refl; grid = refl }) (built_of ms (marks_at ms (codes "marks")) _ is) in
+      let object : KeepsObject (group_object 0 (out-VgMark own)) =
+      placed (out-Group (out-VgMark own).group) 0 (group_object 0 (out-VgMark own)) here refl refl refl refl in
       let within : KeepsMarks (marks_of (outlined.marks_in (out-Group (out-VgMark own).group))) =
       subst (λ (g : Group-F Group VgMark). KeepsMarks (marks_of (unwrap_or g.marks []))) (sym is) (marks_keep trail group_mark ms s refl deep) in
       subst KeepsMarks (sym (group_first own others (ap is_group_type (typed (codes "group") mark.Group group_mark s e refl)))) (object, within, kept)
@@ -211,7 +215,8 @@ module _ (trail : Trail) (ms : List Member) (others : Marks) (kept : KeepsMarks 
   unknown : Keeps no_mark
   unfolding no_mark
   unknown s =
-      let v : (v : Json) × (member_value ms (codes "type") ≡ Some v) = required trail no_mark ms (codes "type") (must (codes "type") NOTHING) s refl refl refl in
+      let v : (v : Json) × (member_value ms (codes "type") ≡ Some v) =
+      required trail no_mark ms (codes "type") (must (codes "type") NOTHING) s refl refl refl in
       let stands : (i : ℕ) × Stands trail i NOTHING v.0 = found_as trail no_mark ms (codes "type") v.0 NOTHING s refl v.1 in
       absurd (nothing_stands trail stands.0 v.0 stands.1)
 

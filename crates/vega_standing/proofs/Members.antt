@@ -24,7 +24,8 @@ use Rattle.vega_building.specs.Parts.{found_at, list_at, text_at}
 use Rattle.vega_standing.specs.OwnNames.{AreOwn}
 use Rattle.vega_standing.proofs.Trees.{Each}
 use Rattle.vega_parts.specs.Parts.{parts_at}
-use Rattle.vega_standing.proofs.Stands.{EachFrom, Stands, StandsMember, StandsObject, formed, list_stands, object_stands, parts_in, parts_of_members, object_parts_are}
+use Rattle.vega_standing.proofs.Stands.{EachFrom, Stands, StandsMember, StandsObject, formed, list_stands, object_stands, parts_in}
+use Rattle.vega_standing.proofs.Stands.{parts_of_members, object_parts_are}
 
 -- ---- the member that a name leads to
 
@@ -89,7 +90,8 @@ rule_there : (names : List (List ℕ)) (rules : List Rule) (name : List ℕ) (r 
 rule_there names [] name r each is = absurd cc
 rule_there names (q ∷ rules) name r each is = by_name (bytes_eq q.name name) is (rule_there names rules name r each.1)
   where
-    by_name : (b : Bool) → cond b (Some q) (rule_in rules name) ≡ Some r → (rule_in rules name ≡ Some r → is_missing names r ≡ false) → is_missing names r ≡ false
+    by_name : (b : Bool) → cond b (Some q) (rule_in rules name) ≡ Some r →
+        (rule_in rules name ≡ Some r → is_missing names r ≡ false) → is_missing names r ≡ false
     by_name true e rest = let same : q ≡ r = cc in subst (λ x. is_missing names x ≡ false) same each.0
     by_name false e rest = rest e
 
@@ -104,7 +106,8 @@ valued_here [] name e = absurd cc
 valued_here (m ∷ ms) name e = by_name (bytes_eq m.name name) e (valued_here ms name)
   where
     by_name : (b : Bool) → (b || list_any (λ n. bytes_eq n name) (map (λ (m : List ℕ × Judged). m.0) (judged_members vega_schema ms))) ≡ true
-        → (list_any (λ n. bytes_eq n name) (map (λ (m : List ℕ × Judged). m.0) (judged_members vega_schema ms)) ≡ true → (v : Json) × (member_value ms name ≡ Some v))
+        → (list_any (λ n. bytes_eq n name) (map (λ (m : List ℕ × Judged). m.0) (judged_members vega_schema ms)) ≡ true →
+        (v : Json) × (member_value ms name ≡ Some v))
         → (v : Json) × (option_map (λ (m : Member). m.value) (cond b (Some m) (find (λ (m : Member). bytes_eq m.name name) ms)) ≡ Some v)
     by_name true f rest = (m.value, refl)
     by_name false f rest = rest f
@@ -144,10 +147,12 @@ list_kept {A} P item trail layout ms name list inner s ruled listed kept = by_va
     by_opened i v stands (level.List items) e =
         let form : (form : Form) × (taken_form vega_schema list (out-Json v) ≡ Some form) = formed list v stands.fine in
         let taken : taken_form vega_schema list (level.List items) ≡ Some form.0 = ap (taken_form vega_schema list) (sym e) ∙ form.1 in
-        let each : EachFrom (λ j w. Stands (noted i list v ∷ trail) j inner w) 0 items = list_stands trail i list v items form.0 inner stands e taken (listed items form.0 taken) in
+        let each : EachFrom (λ j w. Stands (noted i list v ∷ trail) j inner w) 0 items =
+        list_stands trail i list v items form.0 inner stands e taken (listed items form.0 taken) in
         all_of_each P (map item items) (mapped_each P item (noted i list v ∷ trail) inner 0 items (λ j w. kept (noted i list v ∷ trail) j w) each)
 
-    by_value : (o : Option Json) → member_value ms name ≡ o → All P (unwrap_or (option_map (map item) (option_and_then (λ tree. items_in (out-Json tree)) o)) [])
+    by_value : (o : Option Json) → member_value ms name ≡ o →
+        All P (unwrap_or (option_map (map item) (option_and_then (λ tree. items_in (out-Json tree)) o)) [])
     by_value None e = All-nil P
     by_value (Some v) e =
         let here : (i : ℕ) × Stands trail i list v = found_as trail layout ms name v list s ruled e in
@@ -168,7 +173,8 @@ has_a_name : (ms : List Member) (name text : List ℕ) → text_at ms name ≡ S
 has_a_name [] name text e = absurd cc
 has_a_name (m ∷ ms) name text e = by_name (bytes_eq m.name name) e (has_a_name ms name text)
   where
-    by_name : (b : Bool) → option_and_then (λ tree. text_in (out-Json tree)) (option_map (λ (m : Member). m.value) (cond b (Some m) (find (λ (m : Member). bytes_eq m.name name) ms))) ≡ Some text
+    by_name : (b : Bool) → option_and_then (λ tree. text_in (out-Json tree))
+        (option_map (λ (m : Member). m.value) (cond b (Some m) (find (λ (m : Member). bytes_eq m.name name) ms))) ≡ Some text
         → (text_at ms name ≡ Some text → has_name ms name ≡ true) → (b || has_name ms name) ≡ true
     by_name true f rest = refl
     by_name false f rest = rest f
@@ -180,7 +186,8 @@ says_is (m ∷ ms) name text own e = by_name (bytes_eq m.name name) (text_passes
   where
     by_name : (b c : Bool) → bytes_eq m.name name ≡ b → text_passes (bytes_eq text) (out-Json m.value) ≡ c → ((b && c) || list_any (says name text) ms) ≡ true →
         (list_any (says name text) ms ≡ true → text_at ms name ≡ Some text) →
-        option_and_then (λ tree. text_in (out-Json tree)) (option_map (λ (m : Member). m.value) (cond b (Some m) (find (λ (m : Member). bytes_eq m.name name) ms))) ≡ Some text
+        option_and_then (λ tree. text_in (out-Json tree))
+        (option_map (λ (m : Member). m.value) (cond b (Some m) (find (λ (m : Member). bytes_eq m.name name) ms))) ≡ Some text
     by_name true true same said f rest = text_is text (out-Json m.value) said
     by_name true false same said f rest =
         let later : text_at ms name ≡ Some text = rest f in

@@ -1,6 +1,7 @@
 -- The parts that need something or are needed, among all parts of a specification.
 use Rattle.std.proofs.Common.{◌≡◌, ℕ, zero, suc, ◌+◌, List, [], ◌∷◌, ◌++◌, map, flat_map, find, cond, length, refl, sym, ap, subst, ◌∙◌, inl, inr, arith}
-use Rattle.std.specs.Prelude.{Option, Some, None, Bool, true, false, ◌==◌, ◌&&◌, ◌||◌, IfSome, is_some, slice_get, filter_map, bytes_eq, unwrap_or, take, if◌then◌else◌}
+use Rattle.std.specs.Prelude.{Option, Some, None, Bool, true, false, ◌==◌, ◌&&◌, ◌||◌, IfSome, is_some, slice_get, filter_map, bytes_eq}
+use Rattle.std.specs.Prelude.{unwrap_or, take, if◌then◌else◌}
 use Rattle.std.specs.Option.{option_map, option_map_or, option_and_then, option_or}
 use Rattle.std.specs.List.{enumerate_from, cons_option, list_any}
 use Rattle.std.proofs.lemmas.Bool.Decides.{nat_tests}
@@ -21,12 +22,12 @@ use Rattle.vega_rules.specs.Places.{same_place, parent}
 use Rattle.vega_rules.specs.Names.{given_by, number_of as kind_number, is_given, first_given}
 use Rattle.vega_rules.specs.Twice.{is_single, is_repeated, repeated, twice}
 use Rattle.vega_rules.specs.Folds.{is_source}
-use Rattle.vega_needs.specs.declared.nodes.Thing.{Thing}
-use Rattle.vega_needs.specs.declared.nodes.Thing.TheVariants as thing
-use Rattle.vega_needs.specs.Nodes.{number_of, key, key_of, is_key, is_signal, node_at}
-use Rattle.vega_needs.specs.Edges.{needs_by}
-use Rattle.vega_needs.specs.Graph.{graph, all_needs, ends_from, end_from}
-use Rattle.vega_needs.specs.Cycles.{is_signal_part, signal_number, signals, fault_place, fault_of, first_cycle}
+use Rattle.vega_rules.specs.declared.nodes.Thing.{Thing}
+use Rattle.vega_rules.specs.declared.nodes.Thing.TheVariants as thing
+use Rattle.vega_rules.specs.Nodes.{number_of, key, key_of, is_key, is_signal, node_at}
+use Rattle.vega_rules.specs.Edges.{needs_by}
+use Rattle.vega_rules.specs.Graph.{graph, all_needs, ends_from, end_from}
+use Rattle.vega_rules.specs.Cycles.{is_signal_part, signal_number, signals, fault_place, fault_of, first_cycle}
 use Rattle.vega_standing.proofs.Trees.{Each}
 use Rattle.vega_standing.proofs.Known.{name_append}
 use Rattle.vega_standing.proofs.Among.{In, in_flat, in_filter, position_there, position_none, position_is}
@@ -63,7 +64,8 @@ pub node_there : (parts : List Part) (t : Thing) (x : List ℕ) (p : Part) → I
 node_there parts t x p i e = position_there (λ p. is_key (key t x) (key_of p)) p 0 parts i (ap (is_key (key t x)) e ∙ itself (key t x))
 
 -- the part of that number is the thing
-pub node_is : (parts : List Part) (t : Thing) (x : List ℕ) (k : ℕ) → node_at parts t x ≡ Some k → (p : Part) × (slice_get parts k ≡ Some p) × (key_of p ≡ Some (key t x))
+pub node_is : (parts : List Part) (t : Thing) (x : List ℕ) (k : ℕ) → node_at parts t x ≡ Some k →
+    (p : Part) × (slice_get parts k ≡ Some p) × (key_of p ≡ Some (key t x))
 node_is parts t x k e =
     let (p, j, is, at, passes) = position_is (λ p. is_key (key t x) (key_of p)) 0 k parts e in
     (p, ap (slice_get parts) (is ∙ sym (from_none j)) ∙ at, keyed (key t x) (key_of p) passes)
@@ -93,7 +95,8 @@ same_shape : (a b : ℕ) (v w : Json) (o : Option (ℕ × Json)) → o ≡ Some 
 same_shape a b v w o e f = ap (λ o. option_map_or (λ (c : ℕ × Json). c.0) o 0) (sym e ∙ f)
 
 -- where a value stands, there is nothing that doesn't suit its shape
-pub no_node : (tree : Json) (t : Thing) (x : List ℕ) (shape : ℕ) (v : Json) → value_at TOP tree x ≡ Some (shape, v) → suits t shape ≡ false → node_at (parts_of tree) t x ≡ None
+pub no_node : (tree : Json) (t : Thing) (x : List ℕ) (shape : ℕ) (v : Json) →
+    value_at TOP tree x ≡ Some (shape, v) → suits t shape ≡ false → node_at (parts_of tree) t x ≡ None
 no_node tree t x shape v at unlike = position_none (λ p. is_key (key t x) (key_of p)) 0 (parts_of tree) (each (parts_of tree) (all_stood tree))
   where
     never : (k : List ℕ) (b : Bool) → bytes_eq (key t x) k ≡ b → Stood TOP tree [] k → b ≡ false
@@ -145,7 +148,8 @@ signal_node parts x k e =
     (ap (λ b. if b then Some k else None) (signal_key p x is))
 
 faulty : (parts : List Part) (n : ℕ) (p : Part) → slice_get parts n ≡ Some p → is_signal_part p ≡ true → is_some (fault_of parts n) ≡ true
-faulty parts n (part.Given name) at e = ap (λ o. is_some (option_map (λ (name : GivenName). fault_at Wrong (fault_place parts name)) (option_and_then given_by o))) at
+faulty parts n (part.Given name) at e =
+    ap (λ o. is_some (option_map (λ (name : GivenName). fault_at Wrong (fault_place parts name)) (option_and_then given_by o))) at
 faulty parts n (part.Used name) at e = absurd cc
 faulty parts n (part.Step x set) at e = absurd cc
 faulty parts n (part.Data x) at e = absurd cc
@@ -169,7 +173,8 @@ all_faulty parts n (p ∷ rest) at =
     by_test true e others = (faulty parts n p (ap (slice_get parts) (no_more n) ∙ at zero p refl) e, others)
     by_test false e others = others
 
-none_found : (parts : List Part) (t : ℕ → Bool) (xs : List ℕ) → Each (λ u. is_some (fault_of parts u) ≡ true) xs → option_and_then (fault_of parts) (find t xs) ≡ None → Each (λ u. t u ≡ false) xs
+none_found : (parts : List Part) (t : ℕ → Bool) (xs : List ℕ) → Each (λ u. is_some (fault_of parts u) ≡ true) xs →
+    option_and_then (fault_of parts) (find t xs) ≡ None → Each (λ u. t u ≡ false) xs
 none_found parts t [] each e = tt
 none_found parts t (x ∷ xs) each e = by_test (t x) refl e (none_found parts t xs each.1)
   where
@@ -177,14 +182,16 @@ none_found parts t (x ∷ xs) each e = by_test (t x) refl e (none_found parts t 
     there None a b = cc
     there (Some f) a b = cc
 
-    by_test : (b : Bool) → t x ≡ b → option_and_then (fault_of parts) (cond b (Some x) (find t xs)) ≡ None → (option_and_then (fault_of parts) (find t xs) ≡ None → Each (λ u. t u ≡ false) xs) →
+    by_test : (b : Bool) → t x ≡ b → option_and_then (fault_of parts) (cond b (Some x) (find t xs)) ≡ None →
+        (option_and_then (fault_of parts) (find t xs) ≡ None → Each (λ u. t u ≡ false) xs) →
         Each (λ u. t u ≡ false) (x ∷ xs)
     by_test true f g rest = absurd (there (fault_of parts x) each.0 g)
     by_test false f g rest = (f, rest g)
 
 -- where no signal is found that needs itself, none does
 pub free_signals : (parts : List Part) → first_cycle parts ≡ None → Each (λ v. needs_itself (graph parts) v ≡ false) (signals parts)
-free_signals parts e = none_found parts (needs_itself (graph parts)) (signals parts) (all_faulty parts 0 parts (λ k p at. ap (slice_get parts) (sym (from_none k)) ∙ at)) e
+free_signals parts e = none_found parts (needs_itself (graph parts)) (signals parts)
+    (all_faulty parts 0 parts (λ k p at. ap (slice_get parts) (sym (from_none k)) ∙ at)) e
 
 -- ---- the graph
 
@@ -213,12 +220,14 @@ row_at edges n zero (q ∷ parts) p e = ap (λ m. Some (ends_from edges m)) (no_
 row_at edges n (suc k) (q ∷ parts) p e = row_at edges (n + 1) k parts p e ∙ ap (λ m. Some (ends_from edges m)) (grown n k)
 
 -- the graph has each need that a part shows
-pub shows : (parts : List Part) (p : Part) (t : Thing) (x : List ℕ) (v w : ℕ) → In p parts → In (v, w) (needs_by (node_at parts) parts p) → node_at parts t x ≡ Some v → Needs (graph parts) v w
+pub shows : (parts : List Part) (p : Part) (t : Thing) (x : List ℕ) (v w : ℕ) → In p parts →
+    In (v, w) (needs_by (node_at parts) parts p) → node_at parts t x ≡ Some v → Needs (graph parts) v w
 shows parts p t x v w i j at =
     let (q, there, is) = node_is parts t x v at in
     let row : needs_of (graph parts) v ≡ ends_from (all_needs parts) v =
     ap (λ o. unwrap_or o []) (row_at (all_needs parts) 0 v parts q there) ∙ ap (ends_from (all_needs parts)) (sym (from_none v)) in
-    by_itself v w (ap (λ ws. has ws w) row ∙ any_there w (ends_from (all_needs parts) v) (end_there v w (all_needs parts) (in_flat (needs_by (node_at parts) parts) p (v, w) parts i j)))
+    by_itself v w (ap (λ ws. has ws w) row
+    ∙ any_there w (ends_from (all_needs parts) v) (end_there v w (all_needs parts) (in_flat (needs_by (node_at parts) parts) p (v, w) parts i j)))
 
 -- ---- names
 
@@ -242,19 +251,23 @@ all_three true false c x y z = y
 all_three false b c x y z = x
 
 gives_itself : (g : GivenName) → is_given g.kind g.scope g.name g ≡ true
-gives_itself g = all_three (kind_number g.kind == kind_number g.kind) (same_place g.scope g.scope) (bytes_eq g.name g.name) (same (kind_number g.kind)) (itself g.scope) (itself g.name)
+gives_itself g = all_three (kind_number g.kind == kind_number g.kind) (same_place g.scope g.scope)
+    (bytes_eq g.name g.name) (same (kind_number g.kind)) (itself g.scope) (itself g.name)
   where
     same : (v : ℕ) → (v == v) ≡ true
     same v = grind (arith, nat_tests)
 
 only_from : (before rest : List Part) (n : ℕ) (g : GivenName) → length before ≡ n → is_single g.kind ≡ true → In (part.Given g) rest →
-    flat_map (λ (row : ℕ × Part). repeated (take row.0 (before ++ rest)) row.1) (enumerate_from n rest) ≡ [] → first_given (before ++ rest) g.kind g.scope g.name ≡ Some g
+    flat_map (λ (row : ℕ × Part). repeated (take row.0 (before ++ rest)) row.1) (enumerate_from n rest) ≡ [] →
+    first_given (before ++ rest) g.kind g.scope g.name ≡ Some g
 only_from before [] n g len single i e = absurd i
 only_from before (p ∷ rest) n g len single (inl same) e =
     let here : repeated (take n (before ++ p ∷ rest)) p ≡ [] = (none_of (repeated (take n (before ++ p ∷ rest)) p) _ e).0 in
     let front : take n (before ++ p ∷ rest) ≡ before = ap (λ k. take k (before ++ p ∷ rest)) (sym len) ∙ take-append_seam before (p ∷ rest) in
-    let none : fault_if (is_repeated before g) Wrong g.at ≡ [] = ap (λ ps. repeated ps (part.Given g)) (sym front) ∙ ap (repeated (take n (before ++ p ∷ rest))) same ∙ here in
-    let not_before : first_given before g.kind g.scope g.name ≡ None = not_there (is_single g.kind) (first_given before g.kind g.scope g.name) single (none_if (is_repeated before g) g.at none) in
+    let none : fault_if (is_repeated before g) Wrong g.at ≡ [] =
+    ap (λ ps. repeated ps (part.Given g)) (sym front) ∙ ap (repeated (take n (before ++ p ∷ rest))) same ∙ here in
+    let not_before : first_given before g.kind g.scope g.name ≡ None =
+    not_there (is_single g.kind) (first_given before g.kind g.scope g.name) single (none_if (is_repeated before g) g.at none) in
     name_append g.kind g.scope g.name before (p ∷ rest)
     ∙ ap (λ o. option_or o (first_given (p ∷ rest) g.kind g.scope g.name)) not_before
     ∙ ap (λ q. first_given (q ∷ rest) g.kind g.scope g.name) (sym same)
@@ -267,5 +280,6 @@ only_from before (p ∷ rest) n g len single (inr i) e =
     (ap (λ ps. flat_map (λ (row : ℕ × Part). repeated (take row.0 ps) row.1) (enumerate_from (n + 1) rest)) (sym again) ∙ later)
 
 -- a name that may be given once only is what its name leads to
-pub the_only : (parts : List Part) (g : GivenName) → twice parts ≡ [] → is_single g.kind ≡ true → In (part.Given g) parts → first_given parts g.kind g.scope g.name ≡ Some g
+pub the_only : (parts : List Part) (g : GivenName) → twice parts ≡ [] → is_single g.kind ≡ true →
+    In (part.Given g) parts → first_given parts g.kind g.scope g.name ≡ Some g
 the_only parts g none single i = only_from [] parts 0 g refl single i none

@@ -58,7 +58,8 @@ pub facetless_none : (x name : List ℕ) (parts : List Part) → Each (Facetless
 facetless_none x name [] each = refl
 facetless_none x name (p ∷ parts) each = by_given (given_by p) each.0 (facetless_none x name parts each.1)
   where
-    by_given : (o : Option GivenName) → IfSome o (λ (g : GivenName). (name : List ℕ) → is_given given_as.Facet x name g ≡ false) → first_given parts given_as.Facet x name ≡ None →
+    by_given : (o : Option GivenName) → IfSome o (λ (g : GivenName). (name : List ℕ) → is_given given_as.Facet x name g ≡ false) →
+        first_given parts given_as.Facet x name ≡ None →
         find (is_given given_as.Facet x name) (cons_option o (given_names parts)) ≡ None
     by_given None e rest = rest
     by_given (Some g) e rest = ap (λ b. cond b (Some g) (first_given parts given_as.Facet x name)) (e name) ∙ rest
@@ -67,7 +68,8 @@ facetless_none x name (p ∷ parts) each = by_given (given_by p) each.0 (facetle
 
 -- a member of neither name is dull
 abbrev pub DullButTwo : Layout → Member → Type 0
-DullButTwo l m = bytes_eq m.name (codes "data") ≡ false → bytes_eq m.name (codes "marks") ≡ false → (inner : ℕ) → shape_in l m.name ≡ Some inner → is_dull inner ≡ true
+DullButTwo l m = bytes_eq m.name (codes "data") ≡ false → bytes_eq m.name (codes "marks") ≡ false →
+    (inner : ℕ) → shape_in l m.name ≡ Some inner → is_dull inner ≡ true
 
 but_marks : (l : Layout) (ms : List Member) → has_name ms (codes "data") ≡ false → Each (DullButTwo l) ms → Each (DullBut l (codes "marks")) ms
 but_marks l [] e each = tt
@@ -96,7 +98,8 @@ pub record TwoLoud (trail : Trail) (l : Layout) (n : ℕ) (ms : List Member) : T
   pub marks_stand : IfSome marks (λ (m : ℕ × Json). Stands trail m.0 MARKS m.1)
   pub order : IfSome sets (λ (s : ℕ × Json). IfSome marks (λ (m : ℕ × Json). (sets_first ≡ true → s.0 < m.0) × (sets_first ≡ false → m.0 < s.0)))
 
-first_set : (n : ℕ) (o : Option (ℕ × Json)) → IfSome o (λ (m : ℕ × Json). (k : ℕ) × (m.0 ≡ n + 1 + k)) → IfSome o (λ (m : ℕ × Json). (true ≡ true → n < m.0) × (true ≡ false → m.0 < n))
+first_set : (n : ℕ) (o : Option (ℕ × Json)) → IfSome o (λ (m : ℕ × Json). (k : ℕ) × (m.0 ≡ n + 1 + k)) →
+    IfSome o (λ (m : ℕ × Json). (true ≡ true → n < m.0) × (true ≡ false → m.0 < n))
 first_set n None e = tt
 first_set n (Some m) e = ((λ same. less n m.0 e.0 e.1), (λ never. absurd cc))
   where
@@ -115,14 +118,16 @@ valued : (m : Member) (ms : List Member) (name : List ℕ) (b : Bool) → bytes_
     member_value (m ∷ ms) name ≡ option_map (λ (m : Member). m.value) (cond b (Some m) (find (λ (m : Member). bytes_eq m.name name) ms))
 valued m ms name b e = ap (λ b. option_map (λ (m : Member). m.value) (cond b (Some m) (find (λ (m : Member). bytes_eq m.name name) ms))) e
 
-one_first : (trail : Trail) (l : Layout) (name : List ℕ) (shape : ℕ) (n : ℕ) (m : Member) (ms : List Member) → shape_in l name ≡ Some shape → StandsMember trail l n m → m.name ≡ name →
+one_first : (trail : Trail) (l : Layout) (name : List ℕ) (shape : ℕ) (n : ℕ) (m : Member) (ms : List Member) →
+    shape_in l name ≡ Some shape → StandsMember trail l n m → m.name ≡ name →
     (Stands trail n shape m.value) × (member_parts l trail (n, (m.name, seen_in vega_schema noted parts_at m.value)) ≡ parts_in trail n shape m.value)
 one_first trail l name shape n m ms ruled s named =
     let rule : shape_in l m.name ≡ Some shape = ap (shape_in l) named ∙ ruled in
     let shaped : s.0 ≡ shape = let a = s.1 in cc in
     (subst (λ c. Stands trail n c m.value) shaped s.2, ap (λ o. option_map_or (λ shape. parts_in trail n shape m.value) o []) rule)
 
-pub two_loud : (trail : Trail) (l : Layout) (n : ℕ) (ms : List Member) → shape_in l (codes "data") ≡ Some DATA_LIST → shape_in l (codes "marks") ≡ Some MARKS → AreOwn ms →
+pub two_loud : (trail : Trail) (l : Layout) (n : ℕ) (ms : List Member) →
+    shape_in l (codes "data") ≡ Some DATA_LIST → shape_in l (codes "marks") ≡ Some MARKS → AreOwn ms →
     EachFrom (StandsMember trail l) n ms → Each (DullButTwo l) ms → TwoLoud trail l n ms
 two_loud trail l n [] sets marks own each dull = record {
   front = [];

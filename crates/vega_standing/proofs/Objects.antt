@@ -89,7 +89,8 @@ axis_kept round number tree s =
     let same : members_of tree ≡ ms.0 = ap (λ o. unwrap_or (members_in o) []) ms.1 in
     let P : List Member → Type 0 = λ m. IsAxis (axis_of m) in
     let o : StandsObject (noted number AXIS tree ∷ round) axis ms.0 = subst (λ x. StandsObject (noted number AXIS tree ∷ round) x ms.0) is l.stands in
-    subst P (sym same) (reads_kept IsCount number_in (noted number AXIS tree ∷ round) axis ms.0 (codes "tickCount") TICK_COUNT o tick_rule (λ i v t. ticks (noted number AXIS tree ∷ round) i v t))
+    subst P (sym same) (reads_kept IsCount number_in (noted number AXIS tree ∷ round) axis ms.0 (codes "tickCount")
+    TICK_COUNT o tick_rule (λ i v t. ticks (noted number AXIS tree ∷ round) i v t))
 
 -- ---- the grid
 
@@ -122,7 +123,8 @@ grid_kept round number tree s (level.Object ms) e =
     let l : Laid round number LAYOUT LAYOUT tree ms = laid_out round number LAYOUT LAYOUT tree ms s e (grid_object ms) in
     let is : l.layout ≡ grid_layout = let a = l.applies in let b = grid_is ms in cc in
     let o : StandsObject (noted number LAYOUT tree ∷ round) grid_layout ms = subst (λ x. StandsObject (noted number LAYOUT tree ∷ round) x ms) is l.stands in
-    reads_kept IsCount number_in (noted number LAYOUT tree ∷ round) grid_layout ms (codes "columns") COUNT o columns_rule (λ i v t. count (noted number LAYOUT tree ∷ round) i v t)
+    reads_kept IsCount number_in (noted number LAYOUT tree ∷ round) grid_layout ms (codes "columns") COUNT o
+    columns_rule (λ i v t. count (noted number LAYOUT tree ∷ round) i v t)
 
 columns_of : (o : Option (List Member)) → IfSome o (λ ms. IfSome (number_at ms (codes "columns")) IsCount) →
     IfSome (option_map layout_of o >>= λ (l : Grid). l.columns) IsCount
@@ -165,7 +167,8 @@ size_there (Some s) e = e
 
 pub size_kept : (trail : Trail) (l : Layout) (ms : List Member) (name : List ℕ) → StandsObject trail l ms → shape_in l name ≡ Some SIZE →
     IsSizeKept (size_at ms name)
-size_kept trail l ms name o ruled = size_there _ (reads_kept (λ s. IsSizeKept (Some s)) size_in trail l ms name SIZE o ruled (λ i v t. size_by trail i v t (out-Json v) refl))
+size_kept trail l ms name o ruled =
+    size_there _ (reads_kept (λ s. IsSizeKept (Some s)) size_in trail l ms name SIZE o ruled (λ i v t. size_by trail i v t (out-Json v) refl))
 
 -- ---- objects
 
@@ -218,13 +221,15 @@ pub object_keeps : (trail : Trail) (l : Layout) (ms : List Member) (g : Group-F 
 object_keeps trail l ms g o rules built =
     record {
       sets = subst (λ (s : Option (List DataSet)). All (OfTransforms is_kept) (unwrap_or s [])) (sym built.sets)
-          (list_kept (OfTransforms is_kept) (λ t. data_set_of (members_of t)) trail l ms (codes "data") DATA_LIST DATA o rules.sets sets_listed (λ r i v t. data_kept r i v t));
+          (list_kept (OfTransforms is_kept) (λ t. data_set_of (members_of t)) trail l ms (codes "data")
+          DATA_LIST DATA o rules.sets sets_listed (λ r i v t. data_kept r i v t));
       scales = scales_keep (λ s. IsTrue (scaling.is_built s)) (λ s k. k.built) trail l ms g o rules built;
       domains = scales_keep (λ (s : VegaScale). IsTrue (is_domain_built s.domain)) (λ s k. k.domain) trail l ms g o rules built;
       bounds = scales_keep KeepsBounds (λ s k. k.bounds) trail l ms g o rules built;
       axes = subst (λ (a : Option (List Axis)). All IsAxis (unwrap_or a [])) (sym built.axes)
           (list_kept IsAxis (λ t. axis_of (members_of t)) trail l ms (codes "axes") AXES AXIS o rules.axes axes_listed (λ r i v t. axis_kept r i v t));
       columns = subst (λ (g : Option Grid). IfSome (g >>= λ (l : Grid). l.columns) IsCount) (sym built.grid)
-          (columns_of (found_at members_in ms (codes "layout")) (reads_kept (λ ms. IfSome (number_at ms (codes "columns")) IsCount) members_in trail l ms (codes "layout") LAYOUT o rules.grid
+          (columns_of (found_at members_in ms (codes "layout"))
+          (reads_kept (λ ms. IfSome (number_at ms (codes "columns")) IsCount) members_in trail l ms (codes "layout") LAYOUT o rules.grid
           (λ i v t. grid_kept trail i v t (out-Json v) refl)));
     }

@@ -40,7 +40,8 @@ passed t x (y ∷ xs) (inr i) e = by_test (t y) (passed t x xs i e)
     by_test true j = inr j
     by_test false j = j
 
-module _ (tree : Json) (ordered : Ordered tree) (round : Trail) (number shape : ℕ) (v : Json) (s : Seat tree round number shape v) (object : (noted number shape v).object ≡ true)
+module _ (tree : Json) (ordered : Ordered tree) (round : Trail) (number shape : ℕ) (v : Json)
+    (s : Seat tree round number shape v) (object : (noted number shape v).object ≡ true)
     (l : Layout) (ms : List Member) (each : EachFrom (SeatedMember tree round number shape v s l) 0 ms)
     (signals_ruled : shape_in l (codes "signals") ≡ Some SIGNALS) (data_ruled : shape_in l (codes "data") ≡ Some DATA_LIST) where
   abbrev signals_in : Option Json → List Signal
@@ -76,7 +77,8 @@ module _ (tree : Json) (ordered : Ordered tree) (round : Trail) (number shape : 
       let seat = seat_from tree round number shape v s l 0 ms (codes "signals") SIGNALS w each signals_ruled e in
       let are : (items : List Json) → out-Json w ≡ level.List items → signals ≡ map (λ t. signal_of (members_of t)) items =
       λ items is. ap signals_in e ∙ ap (λ o. unwrap_or (option_map (map (λ t. signal_of (members_of t))) (items_in o)) []) is in
-      let kept = signals_kept tree ordered (noted number shape v) round object names seat.0 w seat.1 (λ items is x i c. own_signal x (subst (In x) (sym (are items is)) i) c) in
+      let kept = signals_kept tree ordered (noted number shape v) round object names seat.0 w seat.1
+      (λ items is x i c. own_signal x (subst (In x) (sym (are items is)) i) c) in
       subst (λ xs. Each OneKept (flat_map computed_needs xs)) (sym (are kept.0 kept.1)) kept.2
 
   by_sets : (o : Option Json) → member_value ms (codes "data") ≡ o → Each OneKept (set_needs no_reads sets)
@@ -85,7 +87,8 @@ module _ (tree : Json) (ordered : Ordered tree) (round : Trail) (number shape : 
       let seat = seat_from tree round number shape v s l 0 ms (codes "data") DATA_LIST w each data_ruled e in
       let are : (items : List Json) → out-Json w ≡ level.List items → sets ≡ map (λ t. data_set_of (members_of t)) items =
       λ items is. ap sets_in e ∙ ap (λ o. unwrap_or (option_map (map (λ t. data_set_of (members_of t))) (items_in o)) []) is in
-      let kept = sets_kept tree ordered (noted number shape v) round object names seat.0 w seat.1 (λ items is set t x i j a. own_extent set t x (subst (In set) (sym (are items is)) i) j a) in
+      let kept = sets_kept tree ordered (noted number shape v) round object names seat.0 w seat.1
+      (λ items is set t x i j a. own_extent set t x (subst (In set) (sym (are items is)) i) j a) in
       subst (λ xs. Each OneKept (set_needs no_reads xs)) (sym (are kept.0 kept.1)) kept.2
 
   -- an object whose members stand in a tree has an order of its signals

@@ -27,10 +27,10 @@ use Rattle.vega_parts.specs.Parts.{parts_of}
 use Rattle.vega_rules.specs.Places.{ends_before, parent}
 use Rattle.vega_rules.specs.Names.{first_given}
 use Rattle.vega_rules.specs.Resolved.{resolved_use, served, behind_own}
-use Rattle.vega_needs.specs.declared.nodes.Thing.{Thing}
-use Rattle.vega_needs.specs.declared.nodes.Thing.TheVariants as thing
-use Rattle.vega_needs.specs.Nodes.{node_at}
-use Rattle.vega_needs.specs.Edges.{need, reader, meant, before, last_number}
+use Rattle.vega_rules.specs.declared.nodes.Thing.{Thing}
+use Rattle.vega_rules.specs.declared.nodes.Thing.TheVariants as thing
+use Rattle.vega_rules.specs.Nodes.{node_at}
+use Rattle.vega_rules.specs.Edges.{need, reader, meant, before, last_number}
 use Rattle.vega_spec.specs.declared.data.DataSet.{DataSet}
 use Rattle.vega_spec.specs.declared.transforms.Transform.{Transform}
 use Rattle.vega_spec.specs.declared.transforms.Extent.{Extent}
@@ -94,7 +94,7 @@ module _ (tree : Json) (ordered : Ordered tree) (here : Around) (round : Trail) 
   N = node_at all
 
   abbrev G : List (List ℕ)
-  G = Rattle.vega_needs.specs.Graph.graph all
+  G = Rattle.vega_rules.specs.Graph.graph all
 
   abbrev node_of : List ℕ → Option ℕ
   node_of = node tree ordered S names
@@ -128,7 +128,8 @@ module _ (tree : Json) (ordered : Ordered tree) (here : Around) (round : Trail) 
   ReadsFit n reads = (name : List ℕ) → (reads name ≡ []) ⊎ OwnSet n name (reads name)
 
   -- a use of one in a later data set means it
-  means_set : (u : UsedName) (n : ℕ) (x rest : List ℕ) → u.scope ≡ S → u.at ≡ (list ++ n ∷ []) ++ rest → (u.kind ≡ for_.Source) ⊎ (u.kind ≡ for_.From) → (rs : List (List ℕ)) → (o : OwnSet n u.name rs) →
+  means_set : (u : UsedName) (n : ℕ) (x rest : List ℕ) → u.scope ≡ S → u.at ≡ (list ++ n ∷ []) ++ rest →
+      (u.kind ≡ for_.Source) ⊎ (u.kind ≡ for_.From) → (rs : List (List ℕ)) → (o : OwnSet n u.name rs) →
       meant N all thing.Set u ≡ Some o.set
   means_set u n x rest sc at kind rs o = by_kind kind
     where
@@ -137,7 +138,8 @@ module _ (tree : Json) (ordered : Ordered tree) (here : Around) (round : Trail) 
 
       as_source : resolved_use all (record { kind = for_.Source; scope = u.scope; at = u.at; name = u.name }) ≡ Some o.gives
       as_source =
-          ap (λ f. option_or (option_and_then (served for_.Source u.at) f) (option_and_then (served for_.Source u.at) (behind_own all for_.Source u.name u.scope)))
+          ap (λ f. option_or (option_and_then (served for_.Source u.at) f)
+          (option_and_then (served for_.Source u.at) (behind_own all for_.Source u.name u.scope)))
           (ap (λ s. first_given all given_as.Data s u.name) sc ∙ o.first)
           ∙ ap (λ b. option_or (if b then Some o.gives else None) (option_and_then (served for_.Source u.at) (behind_own all for_.Source u.name u.scope))) ends
 
@@ -148,9 +150,11 @@ module _ (tree : Json) (ordered : Ordered tree) (here : Around) (round : Trail) 
           ∙ ap (λ b. option_or (if b then Some o.gives else None) (option_and_then (served for_.From u.at) (behind_own all for_.From u.name u.scope))) ends
 
       by_kind : (u.kind ≡ for_.Source) ⊎ (u.kind ≡ for_.From) → meant N all thing.Set u ≡ Some o.set
-      by_kind (inl k) = ap (λ k. option_and_then (λ (name : GivenName). N thing.Set name.of) (resolved_use all (record { kind = k; scope = u.scope; at = u.at; name = u.name }))) k
+      by_kind (inl k) = ap (λ k. option_and_then (λ (name : GivenName). N thing.Set name.of)
+          (resolved_use all (record { kind = k; scope = u.scope; at = u.at; name = u.name }))) k
           ∙ ap (option_and_then (λ (name : GivenName). N thing.Set name.of)) as_source ∙ o.is_set
-      by_kind (inr k) = ap (λ k. option_and_then (λ (name : GivenName). N thing.Set name.of) (resolved_use all (record { kind = k; scope = u.scope; at = u.at; name = u.name }))) k
+      by_kind (inr k) = ap (λ k. option_and_then (λ (name : GivenName). N thing.Set name.of)
+          (resolved_use all (record { kind = k; scope = u.scope; at = u.at; name = u.name }))) k
           ∙ ap (option_and_then (λ (name : GivenName). N thing.Set name.of)) as_from ∙ o.is_set
 
   -- ---- one data set
@@ -228,7 +232,8 @@ module _ (tree : Json) (ordered : Ordered tree) (here : Around) (round : Trail) 
 
           D_q : Needs G D q.0
           D_q = shows all (part.Used u) thing.Set X D q.0 used_there
-              (in_back (D, q.0) (need (N thing.Source (parent u.at)) (meant N all thing.Set u)) (need (N thing.Set (parent u.at)) (N thing.Source (parent u.at)))
+              (in_back (D, q.0) (need (N thing.Source (parent u.at)) (meant N all thing.Set u))
+              (need (N thing.Set (parent u.at)) (N thing.Source (parent u.at)))
               (subst (In (D, q.0)) (sym (ap (λ p. need (N thing.Set p) (N thing.Source p)) up ∙ (λ i. need (the_set.1 i) (q.1 i)))) (inl refl))) the_set.1
 
           by_fit : (reads src ≡ []) ⊎ OwnSet n src (reads src) → Each (Held (N thing.Source X)) (reads src)
@@ -237,8 +242,10 @@ module _ (tree : Json) (ordered : Ordered tree) (here : Around) (round : Trail) 
               let means : meant N all thing.Set u ≡ Some o.set = means_set u n X (c.0 ∷ []) refl (ap (λ p. p ++ c.0 ∷ []) x_is) (inl refl) (reads src) o in
               let q_set : Needs G q.0 o.set =
               shows all (part.Used u) thing.Source X q.0 o.set used_there
-              (in_front (q.0, o.set) (need (N thing.Source (parent u.at)) (meant N all thing.Set u)) (need (N thing.Set (parent u.at)) (N thing.Source (parent u.at)))
-              (subst (In (q.0, o.set)) (sym (ap (λ p. need (N thing.Source p) (meant N all thing.Set u)) up ∙ (λ i. need (q.1 i) (means i)))) (inl refl))) q.1 in
+              (in_front (q.0, o.set) (need (N thing.Source (parent u.at)) (meant N all thing.Set u))
+              (need (N thing.Set (parent u.at)) (N thing.Source (parent u.at)))
+              (subst (In (q.0, o.set))
+              (sym (ap (λ p. need (N thing.Source p) (meant N all thing.Set u)) up ∙ (λ i. need (q.1 i) (means i)))) (inl refl))) q.1 in
               each_of (Reach o.set) (Held (N thing.Source X)) (λ r e. held_by (N thing.Source X) q.0 r q.1 D_q (further q.0 o.set r q_set e)) (reads src) o.each
             where
               further : (a b : ℕ) (r : List ℕ) → Needs G a b → Reach b r → Reach a r
@@ -264,11 +271,13 @@ module _ (tree : Json) (ordered : Ordered tree) (here : Around) (round : Trail) 
         Before j = before N (L ++ j ∷ [])
 
         first_before : Before 0 ≡ N thing.Source X
-        first_before = ap (λ b. if b then N thing.Source (parent (parent (L ++ 0 ∷ []))) else N thing.Step (parent (L ++ 0 ∷ []) ++ (last_number (L ++ 0 ∷ []) - 1) ∷ [])) (ap (λ k. k == 0) (last_is L 0))
+        first_before = ap (λ b. if b then N thing.Source (parent (parent (L ++ 0 ∷ [])))
+            else N thing.Step (parent (L ++ 0 ∷ []) ++ (last_number (L ++ 0 ∷ []) - 1) ∷ [])) (ap (λ k. k == 0) (last_is L 0))
             ∙ ap (λ p. N thing.Source (parent p)) (parent_child L 0) ∙ ap (λ p. N thing.Source (parent p)) l_is ∙ ap (N thing.Source) (parent_child X kt)
 
         next_before : (j : ℕ) → Before (j + 1) ≡ N thing.Step (L ++ j ∷ [])
-        next_before j = ap (λ b. if b then N thing.Source (parent (parent (L ++ (j + 1) ∷ []))) else N thing.Step (parent (L ++ (j + 1) ∷ []) ++ (last_number (L ++ (j + 1) ∷ []) - 1) ∷ [])) (ap (λ k. k == 0) (last_is L (j + 1)) ∙ not_none j)
+        next_before j = ap (λ b. if b then N thing.Source (parent (parent (L ++ (j + 1) ∷ []))) else N thing.Step
+            (parent (L ++ (j + 1) ∷ []) ++ (last_number (L ++ (j + 1) ∷ []) - 1) ∷ [])) (ap (λ k. k == 0) (last_is L (j + 1)) ∙ not_none j)
             ∙ (λ i. N thing.Step (parent_child L (j + 1) i ++ (last_is L (j + 1) i - 1) ∷ [])) ∙ ap (λ k. N thing.Step (L ++ k ∷ [])) (one_less j)
 
         module _ (j : ℕ) (t : Json) (ts : Seat tree TT j TRANSFORM t) where
@@ -296,11 +305,13 @@ module _ (tree : Json) (ordered : Ordered tree) (here : Around) (round : Trail) 
 
           D_P : Needs G D P
           D_P = shows all (part.Step T X) thing.Set X D P step_part
-              (in_front (D, P) (need (N thing.Set X) (N thing.Step T)) (need (N thing.Step T) (before N T)) (subst (In (D, P)) (sym (λ i. need (the_set.1 i) (the_step.1 i))) (inl refl))) the_set.1
+              (in_front (D, P) (need (N thing.Set X) (N thing.Step T)) (need (N thing.Step T) (before N T))
+              (subst (In (D, P)) (sym (λ i. need (the_set.1 i) (the_step.1 i))) (inl refl))) the_set.1
 
           P_before : (b : ℕ) → before N T ≡ Some b → Needs G P b
           P_before b is = shows all (part.Step T X) thing.Step T P b step_part
-              (in_back (P, b) (need (N thing.Set X) (N thing.Step T)) (need (N thing.Step T) (before N T)) (subst (In (P, b)) (sym (λ i. need (the_step.1 i) (is i))) (inl refl))) the_step.1
+              (in_back (P, b) (need (N thing.Set X) (N thing.Step T)) (need (N thing.Step T) (before N T))
+              (subst (In (P, b)) (sym (λ i. need (the_step.1 i) (is i))) (inl refl))) the_step.1
 
           from_read : (name : List ℕ) (c : ℕ) → In (used for_.From S (T ++ c ∷ []) name) all → reader N (T ++ c ∷ []) ≡ Some P → Each (Reach P) (reads name)
           from_read name c there read = by_fit (fit name)
@@ -333,7 +344,8 @@ module _ (tree : Json) (ordered : Ordered tree) (here : Around) (round : Trail) 
           kept_behind : (r : List ℕ) → Held (Before j) r → Held (Before (j + 1)) r
           kept_behind r e = by_node (node_of r) e
             where
-              by_node : (q : Option ℕ) → IfSome q (λ w. (b : ℕ) × (Before j ≡ Some b) × Needs G b w × Needs G D b) → IfSome q (λ w. (b : ℕ) × (Before (j + 1) ≡ Some b) × Needs G b w × Needs G D b)
+              by_node : (q : Option ℕ) → IfSome q (λ w. (b : ℕ) × (Before j ≡ Some b) × Needs G b w × Needs G D b) →
+                  IfSome q (λ w. (b : ℕ) × (Before (j + 1) ≡ Some b) × Needs G b w × Needs G D b)
               by_node None e = tt
               by_node (Some w) (b, is, step, from) =
                   (P, next_before j ∙ ap (N thing.Step) (sym t_is) ∙ the_step.1, joined G (P_before b (ap (before N) t_is ∙ is)) step, D_P)
@@ -342,7 +354,8 @@ module _ (tree : Json) (ordered : Ordered tree) (here : Around) (round : Trail) 
           read_behind r e = held_by (Before (j + 1)) P r (next_before j ∙ ap (N thing.Step) (sym t_is) ∙ the_step.1) D_P e
 
           -- the signal of an extent needs what is read before it
-          extent_kept : (ns : List (List ℕ)) → Each (Held (Before j)) ns → (o : Option Extent) → extent_asked (transform_of (members_of t)) ≡ o → ((e : Extent) → o ≡ Some e → In e.signal names) →
+          extent_kept : (ns : List (List ℕ)) → Each (Held (Before j)) ns → (o : Option Extent) →
+              extent_asked (transform_of (members_of t)) ≡ o → ((e : Extent) → o ≡ Some e → In e.signal names) →
               Each OneKept (option_map_or (λ e. (e.signal, ns) ∷ []) o [])
           extent_kept ns held None is own = tt
           extent_kept ns held (Some e) is own =
@@ -350,14 +363,23 @@ module _ (tree : Json) (ordered : Ordered tree) (here : Around) (round : Trail) 
               let v = gives_node tree ordered S names T (child (noted j TRANSFORM t ∷ TT) there.0) e.signal there.1 (own e refl) in
               ((v.0, v.1, all_of_each (Reach v.0) ns (each_of (Held (Before j)) (Reach v.0) (one v.0 v.2 there.0 there.1) ns held)), tt)
             where
-              one : (v : ℕ) → N thing.Signal T ≡ Some v → (c : ℕ) → In (given given_as.Signal S T (child (noted j TRANSFORM t ∷ TT) c) e.signal) all → (r : List ℕ) → Held (Before j) r → Reach v r
+              one : (v : ℕ) → N thing.Signal T ≡ Some v → (c : ℕ) →
+                  In (given given_as.Signal S T (child (noted j TRANSFORM t ∷ TT) c) e.signal) all → (r : List ℕ) → Held (Before j) r → Reach v r
               one v is_v c there r h = by_node (node_of r) h
                 where
                   edge : (b : ℕ) → Before j ≡ Some b → Needs G v b
                   edge b is_b =
-                      let q : GivenName = record { kind = given_as.Signal; scope = S; of = T; at = child (noted j TRANSFORM t ∷ TT) c; name = e.signal; scale = None } in
+                      let q : GivenName = record {
+                        kind = given_as.Signal;
+                        scope = S;
+                        of = T;
+                        at = child (noted j TRANSFORM t ∷ TT) c;
+                        name = e.signal;
+                        scale = None;
+                      } in
                       shows all (part.Given q) thing.Signal T v b there
-                      (subst (In (v, b)) (sym (ap (λ o. if is_some o then need (N thing.Signal T) (before N T) else []) the_step.1 ∙ (λ i. need (is_v i) ((ap (before N) t_is ∙ is_b) i)))) (inl refl)) is_v
+                      (subst (In (v, b)) (sym (ap (λ o. if is_some o then need (N thing.Signal T) (before N T) else []) the_step.1
+                      ∙ (λ i. need (is_v i) ((ap (before N) t_is ∙ is_b) i)))) (inl refl)) is_v
 
                   by_node : (q : Option ℕ) → IfSome q (λ w. (b : ℕ) × (Before j ≡ Some b) × Needs G b w × Needs G D b) → IfSome q (Needs G v)
                   by_node None e = tt
@@ -366,7 +388,8 @@ module _ (tree : Json) (ordered : Ordered tree) (here : Around) (round : Trail) 
         -- all of them
         steps_kept : (j : ℕ) (items : List Json) → EachFrom (λ i t. Seat tree TT i TRANSFORM t) j items → (ns : List (List ℕ)) → Each (Held (Before j)) ns →
             ((t : Transform) (e : Extent) → In t (map (λ t. transform_of (members_of t)) items) → extent_asked t ≡ Some e → In e.signal names) →
-            Each OneKept (extent_needs reads (map (λ t. transform_of (members_of t)) items) ns) × ((m : ℕ) × Each (Held (Before m)) (all_reads reads (map (λ t. transform_of (members_of t)) items) ns))
+            Each OneKept (extent_needs reads (map (λ t. transform_of (members_of t)) items) ns)
+            × ((m : ℕ) × Each (Held (Before m)) (all_reads reads (map (λ t. transform_of (members_of t)) items) ns))
         steps_kept j [] each ns held own = (tt, (j, held))
         steps_kept j (t ∷ items) each ns held own =
             let read = transform_reads reads (transform_of (members_of t)) in
@@ -374,8 +397,10 @@ module _ (tree : Json) (ordered : Ordered tree) (here : Around) (round : Trail) 
             (each_append (Held (Before (j + 1))) ns read (each_of (Held (Before j)) (Held (Before (j + 1))) (kept_behind j t each.0) ns held)
             (each_of (Reach (P j t each.0)) (Held (Before (j + 1))) (read_behind j t each.0) read (fine j t each.0).reached))
             (λ u e i a. own u e (inr i) a) in (
-              each_append OneKept (option_map_or (λ e. (e.signal, ns) ∷ []) (extent_asked (transform_of (members_of t))) []) (extent_needs reads (map (λ t. transform_of (members_of t)) items) (ns ++ read))
-                  (extent_kept j t each.0 ns held (extent_asked (transform_of (members_of t))) refl (λ e a. own (transform_of (members_of t)) e (inl refl) a)) rest.0,
+              each_append OneKept (option_map_or (λ e. (e.signal, ns) ∷ []) (extent_asked (transform_of (members_of t))) [])
+                  (extent_needs reads (map (λ t. transform_of (members_of t)) items) (ns ++ read))
+                  (extent_kept j t each.0 ns held (extent_asked (transform_of (members_of t)))
+                  refl (λ e a. own (transform_of (members_of t)) e (inl refl) a)) rest.0,
               rest.1,
             )
 
@@ -405,7 +430,8 @@ module _ (tree : Json) (ordered : Ordered tree) (here : Around) (round : Trail) 
           let same : members_of d ≡ ms.0 = ap (λ o. unwrap_or (members_in o) []) ms.1 in
           by_member ms.0 same (subst (λ l. EachFrom (SeatedMember tree LT n DATA d seat l) 0 ms.0) laid o.each) (member_value ms.0 (codes "transform")) refl
         where
-          by_member : (ms : List Member) → members_of d ≡ ms → EachFrom (SeatedMember tree LT n DATA d seat data_set) 0 ms → (o : Option Json) → member_value ms (codes "transform") ≡ o → StepsAt
+          by_member : (ms : List Member) → members_of d ≡ ms → EachFrom (SeatedMember tree LT n DATA d seat data_set) 0 ms →
+              (o : Option Json) → member_value ms (codes "transform") ≡ o → StepsAt
           by_member ms same each None e = record {
             kt = 0;
             tl = d;
@@ -435,20 +461,34 @@ module _ (tree : Json) (ordered : Ordered tree) (here : Around) (round : Trail) 
       set_fine : ((t : Transform) (e : Extent) → In t (transforms_of set_of) → extent_asked t ≡ Some e → In e.signal names) → SetFine
       set_fine own =
           let s : StepsAt = steps_at in
-          let start : Each (Held (Before s.kt s.tl 0)) (begun_reads reads set_of) = subst (λ o. Each (Held o) (begun_reads reads set_of)) (sym (first_before s.kt s.tl)) (begun set_of.source refl) in
-          let done = steps_kept s.kt s.tl 0 s.items s.each (begun_reads reads set_of) start (subst (λ ts. (t : Transform) (e : Extent) → In t ts → extent_asked t ≡ Some e → In e.signal names) s.transforms own) in
+          let start : Each (Held (Before s.kt s.tl 0)) (begun_reads reads set_of) =
+          subst (λ o. Each (Held o) (begun_reads reads set_of)) (sym (first_before s.kt s.tl)) (begun set_of.source refl) in
+          let done = steps_kept s.kt s.tl 0 s.items s.each (begun_reads reads set_of) start
+          (subst (λ ts. (t : Transform) (e : Extent) → In t ts → extent_asked t ≡ Some e → In e.signal names) s.transforms own) in
           record {
             kept = subst (λ ts. Each OneKept (extent_needs reads ts (begun_reads reads set_of))) (sym s.transforms) done.0;
             fits = subst (λ ts. ReadsFit (n + 1) (with_reads set_of.name (all_reads reads ts (begun_reads reads set_of)) reads)) (sym s.transforms)
-                (λ name. by_name name (all_reads reads (map (λ t. transform_of (members_of t)) s.items) (begun_reads reads set_of)) (bytes_eq set_of.name name) refl
-                (each_of (Held (Before s.kt s.tl done.1.0)) (Reach D) (final_reach done.1.0 s.kt s.tl) (all_reads reads (map (λ t. transform_of (members_of t)) s.items) (begun_reads reads set_of)) done.1.1));
+                (λ name. by_name name (all_reads reads (map (λ t. transform_of (members_of t)) s.items) (begun_reads reads set_of))
+                (bytes_eq set_of.name name) refl
+                (each_of (Held (Before s.kt s.tl done.1.0)) (Reach D) (final_reach done.1.0 s.kt s.tl)
+                (all_reads reads (map (λ t. transform_of (members_of t)) s.items) (begun_reads reads set_of)) done.1.1));
           }
         where
           later : (name : List ℕ) → (reads name ≡ []) ⊎ OwnSet n name (reads name) → (reads name ≡ []) ⊎ OwnSet (n + 1) name (reads name)
           later name (inl none) = inl none
-          later name (inr o) = inr (record { number = o.number; less = under o.number n o.less; gives = o.gives; first = o.first; of_place = o.of_place; set = o.set; is_set = o.is_set; each = o.each })
+          later name (inr o) = inr (record {
+            number = o.number;
+            less = under o.number n o.less;
+            gives = o.gives;
+            first = o.first;
+            of_place = o.of_place;
+            set = o.set;
+            is_set = o.is_set;
+            each = o.each;
+          })
 
-          by_name : (name : List ℕ) (rs : List (List ℕ)) (b : Bool) → bytes_eq set_of.name name ≡ b → Each (Reach D) rs → ((if b then rs else reads name) ≡ []) ⊎ OwnSet (n + 1) name (if b then rs else reads name)
+          by_name : (name : List ℕ) (rs : List (List ℕ)) (b : Bool) → bytes_eq set_of.name name ≡ b → Each (Reach D) rs →
+              ((if b then rs else reads name) ≡ []) ⊎ OwnSet (n + 1) name (if b then rs else reads name)
           by_name name rs false other each = later name (fit name)
           by_name name rs true same each =
               let g : GivenName = record { kind = given_as.Data; scope = S; of = X; at = child ST sp.name_number; name = set_of.name; scale = None } in
@@ -467,7 +507,8 @@ module _ (tree : Json) (ordered : Ordered tree) (here : Around) (round : Trail) 
   -- ---- the list
 
   sets_from : (n : ℕ) (items : List Json) (reads : Reads) → EachFrom (λ i d. Seat tree LT i DATA d) n items → ReadsFit n reads →
-      ((set : DataSet) (t : Transform) (e : Extent) → In set (map (λ d. data_set_of (members_of d)) items) → In t (transforms_of set) → extent_asked t ≡ Some e → In e.signal names) →
+      ((set : DataSet) (t : Transform) (e : Extent) → In set (map (λ d. data_set_of (members_of d)) items) →
+      In t (transforms_of set) → extent_asked t ≡ Some e → In e.signal names) →
       Each OneKept (set_needs reads (map (λ d. data_set_of (members_of d)) items))
   sets_from n [] reads each fit own = tt
   sets_from n (d ∷ items) reads each fit own =
@@ -475,11 +516,13 @@ module _ (tree : Json) (ordered : Ordered tree) (here : Around) (round : Trail) 
       let s = set_fine n d each.0 reads fit (λ t e i a. own set t e (inl refl) i a) in
       each_append OneKept (extent_needs reads (transforms_of set) (begun_reads reads set))
       (set_needs (with_reads set.name (all_reads reads (transforms_of set) (begun_reads reads set)) reads) (map (λ d. data_set_of (members_of d)) items))
-      s.kept (sets_from (n + 1) items (with_reads set.name (all_reads reads (transforms_of set) (begun_reads reads set)) reads) each.1 s.fits (λ u t e i j a. own u t e (inr i) j a))
+      s.kept (sets_from (n + 1) items (with_reads set.name (all_reads reads (transforms_of set) (begun_reads reads set)) reads)
+      each.1 s.fits (λ u t e i j a. own u t e (inr i) j a))
 
   -- the needs of the extents of a list of data sets are those of the graph
   pub sets_kept : Seat tree (here ∷ round) kd DATA_LIST dl →
-      ((items : List Json) → out-Json dl ≡ level.List items → (set : DataSet) (t : Transform) (e : Extent) → In set (map (λ d. data_set_of (members_of d)) items) → In t (transforms_of set) → extent_asked t ≡ Some e → In e.signal names) →
+      ((items : List Json) → out-Json dl ≡ level.List items → (set : DataSet) (t : Transform) (e : Extent) →
+      In set (map (λ d. data_set_of (members_of d)) items) → In t (transforms_of set) → extent_asked t ≡ Some e → In e.signal names) →
       (items : List Json) × (out-Json dl ≡ level.List items) × Each OneKept (set_needs no_reads (map (λ d. data_set_of (members_of d)) items))
   sets_kept s own =
       let l = seated_items tree (here ∷ round) kd DATA_LIST dl s DATA sets_taken in

@@ -42,9 +42,9 @@ use Rattle.vega_parts.specs.Parts.{parts_of, signal_itself}
 use Rattle.vega_spec.specs.declared.signals.Signal.{Signal}
 use Rattle.vega_building.specs.Parts.{text_at, needed_text, members_of, expression_at}
 use Rattle.vega_building.specs.Signals.{signal_of}
-use Rattle.vega_needs.specs.declared.nodes.Thing.TheVariants as thing
-use Rattle.vega_needs.specs.Nodes.{node_at}
-use Rattle.vega_needs.specs.Edges.{reader}
+use Rattle.vega_rules.specs.declared.nodes.Thing.TheVariants as thing
+use Rattle.vega_rules.specs.Nodes.{node_at}
+use Rattle.vega_rules.specs.Edges.{reader}
 use Rattle.vega_signals.specs.Extents.{update_of, is_computed}
 use Rattle.vega_signals.specs.Needs.{Need, computed_needs}
 use Rattle.vega_standing.proofs.Trees.{Each}
@@ -119,7 +119,8 @@ module _ (tree : Json) (ordered : Ordered tree) (here : Around) (round : Trail) 
 
   -- ---- one signal
 
-  module _ (k : ℕ) (list : Json) (i : ℕ) (t : Json) (s : Seat tree (noted k SIGNALS list ∷ here ∷ round) i SIGNAL t) (ms : List Member) (is : out-Json t ≡ level.Object ms)
+  module _ (k : ℕ) (list : Json) (i : ℕ) (t : Json) (s : Seat tree (noted k SIGNALS list ∷ here ∷ round) i SIGNAL t)
+      (ms : List Member) (is : out-Json t ≡ level.Object ms)
       (o : SeatedObject tree (noted k SIGNALS list ∷ here ∷ round) i SIGNAL t s SIGNAL ms) (laid : o.laid.layout ≡ signal) where
     abbrev trail : Trail
     trail = noted i SIGNAL t ∷ noted k SIGNALS list ∷ here ∷ round
@@ -163,12 +164,15 @@ module _ (tree : Json) (ordered : Ordered tree) (here : Around) (round : Trail) 
               (in_front (p (scope_of trail)) (signal_names trail t) (on_in_group trail t) n.1))))),
         )
 
-    one_computed : (e : Expr) → update_of (signal_of ms) ≡ Some e → In (needed_text ms (codes "name")) names → OneKept (needed_text ms (codes "name"), parameters_in e)
+    one_computed : (e : Expr) → update_of (signal_of ms) ≡ Some e →
+        In (needed_text ms (codes "name")) names → OneKept (needed_text ms (codes "name"), parameters_in e)
     one_computed e updated own =
         let v = gives_node tree ordered S names (place_of trail) (child trail the_name.0) (needed_text ms (codes "name")) the_name.1 own in
-        let (w, text, valued, is_text, reads) = found_value (member_value ms (codes "update")) e (not_on (is_some (signal_of ms).on) (expression_at ms (codes "update")) e updated) in
+        let (w, text, valued, is_text, reads) =
+        found_value (member_value ms (codes "update")) e (not_on (is_some (signal_of ms).on) (expression_at ms (codes "update")) e updated) in
         let seat = seat_from tree (noted k SIGNALS list ∷ here ∷ round) i SIGNAL t s signal 0 ms (codes "update") EXPRESSION w seated signal_rules.1 valued in
-        let at : place_of (noted seat.0 EXPRESSION w ∷ trail) ≡ place_of trail ++ seat.0 ∷ [] = place_child (noted seat.0 EXPRESSION w) (noted i SIGNAL t) (noted k SIGNALS list ∷ here ∷ round) in
+        let at : place_of (noted seat.0 EXPRESSION w ∷ trail) ≡ place_of trail ++ seat.0 ∷ [] =
+        place_child (noted seat.0 EXPRESSION w) (noted i SIGNAL t) (noted k SIGNALS list ∷ here ∷ round) in
         let read : reader (node_at (parts_of tree)) (place_of (noted seat.0 EXPRESSION w ∷ trail)) ≡ Some v.0 =
         ap (reader (node_at (parts_of tree))) at
         ∙ reader_of_child tree (place_of trail) seat.0 EXPRESSION w (ap (value_at TOP tree) (sym at) ∙ seat.1.at) refl refl
@@ -182,7 +186,8 @@ module _ (tree : Json) (ordered : Ordered tree) (here : Around) (round : Trail) 
     one_signal : (is_computed (signal_of ms) ≡ true → In (needed_text ms (codes "name")) names) → Each OneKept (computed_needs (signal_of ms))
     one_signal own = by_update (update_of (signal_of ms)) refl
       where
-        by_update : (u : Option Expr) → update_of (signal_of ms) ≡ u → Each OneKept (if is_some u then (needed_text ms (codes "name"), option_map_or parameters_in u []) ∷ [] else [])
+        by_update : (u : Option Expr) → update_of (signal_of ms) ≡ u →
+            Each OneKept (if is_some u then (needed_text ms (codes "name"), option_map_or parameters_in u []) ∷ [] else [])
         by_update None e = tt
         by_update (Some x) e = (one_computed x e (own (ap is_some e)), tt)
 
@@ -207,7 +212,8 @@ module _ (tree : Json) (ordered : Ordered tree) (here : Around) (round : Trail) 
 
   -- the needs of the signals of a list are those of the graph
   pub signals_kept : (k : ℕ) (list : Json) → Seat tree (here ∷ round) k SIGNALS list →
-      ((items : List Json) → out-Json list ≡ level.List items → (s : Signal) → In s (map (λ t. signal_of (members_of t)) items) → is_computed s ≡ true → In s.name names) →
+      ((items : List Json) → out-Json list ≡ level.List items → (s : Signal) →
+      In s (map (λ t. signal_of (members_of t)) items) → is_computed s ≡ true → In s.name names) →
       (items : List Json) × (out-Json list ≡ level.List items) × Each OneKept (flat_map computed_needs (map (λ t. signal_of (members_of t)) items))
   signals_kept k list s own =
       let l = seated_items tree (here ∷ round) k SIGNALS list s SIGNAL signals_taken in

@@ -45,9 +45,9 @@ use Rattle.vega_parts.specs.Lengths.{other_length}
 use Rattle.vega_parts.specs.Parts.{parts_at, parts_of}
 use Rattle.vega_parts.specs.declared.part.Used.TheVariants as for_
 use Rattle.vega_building.specs.Parts.{text_at, members_of, expression_at}
-use Rattle.vega_needs.specs.declared.nodes.Thing.TheVariants as thing
-use Rattle.vega_needs.specs.Nodes.{node_at}
-use Rattle.vega_needs.specs.Edges.{reader}
+use Rattle.vega_rules.specs.declared.nodes.Thing.TheVariants as thing
+use Rattle.vega_rules.specs.Nodes.{node_at}
+use Rattle.vega_rules.specs.Edges.{reader}
 use Rattle.vega_signals.specs.Extents.{extent_asked}
 use Rattle.vega_signals.specs.Needs.{Reads, extent_reads, transform_reads}
 use Rattle.vega_spec.specs.declared.transforms.Transform.{Transform}
@@ -69,13 +69,15 @@ use Rattle.vega_standing.proofs.Transforms.{one_layout, last_layout, says_type, 
 
 -- ---- the table
 
-two_taken : (a b : Bool) (s t : Shape) (f : Form) → option_map (λ (s : Shape). s.form) (cond a (Some s) (cond b (Some t) None)) ≡ Some f → ((a ≡ true) × (s.form ≡ f)) ⊎ ((b ≡ true) × (t.form ≡ f))
+two_taken : (a b : Bool) (s t : Shape) (f : Form) → option_map (λ (s : Shape). s.form) (cond a (Some s) (cond b (Some t) None)) ≡ Some f →
+    ((a ≡ true) × (s.form ≡ f)) ⊎ ((b ≡ true) × (t.form ≡ f))
 two_taken true b s t f e = inl (refl, cc)
 two_taken false true s t f e = inr (refl, cc)
 two_taken false false s t f e = absurd cc
 
 extent_taken : (o : Opened) (f : Form) → taken_form vega_schema EXTENT o ≡ Some f →
-    ((list_passes is_pair o ≡ true) × (form.Pair NUMBER ≡ f)) ⊎ ((object_passes (λ members. is_some (layout_in vega_schema EXTENT_SIGNAL members)) o ≡ true) × (form.Object EXTENT_SIGNAL ≡ f))
+    ((list_passes is_pair o ≡ true) × (form.Pair NUMBER ≡ f))
+    ⊎ ((object_passes (λ members. is_some (layout_in vega_schema EXTENT_SIGNAL members)) o ≡ true) × (form.Object EXTENT_SIGNAL ≡ f))
 unfolding vega_schema leaves named_shapes lists objects
 extent_taken o f e = two_taken (list_passes is_pair o) (object_passes (λ members. is_some (layout_in vega_schema EXTENT_SIGNAL members)) o) _ _ f e
 
@@ -85,7 +87,8 @@ unfolding vega_schema group_mark axis legend grid_layout top data_set data_forma
     linear_scale time_scale band_scale point_scale ordinal_scale no_scale domain_of_signal domain_of_field domain_of_fields reference
     sort_by_operation sort_by_cells rect_mark symbol_mark line_mark area_mark rule_mark text_mark mark_from group_from facet cross
     encode no_mark channel_members value words_value size_signal group_encode group_channels size_value
-one_of_extents ms l e = one_layout (λ l. (has_name ms (codes "signal") ≡ true) × (l ≡ extent_signal)) (has_name ms (codes "signal")) extent_signal l None e (λ t. (t, refl)) (λ never. absurd cc)
+one_of_extents ms l e = one_layout (λ l. (has_name ms (codes "signal") ≡ true) × (l ≡ extent_signal))
+    (has_name ms (codes "signal")) extent_signal l None e (λ t. (t, refl)) (λ never. absurd cc)
 
 extent_rules : shape_in extent_signal (codes "signal") ≡ Some TEXT
 unfolding extent_signal
@@ -141,7 +144,8 @@ pub texts_known : (o : Option (ℕ × List ℕ)) (x : List ℕ) → option_map (
 texts_known None x e = absurd cc
 texts_known (Some m) x e = (m.0, ap (λ o. option_map (λ t. (m.0, t)) o) e)
 
-module _ (tree : Json) (ordered : Ordered tree) (S : List ℕ) (names : List (List ℕ)) (round : Trail) (j : ℕ) (t : Json) (s : Seat tree round j TRANSFORM t) where
+module _ (tree : Json) (ordered : Ordered tree) (S : List ℕ) (names : List (List ℕ))
+    (round : Trail) (j : ℕ) (t : Json) (s : Seat tree round j TRANSFORM t) where
   abbrev trail : Trail
   trail = noted j TRANSFORM t ∷ round
 
@@ -151,8 +155,10 @@ module _ (tree : Json) (ordered : Ordered tree) (S : List ℕ) (names : List (Li
   abbrev at : List ℕ
   at = place_of trail
 
-  module _ (in_scope : scope_of trail ≡ S) (deep : (i shape : ℕ) (v : Json) → scope_of (noted i shape v ∷ trail) ≡ S) (p : ℕ) (is_step : node_at all thing.Step at ≡ Some p) (reads : Reads)
-      (from_read : (name : List ℕ) (c : ℕ) → In (used for_.From S (at ++ c ∷ []) name) all → reader (node_at all) (at ++ c ∷ []) ≡ Some p → Each (Reached tree ordered S names p) (reads name)) where
+  module _ (in_scope : scope_of trail ≡ S) (deep : (i shape : ℕ) (v : Json) → scope_of (noted i shape v ∷ trail) ≡ S)
+      (p : ℕ) (is_step : node_at all thing.Step at ≡ Some p) (reads : Reads)
+      (from_read : (name : List ℕ) (c : ℕ) → In (used for_.From S (at ++ c ∷ []) name) all →
+      reader (node_at all) (at ++ c ∷ []) ≡ Some p → Each (Reached tree ordered S names p) (reads name)) where
     abbrev P : List ℕ → Type 0
     P = Reached tree ordered S names p
 
@@ -182,11 +188,14 @@ module _ (tree : Json) (ordered : Ordered tree) (S : List ℕ) (names : List (Li
       silent l word f e laid = as_typed word (typed l word e laid) f
 
       -- those of an expression
-      read_at : (i shape : ℕ) (w : Json) → Seat tree trail i shape w → suits thing.Step shape ≡ false → suits thing.Signal shape ≡ false → reader (node_at all) (at ++ i ∷ []) ≡ Some p
+      read_at : (i shape : ℕ) (w : Json) → Seat tree trail i shape w → suits thing.Step shape ≡ false →
+          suits thing.Signal shape ≡ false → reader (node_at all) (at ++ i ∷ []) ≡ Some p
       read_at i shape w seat no_step no_signal =
-          reader_of_child tree at i shape w (ap (value_at TOP tree) (sym (place_child (noted i shape w) (noted j TRANSFORM t) round)) ∙ seat.at) no_step no_signal ∙ reader_step tree at p is_step
+          reader_of_child tree at i shape w (ap (value_at TOP tree) (sym (place_child (noted i shape w) (noted j TRANSFORM t) round)) ∙ seat.at)
+          no_step no_signal ∙ reader_step tree at p is_step
 
-      expression : (l : Layout) → o.laid.layout ≡ l → shape_in l (codes "expr") ≡ Some EXPRESSION → (x : Option Expr) → expression_at ms (codes "expr") ≡ x → Each P (parameters_in (unwrap_or x expr.Null))
+      expression : (l : Layout) → o.laid.layout ≡ l → shape_in l (codes "expr") ≡ Some EXPRESSION → (x : Option Expr) →
+          expression_at ms (codes "expr") ≡ x → Each P (parameters_in (unwrap_or x expr.Null))
       expression l laid ruled None e = subst (Each P) (sym (ap parameters_in (sym expr.rolls-Null) ∙ fold-roll-Expr _ _ form_of.Null)) tt
       expression l laid ruled (Some x) e =
           let (w, text, valued, is_text, reads_as) = found_value (member_value ms (codes "expr")) x e in
@@ -223,14 +232,16 @@ module _ (tree : Json) (ordered : Ordered tree) (S : List ℕ) (names : List (Li
       unfolding lookup
       lookups e laid =
           let text = typed lookup (codes "lookup") e laid in
-          let (x, n, from, is_text) = text_there lookup laid (codes "from") refl (required trail lookup ms (codes "from") (must (codes "from") TEXT) (stands lookup laid) refl refl refl) in
+          let (x, n, from, is_text) = text_there lookup laid (codes "from") refl
+          (required trail lookup ms (codes "from") (must (codes "from") TEXT) (stands lookup laid) refl refl refl) in
           let (w, seat) = text_seat tree round j TRANSFORM t s lookup ms (codes "from") TEXT (n, x) (seated lookup laid) refl is is_text in
           let parts : by_type trail t ≡ lookup_parts trail t = lookup_is round j t s.stands ms is text in
           let q : Part = used for_.From (scope_of trail) (child trail n) x in
           let here : In q (used_member for_.From (codes "from") trail t) =
           subst (λ o. In q (option_map_or (λ (m : ℕ × List ℕ). used for_.From (scope_of trail) (child trail m.0) m.1 ∷ []) o [])) (sym is_text) (inl refl) in
           let there : In q all =
-          own q (in_back q (step trail) (by_type trail t) (subst (In q) (sym parts) (in_front q (used_member for_.From (codes "from") trail t) (other_length (codes "as") (codes "values") trail t) here))) in
+          own q (in_back q (step trail) (by_type trail t) (subst (In q) (sym parts)
+          (in_front q (used_member for_.From (codes "from") trail t) (other_length (codes "as") (codes "values") trail t) here))) in
           as_typed (codes "lookup") text
           (record {
             reached = subst (λ name. Each P (reads name)) (ap (λ o. unwrap_or o []) (sym from))
@@ -250,18 +261,21 @@ module _ (tree : Json) (ordered : Ordered tree) (S : List ℕ) (names : List (Li
       unfolding extent
       extents e laid =
           let text = typed extent (codes "extent") e laid in
-          let (x, n, signal_is, is_text) = text_there extent laid (codes "signal") refl (required trail extent ms (codes "signal") (must (codes "signal") TEXT) (stands extent laid) refl refl refl) in
+          let (x, n, signal_is, is_text) = text_there extent laid (codes "signal") refl
+          (required trail extent ms (codes "signal") (must (codes "signal") TEXT) (stands extent laid) refl refl refl) in
           let parts : by_type trail t ≡ extent_name trail t = extent_is text in
           let q : Part = given given_as.Signal (scope_of trail) at (child trail n) x in
           let here : In q (extent_name trail t) =
-          subst (λ o. In q (option_map_or (λ (m : ℕ × List ℕ). given given_as.Signal (scope_of trail) (place_of trail) (child trail m.0) m.1 ∷ []) o [])) (sym is_text) (inl refl) in
+          subst (λ o. In q (option_map_or (λ (m : ℕ × List ℕ). given given_as.Signal (scope_of trail) (place_of trail) (child trail m.0) m.1 ∷ [])
+          o [])) (sym is_text) (inl refl) in
           let there : In q all = own q (in_back q (step trail) (by_type trail t) (subst (In q) (sym parts) here)) in
           as_typed (codes "extent") text
           (record {
             reached = tt;
             asked = λ a f. (
               n,
-              subst (λ name. In (given given_as.Signal S at (child trail n) name) all) (sym (ap (λ o. unwrap_or o []) signal_is) ∙ ap (λ o. option_map_or (λ (e : Extent). e.signal) o []) f)
+              subst (λ name. In (given given_as.Signal S at (child trail n) name) all)
+                  (sym (ap (λ o. unwrap_or o []) signal_is) ∙ ap (λ o. option_map_or (λ (e : Extent). e.signal) o []) f)
                   (subst (λ sc. In (given given_as.Signal sc at (child trail n) x) all) in_scope there),
             );
           })
@@ -274,7 +288,8 @@ module _ (tree : Json) (ordered : Ordered tree) (S : List ℕ) (names : List (Li
           f : (f : Form) × (taken_form vega_schema EXTENT (out-Json v) ≡ Some f)
           f = formed EXTENT v seat.stands.fine
 
-          taken_object : (qs : List Member) (g : Form) → taken_form vega_schema EXTENT (level.Object qs) ≡ Some g → (is_some (layout_in vega_schema EXTENT_SIGNAL qs) ≡ true) × (form.Object EXTENT_SIGNAL ≡ g)
+          taken_object : (qs : List Member) (g : Form) → taken_form vega_schema EXTENT (level.Object qs) ≡ Some g →
+              (is_some (layout_in vega_schema EXTENT_SIGNAL qs) ≡ true) × (form.Object EXTENT_SIGNAL ≡ g)
           taken_object qs g e = pick (extent_taken (level.Object qs) g e)
             where
               pick : ((false ≡ true) × (form.Pair NUMBER ≡ g)) ⊎ ((is_some (layout_in vega_schema EXTENT_SIGNAL qs) ≡ true) × (form.Object EXTENT_SIGNAL ≡ g)) →
@@ -297,18 +312,23 @@ module _ (tree : Json) (ordered : Ordered tree) (S : List ℕ) (names : List (Li
               let (w, inner) = text_seat tree trail i EXTENT v seat extent_signal qs (codes "signal") TEXT (n, x.0) members extent_rules opened is_text in
               let q : Part = used for_.Signal (scope_of x_trail) (child x_trail n) x.0 in
               let here : In q (parts_at x_trail v) =
-              subst (λ o. In q (option_map_or (λ (m : ℕ × List ℕ). used for_.Signal (scope_of x_trail) (child x_trail m.0) m.1 ∷ []) o [])) (sym is_text) (inl refl) in
+              subst (λ o. In q (option_map_or (λ (m : ℕ × List ℕ). used for_.Signal (scope_of x_trail) (child x_trail m.0) m.1 ∷ []) o []))
+              (sym is_text) (inl refl) in
               let among : In q all = own_among tree trail i EXTENT v (parts_of_members x_trail so.laid.layout 0 qs) seat so.laid.parts q here in
-              let scoped : In (used for_.Signal S (child x_trail n) x.0) all = subst (λ sc. In (used for_.Signal sc (child x_trail n) x.0) all) (deep i EXTENT v) among in
+              let scoped : In (used for_.Signal S (child x_trail n) x.0) all =
+              subst (λ sc. In (used for_.Signal sc (child x_trail n) x.0) all) (deep i EXTENT v) among in
               let step_one : reader (node_at all) (child x_trail n) ≡ reader (node_at all) (place_of x_trail) =
-              reader_of_child tree (place_of x_trail) n TEXT w (ap (value_at TOP tree) (sym (place_child (noted n TEXT w) (noted i EXTENT v) trail)) ∙ inner.at) refl refl in
+              reader_of_child tree (place_of x_trail) n TEXT w
+              (ap (value_at TOP tree) (sym (place_child (noted n TEXT w) (noted i EXTENT v) trail)) ∙ inner.at) refl refl in
               let read : reader (node_at all) (child x_trail n) ≡ Some p =
               step_one ∙ ap (reader (node_at all)) (place_child (noted i EXTENT v) (noted j TRANSFORM t) round) ∙ read_at i EXTENT v seat refl refl in
               let reached : P x.0 = use_reached tree ordered S names (child x_trail n) x.0 thing.Step at p scoped read is_step in
               subst (λ b. Each P (extent_reads (unwrap_or (bin_extent_in b) (bounds.Signal [])))) (sym opened)
               (subst (λ o. Each P (extent_reads (unwrap_or (option_map bounds.Signal o) (bounds.Signal [])))) (sym text) (reached, tt))
 
-          by_form : ((list_passes is_pair (out-Json v) ≡ true) × (form.Pair NUMBER ≡ f.0)) ⊎ ((object_passes (λ members. is_some (layout_in vega_schema EXTENT_SIGNAL members)) (out-Json v) ≡ true) × (form.Object EXTENT_SIGNAL ≡ f.0)) →
+          by_form : ((list_passes is_pair (out-Json v) ≡ true) × (form.Pair NUMBER ≡ f.0))
+              ⊎ ((object_passes (λ members. is_some (layout_in vega_schema EXTENT_SIGNAL members)) (out-Json v) ≡ true)
+              × (form.Object EXTENT_SIGNAL ≡ f.0)) →
               Each P (extent_reads (unwrap_or (bin_extent_in (out-Json v)) (bounds.Signal [])))
           by_form (inl a) = subst (Each P) (sym (of_pair (out-Json v) a.0)) tt
           by_form (inr a) = let qs = opened_as EXTENT_SIGNAL (out-Json v) a.0 in by_signal qs.0 qs.1
@@ -317,18 +337,21 @@ module _ (tree : Json) (ordered : Ordered tree) (S : List ℕ) (names : List (Li
       unfolding bin
       bins e laid =
           let text = typed bin (codes "bin") e laid in
-          let v : (v : Json) × (member_value ms (codes "extent") ≡ Some v) = required trail bin ms (codes "extent") (must (codes "extent") EXTENT) (stands bin laid) refl refl refl in
+          let v : (v : Json) × (member_value ms (codes "extent") ≡ Some v) =
+          required trail bin ms (codes "extent") (must (codes "extent") EXTENT) (stands bin laid) refl refl refl in
           let seat = seat_from tree round j TRANSFORM t s bin 0 ms (codes "extent") EXTENT v.0 (seated bin laid) refl v.1 in
           as_typed (codes "bin") text
           (record {
-            reached = subst (λ o. Each P (extent_reads (unwrap_or (option_and_then (λ tree. bin_extent_in (out-Json tree)) o) (bounds.Signal [])))) (sym v.1) (by_extent seat.0 v.0 seat.1);
+            reached = subst (λ o. Each P (extent_reads (unwrap_or (option_and_then (λ tree. bin_extent_in (out-Json tree)) o) (bounds.Signal []))))
+                (sym v.1) (by_extent seat.0 v.0 seat.1);
             asked = λ x f. absurd cc;
           })
 
       unknown : Told no_transform
       unfolding no_transform
       unknown laid =
-          let v : (v : Json) × (member_value ms (codes "type") ≡ Some v) = required trail no_transform ms (codes "type") (must (codes "type") NOTHING) (stands no_transform laid) refl refl refl in
+          let v : (v : Json) × (member_value ms (codes "type") ≡ Some v) =
+          required trail no_transform ms (codes "type") (must (codes "type") NOTHING) (stands no_transform laid) refl refl refl in
           let there : (i : ℕ) × Stands trail i NOTHING v.0 = found_as trail no_transform ms (codes "type") v.0 NOTHING (stands no_transform laid) refl v.1 in
           absurd (nothing_stands trail there.0 v.0 there.1)
 
@@ -347,8 +370,10 @@ module _ (tree : Json) (ordered : Ordered tree) (S : List ℕ) (names : List (Li
           one_layout Told (a (codes "timeunit")) time_unit l _ e (silent time_unit (codes "timeunit") (record { reached = tt; asked = λ x f. absurd cc })) (λ e.
           one_layout Told (a (codes "stack")) stack l _ e (silent stack (codes "stack") (record { reached = tt; asked = λ x f. absurd cc })) (λ e.
           one_layout Told (a (codes "fold")) fold l _ e (silent fold (codes "fold") (record { reached = tt; asked = λ x f. absurd cc })) (λ e.
-          one_layout Told (a (codes "aggregate")) aggregate l _ e (silent aggregate (codes "aggregate") (record { reached = tt; asked = λ x f. absurd cc })) (λ e.
-          one_layout Told (a (codes "joinaggregate")) join_aggregate l _ e (silent join_aggregate (codes "joinaggregate") (record { reached = tt; asked = λ x f. absurd cc })) (λ e.
+          one_layout Told (a (codes "aggregate")) aggregate l _ e
+          (silent aggregate (codes "aggregate") (record { reached = tt; asked = λ x f. absurd cc })) (λ e.
+          one_layout Told (a (codes "joinaggregate")) join_aggregate l _ e
+          (silent join_aggregate (codes "joinaggregate") (record { reached = tt; asked = λ x f. absurd cc })) (λ e.
           one_layout Told (a (codes "window")) window l _ e (silent window (codes "window") (record { reached = tt; asked = λ x f. absurd cc })) (λ e.
           one_layout Told (a (codes "lookup")) lookup l _ e lookups (λ e.
           last_layout Told no_transform l e unknown)))))))))))

@@ -28,13 +28,13 @@ use Rattle.vega_rules.specs.Places.{fronts}
 use Rattle.vega_rules.specs.Names.{first_given}
 use Rattle.vega_rules.specs.Twice.{twice}
 use Rattle.vega_rules.specs.Resolved.{resolved_use, given_in, first_found, served}
-use Rattle.vega_needs.specs.declared.nodes.Thing.{Thing}
-use Rattle.vega_needs.specs.declared.nodes.Thing.TheVariants as thing
-use Rattle.vega_needs.specs.Nodes.{node_at}
-use Rattle.vega_needs.specs.Edges.{need, reader, reader_at, meant}
-use Rattle.vega_needs.specs.Edges as edges
-use Rattle.vega_needs.specs.Graph.{graph}
-use Rattle.vega_needs.specs.Cycles.{first_cycle, signals}
+use Rattle.vega_rules.specs.declared.nodes.Thing.{Thing}
+use Rattle.vega_rules.specs.declared.nodes.Thing.TheVariants as thing
+use Rattle.vega_rules.specs.Nodes.{node_at}
+use Rattle.vega_rules.specs.Edges.{need, reader, reader_at, meant}
+use Rattle.vega_rules.specs.Edges as edges
+use Rattle.vega_rules.specs.Graph.{graph}
+use Rattle.vega_rules.specs.Cycles.{first_cycle, signals}
 use Rattle.vega_signals.specs.Needs.{Need, IsPlaced}
 use Rattle.vega_standing.proofs.Trees.{Each}
 use Rattle.vega_standing.proofs.Members.{all_of_each}
@@ -74,18 +74,22 @@ module _ (tree : Json) where
   whole = parts_of tree
 
   -- what stands in no transform and no signal itself is read by what it stands in
-  pub reader_of_child : (x : List ℕ) (k shape : ℕ) (v : Json) → value_at TOP tree (x ++ k ∷ []) ≡ Some (shape, v) → suits thing.Step shape ≡ false → suits thing.Signal shape ≡ false →
+  pub reader_of_child : (x : List ℕ) (k shape : ℕ) (v : Json) → value_at TOP tree (x ++ k ∷ []) ≡ Some (shape, v) →
+      suits thing.Step shape ≡ false → suits thing.Signal shape ≡ false →
       reader (node_at whole) (x ++ k ∷ []) ≡ reader (node_at whole) x
   reader_of_child x k shape v at no_step no_signal =
       ap (edges.first_found (reader_at (node_at whole))) (fronts_child x k)
-      ∙ ap (λ o. option_or (option_or o (node_at whole thing.Signal (x ++ k ∷ []))) (reader (node_at whole) x)) (no_node tree thing.Step (x ++ k ∷ []) shape v at no_step)
+      ∙ ap (λ o. option_or (option_or o (node_at whole thing.Signal (x ++ k ∷ []))) (reader (node_at whole) x))
+      (no_node tree thing.Step (x ++ k ∷ []) shape v at no_step)
       ∙ ap (λ o. option_or o (reader (node_at whole) x)) (no_node tree thing.Signal (x ++ k ∷ []) shape v at no_signal)
 
   -- a signal reads what stands in it
-  pub reader_signal : (x : List ℕ) (v : ℕ) (w : Json) → value_at TOP tree x ≡ Some (SIGNAL, w) → node_at whole thing.Signal x ≡ Some v → reader (node_at whole) x ≡ Some v
+  pub reader_signal : (x : List ℕ) (v : ℕ) (w : Json) → value_at TOP tree x ≡ Some (SIGNAL, w) →
+      node_at whole thing.Signal x ≡ Some v → reader (node_at whole) x ≡ Some v
   reader_signal x v w at is =
       ap (edges.first_found (reader_at (node_at whole))) (fronts_first x)
-      ∙ ap (λ o. option_or (option_or o (node_at whole thing.Signal x)) (edges.first_found (reader_at (node_at whole)) (drop 1 (fronts x)))) (no_node tree thing.Step x SIGNAL w at refl)
+      ∙ ap (λ o. option_or (option_or o (node_at whole thing.Signal x)) (edges.first_found (reader_at (node_at whole)) (drop 1 (fronts x))))
+      (no_node tree thing.Step x SIGNAL w at refl)
       ∙ ap (λ o. option_or o (edges.first_found (reader_at (node_at whole)) (drop 1 (fronts x)))) is
 
   -- a transform does
@@ -108,7 +112,8 @@ listed : (name : List ℕ) (names : List (List ℕ)) → list_any (bytes_eq name
 listed name [] e = absurd cc
 listed name (x ∷ names) e = by_test (bytes_eq name x) refl e (listed name names)
   where
-    by_test : (b : Bool) → bytes_eq name x ≡ b → (b || list_any (bytes_eq name) names) ≡ true → (list_any (bytes_eq name) names ≡ true → In name names) → In name (x ∷ names)
+    by_test : (b : Bool) → bytes_eq name x ≡ b → (b || list_any (bytes_eq name) names) ≡ true →
+        (list_any (bytes_eq name) names ≡ true → In name names) → In name (x ∷ names)
     by_test true same f rest = inl ((bytes_eq-Decides name x).0 same)
     by_test false same f rest = inr (rest f)
 
@@ -146,11 +151,13 @@ module _ (tree : Json) (ordered : Ordered tree) (scope : List ℕ) (names : List
   abbrev pub Kept : Need → Type 0
   Kept need = (v : ℕ) × (node need.0 ≡ Some v) × All (Reached v) need.1
 
-  named_in : (name : List ℕ) (b : Bool) (v : ℕ) → list_any (bytes_eq name) names ≡ b → (if b then named_node name else None) ≡ Some v → (b ≡ true) × (named_node name ≡ Some v)
+  named_in : (name : List ℕ) (b : Bool) (v : ℕ) → list_any (bytes_eq name) names ≡ b →
+      (if b then named_node name else None) ≡ Some v → (b ≡ true) × (named_node name ≡ Some v)
   named_in name true v e f = (refl, f)
   named_in name false v e f = absurd cc
 
-  of_name : (o : Option GivenName) (v : ℕ) → option_and_then (λ (g : GivenName). node_at all thing.Signal g.of) o ≡ Some v → (g : GivenName) × (o ≡ Some g) × (node_at all thing.Signal g.of ≡ Some v)
+  of_name : (o : Option GivenName) (v : ℕ) → option_and_then (λ (g : GivenName). node_at all thing.Signal g.of) o ≡ Some v →
+      (g : GivenName) × (o ≡ Some g) × (node_at all thing.Signal g.of ≡ Some v)
   of_name None v e = absurd cc
   of_name (Some g) v e = (g, refl, e)
 
@@ -175,18 +182,21 @@ module _ (tree : Json) (ordered : Ordered tree) (scope : List ℕ) (names : List
           record { from_one = p.from_one; bounded = at_most _ _ _ p.bounded (length_filtered node names); lesser = p.lesser }
 
   -- a name that is given to a signal of the object is a node
-  pub gives_node : (of at name : List ℕ) → In (given given_as.Signal scope of at name) all → In name names → (v : ℕ) × (node name ≡ Some v) × (node_at all thing.Signal of ≡ Some v)
+  pub gives_node : (of at name : List ℕ) → In (given given_as.Signal scope of at name) all → In name names →
+      (v : ℕ) × (node name ≡ Some v) × (node_at all thing.Signal of ≡ Some v)
   gives_node of at name i own =
       let g : GivenName = record { kind = given_as.Signal; scope = scope; of = of; at = at; name = name; scale = None } in
       let first : first_given all given_as.Signal scope name ≡ Some g = the_only all g ordered.twice refl i in
       let v = node_there all thing.Signal of (part.Given g) i refl in (
         v.0,
-        ap (λ b. if b then named_node name else None) (is_listed name names own) ∙ ap (λ o. option_and_then (λ (g : GivenName). node_at all thing.Signal g.of) o) first ∙ v.1,
+        ap (λ b. if b then named_node name else None) (is_listed name names own)
+            ∙ ap (λ o. option_and_then (λ (g : GivenName). node_at all thing.Signal g.of) o) first ∙ v.1,
         v.1,
       )
 
   -- what reads a name needs the own signal that it is
-  pub use_reached : (at r : List ℕ) (t : Thing) (y : List ℕ) (x : ℕ) → In (used for_.Signal scope at r) all → reader (node_at all) at ≡ Some x → node_at all t y ≡ Some x → Reached x r
+  pub use_reached : (at r : List ℕ) (t : Thing) (y : List ℕ) (x : ℕ) → In (used for_.Signal scope at r) all →
+      reader (node_at all) at ≡ Some x → node_at all t y ≡ Some x → Reached x r
   use_reached at r t y x i read is = by_node (node r) refl
     where
       u : UsedName
@@ -199,7 +209,8 @@ module _ (tree : Json) (ordered : Ordered tree) (scope : List ℕ) (names : List
           let (g, first, node_is) = of_name (first_given all given_as.Signal scope r) w both.1 in
           let means : resolved_use all u ≡ Some g =
           ap (λ fs. option_and_then (served for_.Signal at) (first_found (given_in all for_.Signal r) fs)) (fronts_first scope)
-          ∙ ap (λ o. option_and_then (served for_.Signal at) (option_or (option_or o None) (first_found (given_in all for_.Signal r) (drop 1 (fronts scope))))) first in
+          ∙ ap (λ o. option_and_then (served for_.Signal at)
+          (option_or (option_or o None) (first_found (given_in all for_.Signal r) (drop 1 (fronts scope))))) first in
           let edge : need (reader (node_at all) at) (meant (node_at all) all thing.Signal u) ≡ (x, w) ∷ [] =
           (λ j. need (read j) (option_and_then (λ (name : GivenName). node_at all thing.Signal name.of) (means j))) ∙ ap (λ o. need (Some x) o) node_is in
           shows all (part.Used u) t y x w i (subst (In (x, w)) (sym edge) (inl refl)) is
@@ -212,7 +223,8 @@ module _ (tree : Json) (ordered : Ordered tree) (scope : List ℕ) (names : List
   quiet_read trail e false quiet = refl
 
   -- what reads an expression needs the own signals among its parameters
-  pub expression_reached : (round : Trail) (number : ℕ) (v : Json) (text : List ℕ) (e : Expr) (t : Thing) (y : List ℕ) (x : ℕ) → Seat tree round number EXPRESSION v →
+  pub expression_reached : (round : Trail) (number : ℕ) (v : Json) (text : List ℕ) (e : Expr) (t : Thing) (y : List ℕ) (x : ℕ) →
+      Seat tree round number EXPRESSION v →
       text_in (out-Json v) ≡ Some text → expression_of text ≡ Some e → scope_of (noted number EXPRESSION v ∷ round) ≡ scope →
       reader (node_at all) (place_of (noted number EXPRESSION v ∷ round)) ≡ Some x → node_at all t y ≡ Some x → Each (Reached x) (parameters_in e)
   expression_reached round number v text e t y x s is reads in_scope read at = each_from_in (Reached x) (parameters_in e) one
@@ -237,6 +249,7 @@ module _ (tree : Json) (ordered : Ordered tree) (scope : List ℕ) (names : List
           use_reached (place_of trail) r t y x
           (subst (λ sc. In (used for_.Signal sc (place_of trail) r) all) in_scope
           (among (used for_.Signal (scope_of trail) (place_of trail) r)
-          (in_front _ (used_names for_.Signal trail (parameters_in e) ++ used_names for_.Store trail (selections_in e)) (used_names for_.Scale trail (scales_in e))
+          (in_front _ (used_names for_.Signal trail (parameters_in e) ++ used_names for_.Store trail (selections_in e))
+          (used_names for_.Scale trail (scales_in e))
           (in_front _ (used_names for_.Signal trail (parameters_in e)) (used_names for_.Store trail (selections_in e))
           (in_map (λ (name : List ℕ). used for_.Signal (scope_of trail) (place_of trail) name) r (parameters_in e) i))))) read at

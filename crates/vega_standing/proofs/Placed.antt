@@ -1,5 +1,6 @@
 -- Where no signal of an object needs itself, its signals stand in an order.
-use Rattle.std.proofs.Common.{◌≡◌, inl, inr, ℕ, suc, ◌<◌, ◌≤◌, Bool, true, false, cond, List, [], ◌∷◌, length, get_or, All, Option, Some, None, IfSome, refl, sym, ap, ◌∙◌, subst, arith}
+use Rattle.std.proofs.Common.{◌≡◌, inl, inr, ℕ, suc, ◌<◌, ◌≤◌, Bool, true, false, cond, List, [], ◌∷◌, length, get_or, All, Option, Some}
+use Rattle.std.proofs.Common.{None, IfSome, refl, sym, ap, ◌∙◌, subst, arith}
 use Rattle.std.specs.Option.{option_map_or}
 use Rattle.need_graph.specs.Needs.{Needs, needs_through, needs_itself}
 use Rattle.need_graph.proofs.NeedLemmas.{joined, sound, complete}
@@ -81,7 +82,8 @@ module _ (graph : List (List ℕ)) (own : List ℕ) where
 
   rank_less : (v w : ℕ) → In w own → needs_itself graph w ≡ false → Needs graph v w → rank w < rank v
   rank_less v w i free needs =
-      let less = fewer (reaches w) (reaches v) (λ x e. complete graph (joined graph needs (sound graph (length graph) w x e))) own w i (free_through w free) (complete graph needs) in
+      let less = fewer (reaches w) (reaches v) (λ x e. complete graph (joined graph needs (sound graph (length graph) w x e)))
+      own w i (free_through w free) (complete graph needs) in
       omega (arith, less)
 
   module _ (node : List ℕ → Option ℕ) (known : (name : List ℕ) (v : ℕ) → node name ≡ Some v → In v own × (needs_itself graph v ≡ false)) where

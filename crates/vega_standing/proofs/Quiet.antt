@@ -11,7 +11,8 @@ use Rattle.expr_syntax.specs.declared.expr.Expr.{Expr}
 use Rattle.expr_syntax.specs.Expressions.{has_domain_length}
 use Rattle.expr_reading.specs.Readings.{expression_of}
 use Rattle.expr_reading.specs.Mentions.{parameters_in, selections_in, scales_in}
-use Rattle.vega_schema.specs.declared.codes.TheConstants.{AXIS, DATA, EXPRESSION, EXTENT, FACET, LABEL_FORMAT, LEGEND, MARK, MARK_FROM, REFERENCE, SCALE, SCALE_DOMAIN, SIGNAL, SIZE_EXPRESSION, SORT, TOP, TRANSFORM}
+use Rattle.vega_schema.specs.declared.codes.TheConstants.{AXIS, DATA, EXPRESSION, EXTENT, FACET, LABEL_FORMAT, LEGEND, MARK, MARK_FROM}
+use Rattle.vega_schema.specs.declared.codes.TheConstants.{REFERENCE, SCALE, SCALE_DOMAIN, SIGNAL, SIZE_EXPRESSION, SORT, TOP, TRANSFORM}
 use Rattle.vega_parts.specs.declared.part.Part.{Part}
 use Rattle.vega_parts.specs.declared.part.Part.TheVariants as part
 use Rattle.vega_parts.specs.declared.part.Given.{Given}
@@ -27,7 +28,8 @@ use Rattle.vega_parts.specs.declared.selections.Entry.{Entry}
 use Rattle.vega_parts.specs.declared.selections.Concerned.{Concerned}
 use Rattle.vega_parts.specs.declared.updates.Update.{Update}
 use Rattle.vega_parts.specs.Updates.{fields_of, is_drag}
-use Rattle.vega_parts.specs.Selections.{entries_of, is_wrong_entry, entry_fault, intervals_in, intervals_of, entry_intervals, entry_parts, entries_parts, concerned_by, updates_in, update_parts}
+use Rattle.vega_parts.specs.Selections.{entries_of, is_wrong_entry, entry_fault, intervals_in, intervals_of, entry_intervals, entry_parts}
+use Rattle.vega_parts.specs.Selections.{entries_parts, concerned_by, updates_in, update_parts}
 use Rattle.vega_parts.specs.LabelFormats.{is_label_format, label_format_parts}
 use Rattle.vega_parts.specs.Expressions.{read_parts, expression_parts}
 use Rattle.vega_parts.specs.Scales.{scale_parts, for_size, for_legend, two_scales}
@@ -105,9 +107,11 @@ quiet_use kind other name trail tree =
 
 quiet_item : (kind : Used) → is_source kind ≡ false → (object trail : Trail) (number : ℕ) (item : ℕ × Json) → AreQuiet (used_item kind object trail number item)
 quiet_item kind other object trail number item =
-    some_quiet (λ (name : List ℕ). used kind (place_of object) (grandchild trail number item.0) name ∷ []) (λ name. (ap not other, tt)) (text_in (out-Json item.1))
+    some_quiet (λ (name : List ℕ). used kind (place_of object) (grandchild trail number item.0) name ∷ [])
+    (λ name. (ap not other, tt)) (text_in (out-Json item.1))
 
-pub quiet_items : (kind : Used) → is_source kind ≡ false → (object trail : Trail) (number : ℕ) (items : List Json) → AreQuiet (used_items kind object trail number items)
+pub quiet_items : (kind : Used) → is_source kind ≡ false →
+    (object trail : Trail) (number : ℕ) (items : List Json) → AreQuiet (used_items kind object trail number items)
 quiet_items kind other object trail number items =
     each_flat IsQuiet (used_item kind object trail number) (quiet_item kind other object trail number) (enumerate_from 0 items)
 
@@ -125,13 +129,15 @@ quiet_if_fault false at = (refl, tt)
 pub quiet_lengths : (name other : List ℕ) (trail : Trail) (tree : Json) → AreQuiet (other_length name other trail tree)
 quiet_lengths name other trail tree =
     some_quiet (λ (m : ℕ × List Json). option_map_or (λ (n : ℕ × List Json). unequal trail m.0 (length m.1) (length n.1)) (items_at other tree) [])
-    (λ m. some_quiet (λ (n : ℕ × List Json). unequal trail m.0 (length m.1) (length n.1)) (λ n. quiet_if_fault (length m.1 == length n.1) (child trail m.0)) (items_at other tree))
+    (λ m. some_quiet (λ (n : ℕ × List Json). unequal trail m.0 (length m.1) (length n.1))
+    (λ n. quiet_if_fault (length m.1 == length n.1) (child trail m.0)) (items_at other tree))
     (items_at name tree)
 
 pub quiet_apart : (name other : List ℕ) (trail : Trail) (tree : Json) → AreQuiet (apart name other trail tree)
 quiet_apart name other trail tree =
     some_quiet (λ (m : ℕ × Json). option_map_or (λ (n : ℕ × Json). unlike trail m.0 m.1 n.1) (member_at other tree) [])
-    (λ m. some_quiet (λ (n : ℕ × Json). unlike trail m.0 m.1 n.1) (λ n. quiet_if_fault (go_together (out-Json n.1) (out-Json m.1)) (child trail m.0)) (member_at other tree))
+    (λ m. some_quiet (λ (n : ℕ × Json). unlike trail m.0 m.1 n.1)
+    (λ n. quiet_if_fault (go_together (out-Json n.1) (out-Json m.1)) (child trail m.0)) (member_at other tree))
     (member_at name tree)
 
 quiet_sort : (trail : Trail) (tree : Json) → AreQuiet (sort_parts trail tree)
@@ -152,7 +158,8 @@ quiet_marks trail tree =
 
 quiet_selector : (trail : Trail) (number : ℕ) (entry : ℕ × Json) → AreQuiet (selector trail number entry)
 quiet_selector trail number entry =
-    some_quiet (λ (m : ℕ × List ℕ). given given_as.Selector (place_of trail) (grandchild trail number entry.0) (grandchild trail number entry.0 ++ m.0 ∷ []) m.1 ∷ [])
+    some_quiet (λ (m : ℕ × List ℕ).
+    given given_as.Selector (place_of trail) (grandchild trail number entry.0) (grandchild trail number entry.0 ++ m.0 ∷ []) m.1 ∷ [])
     (λ m. (refl, tt)) (text_at (codes "events") entry.1)
 
 quiet_selectors : (trail : Trail) (tree : Json) → AreQuiet (selectors trail tree)
@@ -176,20 +183,24 @@ quiet_entry : (concerned : Concerned) (earlier : List Entry) (entry : Entry) →
 quiet_entry concerned earlier entry =
     both_quiet (entry_fault concerned.own earlier entry) (entry_intervals concerned entry)
     (if_quiet (is_wrong_entry concerned.own earlier entry) (part.Fault entry.at Wrong ∷ []) [] (refl, tt) tt)
-    (some_quiet (λ (u : Update). intervals_of concerned entry.at u) (λ (u : Update). if_quiet (is_drag u.change) (intervals_in concerned entry.at (fields_of u)) [] (quiet_scales concerned entry.at (fields_of u)) tt) entry.update)
+    (some_quiet (λ (u : Update). intervals_of concerned entry.at u) (λ (u : Update).
+    if_quiet (is_drag u.change) (intervals_in concerned entry.at (fields_of u)) [] (quiet_scales concerned entry.at (fields_of u)) tt) entry.update)
 
 quiet_entries : (concerned : Concerned) (earlier entries : List Entry) → AreQuiet (entries_parts concerned earlier entries)
 quiet_entries concerned earlier [] = tt
 quiet_entries concerned earlier (entry ∷ later) =
-    both_quiet (entry_parts concerned earlier entry) (entries_parts concerned (earlier ++ entry ∷ []) later) (quiet_entry concerned earlier entry) (quiet_entries concerned (earlier ++ entry ∷ []) later)
+    both_quiet (entry_parts concerned earlier entry) (entries_parts concerned (earlier ++ entry ∷ []) later)
+    (quiet_entry concerned earlier entry) (quiet_entries concerned (earlier ++ entry ∷ []) later)
 
 quiet_updates : (trail : Trail) (tree : Json) → AreQuiet (update_parts trail tree)
 quiet_updates trail tree =
-    some_quiet (λ (m : ℕ × List Json). updates_in trail tree m.0 m.1) (λ m. quiet_entries (concerned_by trail tree) [] (entries_of trail m.0 m.1)) (items_at (codes "on") tree)
+    some_quiet (λ (m : ℕ × List Json). updates_in trail tree m.0 m.1)
+    (λ m. quiet_entries (concerned_by trail tree) [] (entries_of trail m.0 m.1)) (items_at (codes "on") tree)
 
 quiet_formats : (trail : Trail) (tree : Json) → AreQuiet (label_format_parts trail tree)
 quiet_formats trail tree =
-    some_quiet (λ (text : List ℕ). if is_label_format text then [] else part.Fault (place_of trail) Wrong ∷ []) (λ text. quiet_if_fault (is_label_format text) (place_of trail)) (text_in (out-Json tree))
+    some_quiet (λ (text : List ℕ). if is_label_format text then [] else part.Fault (place_of trail) Wrong ∷ [])
+    (λ text. quiet_if_fault (is_label_format text) (place_of trail)) (text_in (out-Json tree))
 
 quiet_signal : (trail : Trail) (tree : Json) → AreQuiet (signal_parts trail tree)
 quiet_signal trail tree =
@@ -213,7 +224,8 @@ quiet_read lengths trail (Some e) =
 
 quiet_expression : (lengths : Bool) (trail : Trail) (tree : Json) → AreQuiet (expression_parts lengths trail tree)
 quiet_expression lengths trail tree =
-    some_quiet (λ (text : List ℕ). read_parts lengths trail (expression_of text)) (λ text. quiet_read lengths trail (expression_of text)) (text_in (out-Json tree))
+    some_quiet (λ (text : List ℕ). read_parts lengths trail (expression_of text))
+    (λ text. quiet_read lengths trail (expression_of text)) (text_in (out-Json tree))
 
 quiet_scale : (trail : Trail) (tree : Json) → AreQuiet (scale_parts trail tree)
 quiet_scale trail tree = some_quiet _ (λ (m : ℕ × List ℕ). (refl, tt)) (text_at (codes "name") tree)

@@ -3,11 +3,15 @@ use Rattle.std.proofs.Common.{◌≡◌, ℕ, suc, ◌+◌, ◌≤◌, ◌<◌, 
 use Rattle.std.specs.Prelude.{◌≢◌, AllPairs, ◌||◌, bytes_eq}
 use Rattle.std.proofs.lemmas.List.{length-append}
 use Rattle.std.proofs.lemmas.Slice.Eq.{bytes_eq-Decides}
-use Rattle.json_exact.specs.declared.json.Json.{Json, Null, Flag, Number, Huge, Text, List', Object', Row_of-Json, end_of-Json, more_of-Json, items-the_row-Json, items_hidden-the_row-Json-0, Row_of-Member, end_of-Member, more_of-Member, items-the_row-Member, items_hidden-the_row-Member-1}
+use Rattle.json_exact.specs.declared.json.Json.{Json, Null, Flag, Number, Huge, Text, List', Object', Row_of-Json, end_of-Json}
+use Rattle.json_exact.specs.declared.json.Json.{more_of-Json, items-the_row-Json, items_hidden-the_row-Json-0, Row_of-Member, end_of-Member}
+use Rattle.json_exact.specs.declared.json.Json.{more_of-Member, items-the_row-Member, items_hidden-the_row-Member-1}
 use Rattle.json_exact.specs.declared.json.Json.TheBlock.{hidden-the_row-Json-0, hidden-the_row-Member-1}
 use Rattle.json_exact.specs.declared.json.Json.TheVariants as json
 use Rattle.json_exact.specs.declared.json.Member.{Member}
-use Rattle.json_exact.specs.Reading.{Spells, SpellsPadded, SpellsItems, SpellsMember, SpellsMembers, null, yes, no, number, huge, text, list, object, padded, no_item, last_item, more_items, member, no_member, last_member, more_members, Reads}
+use Rattle.json_exact.specs.Reading.{Spells, SpellsPadded, SpellsItems, SpellsMember, SpellsMembers, null, yes, no, number, huge, text}
+use Rattle.json_exact.specs.Reading.{list, object, padded, no_item, last_item, more_items, member, no_member, last_member, more_members}
+use Rattle.json_exact.specs.Reading.{Reads}
 use Rattle.spec_schema.specs.Layouts.{has_name}
 use Rattle.spec_schema.specs.Faults.{members_of as members_opened}
 use Rattle.vega_standing.specs.OwnNames.{AreOwn, HasOwnNames, HaveOwnNames, HaveValuesOwnNames}
@@ -163,9 +167,11 @@ mutual
   spelled_size (huge m word reads out) = nothing _
   spelled_size (text t word quoted) = nothing _
   spelled_size (list items inside s) =
-      between_marks (holders (json.List items)) (sum_of items) (length inside) (length (inside ++ 93 ∷ [])) (holders-List items) (items_size s) (length-append inside (93 ∷ []))
+      between_marks (holders (json.List items)) (sum_of items) (length inside)
+      (length (inside ++ 93 ∷ [])) (holders-List items) (items_size s) (length-append inside (93 ∷ []))
   spelled_size (object members inside apart s) =
-      between_marks (holders (json.Object members)) (sum_of_values members) (length inside) (length (inside ++ 125 ∷ [])) (holders-Object members) (members_size s) (length-append inside (125 ∷ []))
+      between_marks (holders (json.Object members)) (sum_of_values members) (length inside) (length (inside ++ 125 ∷ []))
+      (holders-Object members) (members_size s) (length-append inside (125 ∷ []))
 
   padded_size : {tree : Json} {bytes : List ℕ} → SpellsPadded tree bytes → holders tree ≤ length bytes
   padded_size (padded tree before word after w s v) =
@@ -176,7 +182,8 @@ mutual
   items_size (no_item inside w) = nothing _
   items_size (last_item item inside s) = one_part (holders item) (length inside) (padded_size s)
   items_size (more_items item next others front back s r) =
-      two_parts (holders item) (sum_of (next ∷ others)) (length front) (length back) (length (front ++ 44 ∷ back)) (padded_size s) (items_size r) (length-append front (44 ∷ back))
+      two_parts (holders item) (sum_of (next ∷ others)) (length front) (length back)
+      (length (front ++ 44 ∷ back)) (padded_size s) (items_size r) (length-append front (44 ∷ back))
 
   member_size : {m : Member} {bytes : List ℕ} → SpellsMember m bytes → holders m.value ≤ length bytes
   member_size (member m before word after value w q v s) =
@@ -187,7 +194,8 @@ mutual
   members_size (no_member inside w) = nothing _
   members_size (last_member m inside s) = one_part (holders m.value) (length inside) (member_size s)
   members_size (more_members m next others front back s r) =
-      two_parts (holders m.value) (sum_of_values (next ∷ others)) (length front) (length back) (length (front ++ 44 ∷ back)) (member_size s) (members_size r) (length-append front (44 ∷ back))
+      two_parts (holders m.value) (sum_of_values (next ∷ others)) (length front) (length back)
+      (length (front ++ 44 ∷ back)) (member_size s) (members_size r) (length-append front (44 ∷ back))
 
 pub read_size : (bytes : List ℕ) (tree : Json) → Reads bytes tree → holders tree ≤ length bytes
 read_size bytes tree reads = padded_size reads.0

@@ -21,8 +21,9 @@ use Rattle.spec_schema.specs.Values.{Opened, text_passes, list_passes, object_pa
 use Rattle.spec_schema.specs.Layouts.{shape_in, rule_in, layout_in, says}
 use Rattle.spec_schema.specs.Forms.{taken_form, items_shape}
 use Rattle.spec_schema.specs.Tables.{must}
-use Rattle.vega_schema.specs.declared.codes.TheConstants.{SCALE, SCALE_DOMAIN, SHARE, CONTINUOUS_RANGE, DISCRETE_RANGE, ORDINAL_RANGE, RANGE_NUMBER, RANGE_ITEM, NOTHING}
-use Rattle.vega_schema.specs.declared.codes.TheConstants.{CONTINUOUS_NAMES, DISCRETE_NAMES, ORDINAL_NAMES}
+use Rattle.vega_schema.specs.declared.codes.TheConstants.{SCALE, SCALE_DOMAIN, SHARE, CONTINUOUS_RANGE, DISCRETE_RANGE, ORDINAL_RANGE}
+use Rattle.vega_schema.specs.declared.codes.TheConstants.{RANGE_NUMBER, RANGE_ITEM, NOTHING, CONTINUOUS_NAMES, DISCRETE_NAMES}
+use Rattle.vega_schema.specs.declared.codes.TheConstants.{ORDINAL_NAMES}
 use Rattle.vega_schema.specs.Schema.{vega_schema}
 use Rattle.vega_schema.specs.Shapes.{leaves, named, lists, objects, MAX_LENGTH}
 use Rattle.vega_schema.specs.Words.{continuous_names, discrete_names, ordinal_names}
@@ -85,7 +86,8 @@ pixel round i v n is s =
     let P : Opened → Type 0 = λ o. IfSome (number_in o) IsPixel in
     subst P is (place round i v s)
 
-two_places : (round : Trail) (number shape : ℕ) (tree : Json) (items : List Json) (f : Form) → Stands round number shape tree → out-Json tree ≡ level.List items →
+two_places : (round : Trail) (number shape : ℕ) (tree : Json) (items : List Json) (f : Form) →
+    Stands round number shape tree → out-Json tree ≡ level.List items →
     taken_form vega_schema shape (level.List items) ≡ Some f → items_shape f ≡ Some RANGE_NUMBER → is_pair items ≡ true →
     (m : ℤ) × (n : ℤ) × (map cell_of items ≡ cell.Number m ∷ cell.Number n ∷ []) × IsPixel m × IsPixel n
 two_places round number shape tree [] f s is taken asks e = absurd cc
@@ -110,8 +112,10 @@ Named text = (r : Range) × (range_named text ≡ Some r) × IsPlaces r
 
 named_continuous : (t : List ℕ) → among continuous_names t ≡ true → Named t
 unfolding continuous_names
-named_continuous t e = among_each Named continuous_names t
-    ((range.Width, refl, record { fits = refl; ends = tt }), ((range.Height, refl, record { fits = refl; ends = tt }), ((range.Ramp, refl, record { fits = refl; ends = tt }), tt))) e
+named_continuous t e = among_each Named continuous_names t (
+  (range.Width, refl, record { fits = refl; ends = tt }),
+  ((range.Height, refl, record { fits = refl; ends = tt }), ((range.Ramp, refl, record { fits = refl; ends = tt }), tt)),
+) e
 
 -- the range of a band has no ramp
 pub record IsPlain (r : Range) : Type 0 where
@@ -146,7 +150,8 @@ unfolding vega_schema leaves named lists objects
 discrete_forms o f e = either_form _ _ _ _ f e
 
 ordinal_forms : (o : Opened) (f : Form) → taken_form vega_schema ORDINAL_RANGE o ≡ Some f →
-    ((list_passes (has_length 1 MAX_LENGTH) o ≡ true) × (form.List 1 MAX_LENGTH RANGE_ITEM ≡ f)) ⊎ ((text_passes (among ordinal_names) o ≡ true) × (form.Name ORDINAL_NAMES ≡ f))
+    ((list_passes (has_length 1 MAX_LENGTH) o ≡ true) × (form.List 1 MAX_LENGTH RANGE_ITEM ≡ f))
+    ⊎ ((text_passes (among ordinal_names) o ≡ true) × (form.Name ORDINAL_NAMES ≡ f))
 unfolding vega_schema leaves named lists objects
 ordinal_forms o f e = either_form _ _ _ _ f e
 
@@ -234,7 +239,8 @@ pub record ScaleRules (l : Layout) : Type 0 where
   pub inner : shape_in l (codes "paddingInner") ≡ Some SHARE
   pub outer : shape_in l (codes "paddingOuter") ≡ Some SHARE
 
-built_by : (kind : ℕ) (r : Range) (d : Bool) → fits_range kind r ≡ true → d ≡ true → (fits_range kind r && (not (kind == 2 || (kind == 3 || kind == 4)) || d)) ≡ true
+built_by : (kind : ℕ) (r : Range) (d : Bool) → fits_range kind r ≡ true → d ≡ true →
+    (fits_range kind r && (not (kind == 2 || (kind == 3 || kind == 4)) || d)) ≡ true
 built_by kind r d fits built = rw (fits, built) (or_true (not (kind == 2 || (kind == 3 || kind == 4))))
   where
     or_true : (b : Bool) → (b || true) ≡ true
@@ -256,7 +262,8 @@ module _ (trail : Trail) (l : Layout) (ms : List Member) (s : StandsObject trail
       let r : ReadAs (FitsKind kind) (out-Json v.0) = reads stands.0 v.0 stands.1 in
       let ranged : needed_range ms (codes "range") ≡ r.0 =
       ap (λ o. unwrap_or (option_and_then (λ tree. range_in (out-Json tree)) o) (range.Cells [])) v.1 ∙ ap (λ o. unwrap_or o (range.Cells [])) r.1 in
-      let dom : IsTrue (is_domain_built (scale_of ms).domain) = domain_or _ (reads_kept (λ d. IsTrue (is_domain_built d)) domain_in trail l ms (codes "domain") SCALE_DOMAIN s rules.domain (λ i v t. domain_kept trail i v t)) in
+      let dom : IsTrue (is_domain_built (scale_of ms).domain) = domain_or _ (reads_kept (λ d. IsTrue (is_domain_built d)) domain_in trail l ms
+      (codes "domain") SCALE_DOMAIN s rules.domain (λ i v t. domain_kept trail i v t)) in
       let F : Range → Type 0 = FitsKind kind in
       let fits : FitsKind kind (needed_range ms (codes "range")) = subst F (sym ranged) r.2 in
       let K : ℕ → Type 0 = λ k. FitsKind k (needed_range ms (codes "range")) in
@@ -294,7 +301,8 @@ and_true false e = absurd cc
 
 -- which of the layouts it is
 by_layouts : (P : Layout → Type 0) (a b c d e : Bool) (la lb lc ld le ln l : Layout) →
-    cond (a && true) (Some la) (cond (b && true) (Some lb) (cond (c && true) (Some lc) (cond (d && true) (Some ld) (cond (e && true) (Some le) (Some ln))))) ≡ Some l →
+    cond (a && true) (Some la)
+    (cond (b && true) (Some lb) (cond (c && true) (Some lc) (cond (d && true) (Some ld) (cond (e && true) (Some le) (Some ln))))) ≡ Some l →
     (a ≡ true → P la) → (b ≡ true → P lb) → (c ≡ true → P lc) → (d ≡ true → P ld) → (e ≡ true → P le) → P ln → P l
 by_layouts P true b c d e la lb lc ld le ln l is pa pb pc pd pe pn = let same : la ≡ l = cc in subst P same (pa refl)
 by_layouts P false true c d e la lb lc ld le ln l is pa pb pc pd pe pn = let same : lb ≡ l = cc in subst P same (pb refl)
@@ -349,7 +357,8 @@ module _ (trail : Trail) (ms : List Member) where
   no_kind : Keeps no_scale
   unfolding no_scale
   no_kind s =
-      let v : (v : Json) × (member_value ms (codes "type") ≡ Some v) = required trail no_scale ms (codes "type") (must (codes "type") NOTHING) s refl refl refl in
+      let v : (v : Json) × (member_value ms (codes "type") ≡ Some v) =
+      required trail no_scale ms (codes "type") (must (codes "type") NOTHING) s refl refl refl in
       let stands : (i : ℕ) × Stands trail i NOTHING v.0 = found_as trail no_scale ms (codes "type") v.0 NOTHING s refl v.1 in
       absurd (nothing_stands trail stands.0 v.0 stands.1)
 
@@ -360,7 +369,8 @@ module _ (trail : Trail) (ms : List Member) where
       sort_by_operation sort_by_cells rect_mark symbol_mark line_mark area_mark rule_mark text_mark mark_from group_from facet cross
       encode no_mark channel_members value words_value size_signal group_encode group_channels size_value
   by_scale l e = by_layouts Keeps (list_any (says (codes "type") (codes "linear")) ms) (list_any (says (codes "type") (codes "time")) ms)
-      (list_any (says (codes "type") (codes "band")) ms) (list_any (says (codes "type") (codes "point")) ms) (list_any (says (codes "type") (codes "ordinal")) ms)
+      (list_any (says (codes "type") (codes "band")) ms) (list_any (says (codes "type") (codes "point")) ms)
+      (list_any (says (codes "type") (codes "ordinal")) ms)
       linear_scale time_scale band_scale point_scale ordinal_scale no_scale l e kept_linear kept_time kept_band kept_point kept_ordinal no_kind
 
 scale_taken : (o : Opened) (f : Form) → taken_form vega_schema SCALE o ≡ Some f →

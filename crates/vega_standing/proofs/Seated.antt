@@ -40,8 +40,10 @@ pub record Seat (tree : Json) (round : Trail) (number shape : ℕ) (v : Json) : 
 pub top_seat : (tree : Json) → Stands [] 0 TOP tree → Seat tree [] 0 TOP tree
 top_seat tree s = record { stands = s; at = refl; among = λ p i. i }
 
-child_seat : (tree : Json) (round : Trail) (number shape : ℕ) (v : Json) (k inner : ℕ) (w : Json) → Seat tree round number shape v → child_of shape v k ≡ Some (inner, w) →
-    Stands (noted number shape v ∷ round) k inner w → ((p : Part) → In p (parts_in (noted number shape v ∷ round) k inner w) → In p (parts_in round number shape v)) →
+child_seat : (tree : Json) (round : Trail) (number shape : ℕ) (v : Json) (k inner : ℕ) (w : Json) →
+    Seat tree round number shape v → child_of shape v k ≡ Some (inner, w) →
+    Stands (noted number shape v ∷ round) k inner w →
+    ((p : Part) → In p (parts_in (noted number shape v ∷ round) k inner w) → In p (parts_in round number shape v)) →
     Seat tree (noted number shape v ∷ round) k inner w
 child_seat tree round number shape v k inner w s is stands inside = record {
   stands = stands;
@@ -52,7 +54,8 @@ child_seat tree round number shape v k inner w s is stands inside = record {
 }
 
 -- what a value gives itself is among all parts
-pub own_among : (tree : Json) (round : Trail) (number shape : ℕ) (v : Json) (rest : List Part) → Seat tree round number shape v → parts_in round number shape v ≡ parts_at (noted number shape v ∷ round) v ++ rest →
+pub own_among : (tree : Json) (round : Trail) (number shape : ℕ) (v : Json) (rest : List Part) → Seat tree round number shape v →
+    parts_in round number shape v ≡ parts_at (noted number shape v ∷ round) v ++ rest →
     (p : Part) → In p (parts_at (noted number shape v ∷ round) v) → In p (parts_of tree)
 own_among tree round number shape v rest s is p i = s.among p (subst (In p) (sym is) (in_front p (parts_at (noted number shape v ∷ round) v) rest i))
 
@@ -76,7 +79,8 @@ module _ (tree : Json) (round : Trail) (number shape : ℕ) (v : Json) (s : Seat
   abbrev trail : Trail
   trail = noted number shape v ∷ round
 
-  items_seated : (inner n : ℕ) (items : List Json) → EachFrom (λ i w. Stands trail i inner w) n items → ((k : ℕ) (w : Json) → slice_get items k ≡ Some w → child_of shape v (n + k) ≡ Some (inner, w)) →
+  items_seated : (inner n : ℕ) (items : List Json) → EachFrom (λ i w. Stands trail i inner w) n items →
+      ((k : ℕ) (w : Json) → slice_get items k ≡ Some w → child_of shape v (n + k) ≡ Some (inner, w)) →
       ((p : Part) → In p (parts_of_items trail inner n items) → In p (parts_in round number shape v)) → EachFrom (λ i w. Seat tree trail i inner w) n items
   items_seated inner n [] each child inside = tt
   items_seated inner n (w ∷ items) each child inside = (
@@ -87,7 +91,8 @@ module _ (tree : Json) (round : Trail) (number shape : ℕ) (v : Json) (s : Seat
   )
 
   -- the items of a list stand in the tree
-  pub seated_items : (inner : ℕ) → ((o : Opened) (f : Form) → taken_form vega_schema shape o ≡ Some f → (list_passes (has_length 0 MAX_LENGTH) o ≡ true) × (form.List 0 MAX_LENGTH inner ≡ f)) →
+  pub seated_items : (inner : ℕ) → ((o : Opened) (f : Form) → taken_form vega_schema shape o ≡ Some f →
+      (list_passes (has_length 0 MAX_LENGTH) o ≡ true) × (form.List 0 MAX_LENGTH inner ≡ f)) →
       SeatedItems tree round number shape inner v
   seated_items inner taken =
       let l : Listed round number shape inner v = listed_as round number shape inner v s.stands taken in
@@ -116,7 +121,8 @@ module _ (tree : Json) (round : Trail) (number shape : ℕ) (v : Json) (s : Seat
         (
           each.0.0,
           each.0.1,
-          child_seat tree round number shape v n each.0.0 m.value s (subst (λ i. child_of shape v i ≡ Some (each.0.0, m.value)) (none n) (child zero m each.0.0 refl each.0.1)) each.0.2
+          child_seat tree round number shape v n each.0.0 m.value s
+              (subst (λ i. child_of shape v i ≡ Some (each.0.0, m.value)) (none n) (child zero m each.0.0 refl each.0.1)) each.0.2
               (λ p i. inside p (in_front p here (parts_of_members trail l (n + 1) ms) (subst (In p) is i))),
         ),
         members_seated l (n + 1) ms each.1 (λ k x inner e r. subst (λ i. child_of shape v i ≡ Some (inner, x.value)) (further n k) (child (suc k) x inner e r))
@@ -129,7 +135,8 @@ module _ (tree : Json) (round : Trail) (number shape : ℕ) (v : Json) (s : Seat
 
   -- the members of an object stand in the tree
   pub seated_object : (object : ℕ) (ms : List Member) → out-Json v ≡ level.Object ms →
-      ((f : Form) → taken_form vega_schema shape (level.Object ms) ≡ Some f → (is_some (layout_in vega_schema object ms) ≡ true) × (form.Object object ≡ f)) → SeatedObject object ms
+      ((f : Form) → taken_form vega_schema shape (level.Object ms) ≡ Some f →
+      (is_some (layout_in vega_schema object ms) ≡ true) × (form.Object object ≡ f)) → SeatedObject object ms
   seated_object object ms is taken =
       let l : Laid round number shape object v ms = laid_out round number shape object v ms s.stands is taken in
       let f = formed shape v s.stands.fine in
@@ -143,12 +150,14 @@ module _ (tree : Json) (round : Trail) (number shape : ℕ) (v : Json) (s : Seat
       }
 
   -- what a name leads to
-  pub seat_from : (l : Layout) (n : ℕ) (ms : List Member) (name : List ℕ) (inner : ℕ) (w : Json) → EachFrom (SeatedMember l) n ms → shape_in l name ≡ Some inner → member_value ms name ≡ Some w →
+  pub seat_from : (l : Layout) (n : ℕ) (ms : List Member) (name : List ℕ) (inner : ℕ) (w : Json) →
+      EachFrom (SeatedMember l) n ms → shape_in l name ≡ Some inner → member_value ms name ≡ Some w →
       (i : ℕ) × Seat tree trail i inner w
   seat_from l n [] name inner w each ruled e = absurd cc
   seat_from l n (m ∷ ms) name inner w each ruled e = by_name (bytes_eq m.name name) refl e (seat_from l (n + 1) ms name inner w each.1 ruled)
     where
-      by_name : (b : Bool) → bytes_eq m.name name ≡ b → option_map (λ (m : Member). m.value) (cond b (Some m) (find (λ (m : Member). bytes_eq m.name name) ms)) ≡ Some w →
+      by_name : (b : Bool) → bytes_eq m.name name ≡ b →
+          option_map (λ (m : Member). m.value) (cond b (Some m) (find (λ (m : Member). bytes_eq m.name name) ms)) ≡ Some w →
           (member_value ms name ≡ Some w → (i : ℕ) × Seat tree trail i inner w) → (i : ℕ) × Seat tree trail i inner w
       by_name true same f rest =
           let named : m.name ≡ name = (bytes_eq-Decides m.name name).0 same in
@@ -159,14 +168,18 @@ module _ (tree : Json) (round : Trail) (number shape : ℕ) (v : Json) (s : Seat
       by_name false same f rest = rest f
 
   -- the same with the number of the first member of the name
-  pub seat_numbered : (l : Layout) (n : ℕ) (ms : List Member) (name : List ℕ) (inner : ℕ) (c : ℕ × Json) → EachFrom (SeatedMember l) n ms → shape_in l name ≡ Some inner →
-      option_map (λ (m : ℕ × Member). (m.0, m.1.value)) (find (λ (m : ℕ × Member). bytes_eq m.1.name name) (enumerate_from n ms)) ≡ Some c → Seat tree trail c.0 inner c.1
+  pub seat_numbered : (l : Layout) (n : ℕ) (ms : List Member) (name : List ℕ) (inner : ℕ) (c : ℕ × Json) →
+      EachFrom (SeatedMember l) n ms → shape_in l name ≡ Some inner →
+      option_map (λ (m : ℕ × Member). (m.0, m.1.value)) (find (λ (m : ℕ × Member). bytes_eq m.1.name name) (enumerate_from n ms)) ≡ Some c →
+      Seat tree trail c.0 inner c.1
   seat_numbered l n [] name inner c each ruled e = absurd cc
   seat_numbered l n (m ∷ ms) name inner c each ruled e = by_name (bytes_eq m.name name) refl e (seat_numbered l (n + 1) ms name inner c each.1 ruled)
     where
       by_name : (b : Bool) → bytes_eq m.name name ≡ b →
-          option_map (λ (m : ℕ × Member). (m.0, m.1.value)) (cond b (Some (n, m)) (find (λ (m : ℕ × Member). bytes_eq m.1.name name) (enumerate_from (n + 1) ms))) ≡ Some c →
-          (option_map (λ (m : ℕ × Member). (m.0, m.1.value)) (find (λ (m : ℕ × Member). bytes_eq m.1.name name) (enumerate_from (n + 1) ms)) ≡ Some c → Seat tree trail c.0 inner c.1) →
+          option_map (λ (m : ℕ × Member). (m.0, m.1.value))
+          (cond b (Some (n, m)) (find (λ (m : ℕ × Member). bytes_eq m.1.name name) (enumerate_from (n + 1) ms))) ≡ Some c →
+          (option_map (λ (m : ℕ × Member). (m.0, m.1.value)) (find (λ (m : ℕ × Member). bytes_eq m.1.name name) (enumerate_from (n + 1) ms))
+          ≡ Some c → Seat tree trail c.0 inner c.1) →
           Seat tree trail c.0 inner c.1
       by_name true same f rest =
           let named : m.name ≡ name = (bytes_eq-Decides m.name name).0 same in
@@ -177,7 +190,8 @@ module _ (tree : Json) (round : Trail) (number shape : ℕ) (v : Json) (s : Seat
       by_name false same f rest = rest f
 
   -- a text under a name stands in the tree by its number
-  pub text_seat : (l : Layout) (ms : List Member) (name : List ℕ) (inner : ℕ) (m : ℕ × List ℕ) → EachFrom (SeatedMember l) 0 ms → shape_in l name ≡ Some inner → out-Json v ≡ level.Object ms →
+  pub text_seat : (l : Layout) (ms : List Member) (name : List ℕ) (inner : ℕ) (m : ℕ × List ℕ) →
+      EachFrom (SeatedMember l) 0 ms → shape_in l name ≡ Some inner → out-Json v ≡ level.Object ms →
       part_text name v ≡ Some m → (w : Json) × Seat tree trail m.0 inner w
   text_seat l ms name inner m each ruled is e =
       by_member (member_at name v) refl e
@@ -186,7 +200,8 @@ module _ (tree : Json) (round : Trail) (number shape : ℕ) (v : Json) (s : Seat
       by_text c None f = absurd cc
       by_text c (Some x) f = ap (λ o. option_map_or (λ (m : ℕ × List ℕ). m.0) o 0) f
 
-      by_member : (o : Option (ℕ × Json)) → member_at name v ≡ o → option_and_then (λ (m : ℕ × Json). option_map (λ text. (m.0, text)) (text_in (out-Json m.1))) o ≡ Some m →
+      by_member : (o : Option (ℕ × Json)) → member_at name v ≡ o →
+          option_and_then (λ (m : ℕ × Json). option_map (λ text. (m.0, text)) (text_in (out-Json m.1))) o ≡ Some m →
           (w : Json) × Seat tree trail m.0 inner w
       by_member None same f = absurd cc
       by_member (Some c) same f =

@@ -13,7 +13,8 @@ use Rattle.expr_reading.specs.Readings.{call_of}
 use Rattle.vega_parts.specs.declared.updates.Change.{Change}
 use Rattle.vega_parts.specs.declared.updates.Change.TheVariants.{Point, Toggle, Clear, Interval}
 use Rattle.vega_parts.specs.declared.updates.Update.{Update}
-use Rattle.vega_parts.specs.Updates.{change_named, takes, update_by, update_in, update_of, fields_of, is_point, is_toggle, is_click, is_drag, mix, are_clicks, same_fields, clash}
+use Rattle.vega_parts.specs.Updates.{change_named, takes, update_by, update_in, update_of, fields_of, is_point, is_toggle, is_click}
+use Rattle.vega_parts.specs.Updates.{is_drag, mix, are_clicks, same_fields, clash}
 use Rattle.vega_spec.specs.declared.signals.EventSelector.{EventSelector}
 use Rattle.vega_spec.specs.declared.signals.EventSelector.TheVariants as on
 use Rattle.vega_spec.specs.declared.signals.EventUpdate.{EventUpdate}
@@ -55,7 +56,8 @@ some_then P f each (Some x) = each x
 -- an update has the texts of its call
 arguments_are : (name : List ℕ) (arguments : List (List ℕ)) → IfSome (update_in name arguments) (λ (u : Update). u.arguments ≡ arguments)
 arguments_are name arguments =
-    some_then (λ (u : Update). u.arguments ≡ arguments) (update_by arguments) (λ change. some_if (λ (u : Update). u.arguments ≡ arguments) (takes change (length arguments)) _ refl)
+    some_then (λ (u : Update). u.arguments ≡ arguments) (update_by arguments)
+    (λ change. some_if (λ (u : Update). u.arguments ≡ arguments) (takes change (length arguments)) _ refl)
     (change_named name)
 
 -- so the texts of an entry are those of its update
@@ -137,7 +139,8 @@ clashes_are : (e f : EventUpdate) (u v : Update) → update_of e.update ≡ Some
 clashes_are e f u v is at = λ i. option_map_or (λ u. option_map_or (λ v. clash u v) (at i) false) (is i) false
 
 -- two with other selectors don't clash
-apart : (es : List EventUpdate) → AreUpdates [] es → (e f : EventUpdate) (u v : Update) → In e es → In f es → update_of e.update ≡ Some u → update_of f.update ≡ Some v →
+apart : (es : List EventUpdate) → AreUpdates [] es → (e f : EventUpdate) (u v : Update) →
+    In e es → In f es → update_of e.update ≡ Some u → update_of f.update ≡ Some v →
     (number_by u.change ≡ number_by v.change → ⊥) → clash u v ≡ false
 apart es a e f u v i j is at other = by_place (beside [] es a e f i j)
   where
@@ -219,11 +222,13 @@ or_true false x e = absurd cc
 once_behind_all : (q : List ℕ) (before names : List (List ℕ)) →
     (list_any (bytes_eq q) before || list_any (bytes_eq q) (once_behind before names)) ≡ (list_any (bytes_eq q) before || list_any (bytes_eq q) names)
 once_behind_all q before [] = refl
-once_behind_all q before (name ∷ names) = by_test (list_any (bytes_eq name) before) refl (once_behind_all q before names) (once_behind_all q (before ++ name ∷ []) names)
+once_behind_all q before (name ∷ names) =
+    by_test (list_any (bytes_eq name) before) refl (once_behind_all q before names) (once_behind_all q (before ++ name ∷ []) names)
   where
     known : (t : Bool) → bytes_eq q name ≡ t → list_any (bytes_eq name) before ≡ true →
         (list_any (bytes_eq q) before || list_any (bytes_eq q) (once_behind before names)) ≡ (list_any (bytes_eq q) before || list_any (bytes_eq q) names) →
-        (list_any (bytes_eq q) before || list_any (bytes_eq q) (once_behind before names)) ≡ (list_any (bytes_eq q) before || (t || list_any (bytes_eq q) names))
+        (list_any (bytes_eq q) before || list_any (bytes_eq q) (once_behind before names))
+        ≡ (list_any (bytes_eq q) before || (t || list_any (bytes_eq q) names))
     known true same there e =
         let is : q ≡ name = (bytes_eq-Decides q name).0 same in
         let here : list_any (bytes_eq q) before ≡ true = ap (λ n. list_any (bytes_eq n) before) is ∙ there in
@@ -239,7 +244,8 @@ once_behind_all q before (name ∷ names) = by_test (list_any (bytes_eq name) be
         ≡ (list_any (bytes_eq q) before || (bytes_eq q name || list_any (bytes_eq q) names))
     by_test true there e f = known (bytes_eq q name) refl there e
     by_test false new e f =
-        or_later (list_any (bytes_eq q) before) (bytes_eq q name) (list_any (bytes_eq q) (once_behind (before ++ name ∷ []) names)) (list_any (bytes_eq q) names)
+        or_later (list_any (bytes_eq q) before) (bytes_eq q name)
+        (list_any (bytes_eq q) (once_behind (before ++ name ∷ []) names)) (list_any (bytes_eq q) names)
         (subst (λ b. (b || list_any (bytes_eq q) (once_behind (before ++ name ∷ []) names)) ≡ (b || list_any (bytes_eq q) names))
         (list_any-append (bytes_eq q) before (name ∷ [])) f)
 
@@ -247,14 +253,16 @@ once_behind_all q before (name ∷ names) = by_test (list_any (bytes_eq name) be
 once_all : (q : List ℕ) (names : List (List ℕ)) → list_any (bytes_eq q) (each_once names) ≡ list_any (bytes_eq q) names
 once_all q names = once_behind_all q [] names
 
-goes : (q : List ℕ) (xs ys : List (List ℕ)) → list_all (λ x. list_any (bytes_eq x) ys) xs ≡ true → list_any (bytes_eq q) xs ≡ true → list_any (bytes_eq q) ys ≡ true
+goes : (q : List ℕ) (xs ys : List (List ℕ)) → list_all (λ x. list_any (bytes_eq x) ys) xs ≡ true →
+    list_any (bytes_eq q) xs ≡ true → list_any (bytes_eq q) ys ≡ true
 goes q [] ys all e = absurd cc
 goes q (x ∷ xs) ys all e = by_test (bytes_eq q x) refl e (goes q xs ys parts.1)
   where
     parts : (list_any (bytes_eq x) ys ≡ true) × (list_all (λ x. list_any (bytes_eq x) ys) xs ≡ true)
     parts = and_parts (list_any (bytes_eq x) ys) (list_all (λ x. list_any (bytes_eq x) ys) xs) all
 
-    by_test : (b : Bool) → bytes_eq q x ≡ b → (b || list_any (bytes_eq q) xs) ≡ true → (list_any (bytes_eq q) xs ≡ true → list_any (bytes_eq q) ys ≡ true) → list_any (bytes_eq q) ys ≡ true
+    by_test : (b : Bool) → bytes_eq q x ≡ b → (b || list_any (bytes_eq q) xs) ≡ true →
+        (list_any (bytes_eq q) xs ≡ true → list_any (bytes_eq q) ys ≡ true) → list_any (bytes_eq q) ys ≡ true
     by_test true same f rest = ap (λ n. list_any (bytes_eq n) ys) ((bytes_eq-Decides q x).0 same) ∙ parts.0
     by_test false same f rest = rest f
 
@@ -293,7 +301,8 @@ not_false false e = absurd cc
 pub selection_kept : (marks : MarkNames) (s : Signal) (es : List EventUpdate) → AreUpdates [] es → IsSelection (selection_of marks s es)
 selection_kept marks s es a = record {
   alike = alike_by (texts_with on.ShiftClick es) (texts_with on.Click es)
-      (λ xs ys click toggle. not_false (same_fields xs ys) (no_clash es a on.Click on.ShiftClick xs ys click toggle (λ e. let f : 0 ≡ 1 = e in omega (arith, f))));
+      (λ xs ys click toggle. not_false (same_fields xs ys)
+      (no_clash es a on.Click on.ShiftClick xs ys click toggle (λ e. let f : 0 ≡ 1 = e in omega (arith, f))));
   apart = apart_by (texts_with on.Drag es) (texts_with on.Click es) (texts_with on.ShiftClick es)
       (λ xs ys drag click. let e : true ≡ false = no_clash es a on.Drag on.Click xs ys drag click (λ e. let f : 3 ≡ 0 = e in omega (arith, f)) in cc)
       (λ xs ys drag toggle. let e : true ≡ false = no_clash es a on.Drag on.ShiftClick xs ys drag toggle (λ e. let f : 3 ≡ 1 = e in omega (arith, f)) in cc);

@@ -55,7 +55,8 @@ use Rattle.vega_selections.specs.Marks.{MarkNames}
 use Rattle.vega_selections.specs.Selections.{selection_with, selection_in}
 use Rattle.vega_selections.specs.Kept.{selection_name, IsKept}
 use Rattle.vega_standing.proofs.Trees.{Each}
-use Rattle.vega_standing.proofs.Stands.{EachFrom, Stands, StandsMember, StandsObject, formed, quiet_here, quiet_parts, parts_in, parts_of_items, parts_of_members, parts_open}
+use Rattle.vega_standing.proofs.Stands.{EachFrom, Stands, StandsMember, StandsObject, formed, quiet_here, quiet_parts, parts_in}
+use Rattle.vega_standing.proofs.Stands.{parts_of_items, parts_of_members, parts_open}
 use Rattle.vega_standing.proofs.Shapes.{if_taken, form_taken}
 use Rattle.vega_standing.proofs.Members.{Laid, laid_out, opened_as, found_as, required, among_each}
 use Rattle.vega_standing.proofs.Transforms.{items_are}
@@ -99,15 +100,18 @@ items_heavy whole trail inner n [] each less = tt
 items_heavy whole trail inner n (v ∷ items) each less = (
   record {
     stands = each.0;
-    weighs = λ w. through (weight w (parts_in trail n inner v)) (weight w (parts_in trail n inner v ++ parts_of_items trail inner (n + 1) items)) (weight w whole)
+    weighs = λ w. through (weight w (parts_in trail n inner v))
+        (weight w (parts_in trail n inner v ++ parts_of_items trail inner (n + 1) items)) (weight w whole)
         (front_weighs w (parts_in trail n inner v) (parts_of_items trail inner (n + 1) items)) (less w);
   },
   items_heavy whole trail inner (n + 1) items each.1
-      (λ w. through (weight w (parts_of_items trail inner (n + 1) items)) (weight w (parts_in trail n inner v ++ parts_of_items trail inner (n + 1) items)) (weight w whole)
+      (λ w. through (weight w (parts_of_items trail inner (n + 1) items))
+      (weight w (parts_in trail n inner v ++ parts_of_items trail inner (n + 1) items)) (weight w whole)
       (back_weighs w (parts_in trail n inner v) (parts_of_items trail inner (n + 1) items)) (less w)),
 )
 
-member_heavy : (whole : List Part) (trail : Trail) (l : Layout) (n : ℕ) (ms : List Member) (name : List ℕ) (shape : ℕ) (v : Json) → EachFrom (StandsMember trail l) n ms →
+member_heavy : (whole : List Part) (trail : Trail) (l : Layout) (n : ℕ) (ms : List Member) (name : List ℕ) (shape : ℕ) (v : Json) →
+    EachFrom (StandsMember trail l) n ms →
     member_value ms name ≡ Some v → shape_in l name ≡ Some shape → ((w : Part → ℕ) → weight w (parts_of_members trail l n ms) ≤ weight w whole) →
     (k : ℕ) × Heavy whole trail k shape v
 member_heavy whole trail l n [] name shape v each e ruled less = absurd cc
@@ -122,7 +126,8 @@ member_heavy whole trail l n (m ∷ ms) name shape v each e ruled less =
     rest : List Part
     rest = parts_of_members trail l (n + 1) ms
 
-    by_name : (b : Bool) → bytes_eq m.name name ≡ b → option_map (λ (m : Member). m.value) (cond b (Some m) (find (λ (m : Member). bytes_eq m.name name) ms)) ≡ Some v →
+    by_name : (b : Bool) → bytes_eq m.name name ≡ b →
+        option_map (λ (m : Member). m.value) (cond b (Some m) (find (λ (m : Member). bytes_eq m.name name) ms)) ≡ Some v →
         (member_value ms name ≡ Some v → (k : ℕ) × Heavy whole trail k shape v) → (k : ℕ) × Heavy whole trail k shape v
     by_name true same f others =
         let name_is : m.name ≡ name = (bytes_eq-Decides m.name name).0 same in
@@ -133,7 +138,8 @@ member_heavy whole trail l n (m ∷ ms) name shape v each e ruled less =
         let heavy : Heavy whole trail n each.0.0 m.value =
         record {
           stands = each.0.2;
-          weighs = λ w. subst (λ ps. weight w ps ≤ weight w whole) (sym is) (through (weight w here) (weight w (here ++ rest)) (weight w whole) (front_weighs w here rest) (less w));
+          weighs = λ w. subst (λ ps. weight w ps ≤ weight w whole) (sym is)
+              (through (weight w here) (weight w (here ++ rest)) (weight w whole) (front_weighs w here rest) (less w));
         } in
         (n, subst (λ x. Heavy whole trail n shape x) valued (subst (λ c. Heavy whole trail n c m.value) shaped heavy))
     by_name false same f others = others f
@@ -231,9 +237,11 @@ items_selected : (x : List ℕ) (trail : Trail) (number n : ℕ) (items : List J
     times x (map events_of items) ≤ weight (one_given given_as.Selector (place_of trail) x) (flat_map (selector trail number) (enumerate_from n items))
 items_selected x trail number n [] each = omega arith
 items_selected x trail number n (item ∷ items) each =
-    more (one (bytes_eq x (events_of item))) (times x (map events_of items)) (weight (one_given given_as.Selector (place_of trail) x) (selector trail number (n, item)))
+    more (one (bytes_eq x (events_of item))) (times x (map events_of items))
+    (weight (one_given given_as.Selector (place_of trail) x) (selector trail number (n, item)))
     (weight (one_given given_as.Selector (place_of trail) x) (flat_map (selector trail number) (enumerate_from (n + 1) items))) _
-    (weight_append (one_given given_as.Selector (place_of trail) x) (selector trail number (n, item)) (flat_map (selector trail number) (enumerate_from (n + 1) items)))
+    (weight_append (one_given given_as.Selector (place_of trail) x) (selector trail number (n, item))
+    (flat_map (selector trail number) (enumerate_from (n + 1) items)))
     (one_selector x trail number n item each.0) (items_selected x trail number (n + 1) items each.1)
 
 -- ---- there are four at most
@@ -315,7 +323,8 @@ module _ (whole : List Part) (none : twice whole ≡ []) (round : Trail) (i : �
   selectors_weigh : (w : Part → ℕ) (n : ℕ) → n ≤ weight w (selectors trail t) → n ≤ weight w whole
   selectors_weigh w n less =
       through n (weight w (parts_in round i SIGNAL t)) (weight w whole)
-      (own_weighs w n (in_front w n (signal_itself trail t ++ selectors trail t) (update_parts trail t) (in_back w n (signal_itself trail t) (selectors trail t) less))) (h.weighs w)
+      (own_weighs w n (in_front w n (signal_itself trail t ++ selectors trail t) (update_parts trail t)
+      (in_back w n (signal_itself trail t) (selectors trail t) less))) (h.weighs w)
 
   names_weigh : (w : Part → ℕ) (n : ℕ) → n ≤ weight w (signal_names trail t) → n ≤ weight w (parts_in round i SIGNAL t)
   names_weigh w n less =
@@ -348,9 +357,11 @@ module _ (whole : List Part) (none : twice whole ≡ []) (round : Trail) (i : �
         let each : Each IsEntry l.items = all_entries (noted there.0 ON_LIST list ∷ trail) 0 l.items l.each in
         let found : found_at items_in ms (codes "on") ≡ Some l.items = ap (λ o. option_and_then (λ v. items_in (out-Json v)) o) e ∙ ap items_in l.is_list in
         let told : option_map (λ (m : ℕ × List Json). m.1) (items_at (codes "on") t) ≡ Some l.items = items_are t ms is (codes "on") ∙ found in
-        subst (λ (x : Option (List EventUpdate)). IfSome x (λ es. AreUpdates [] es)) (sym (ap (option_map (map built)) found)) (by_items l.items each (items_at (codes "on") t) refl told)
+        subst (λ (x : Option (List EventUpdate)). IfSome x (λ es. AreUpdates [] es))
+        (sym (ap (option_map (map built)) found)) (by_items l.items each (items_at (codes "on") t) refl told)
       where
-        by_items : (items : List Json) → Each IsEntry items → (m : Option (ℕ × List Json)) → items_at (codes "on") t ≡ m → option_map (λ (m : ℕ × List Json). m.1) m ≡ Some items →
+        by_items : (items : List Json) → Each IsEntry items → (m : Option (ℕ × List Json)) →
+            items_at (codes "on") t ≡ m → option_map (λ (m : ℕ × List Json). m.1) m ≡ Some items →
             AreUpdates [] (map built items)
         by_items items each None at same = absurd cc
         by_items items each (Some m) at same =
@@ -362,7 +373,8 @@ module _ (whole : List Part) (none : twice whole ≡ []) (round : Trail) (i : �
       where
         by_value : (v : Option Json) → member_value ms (codes "on") ≡ v → SaysUpdates (signal_of ms)
         by_value None e =
-            subst (λ (x : Option (List EventUpdate)). IfSome x (λ es. AreUpdates [] es)) (sym (ap (λ v. option_map (map built) (option_and_then (λ tree. items_in (out-Json tree)) v)) e)) tt
+            subst (λ (x : Option (List EventUpdate)). IfSome x (λ es. AreUpdates [] es))
+            (sym (ap (λ v. option_map (map built) (option_and_then (λ tree. items_in (out-Json tree)) v)) e)) tt
         by_value (Some list) e = on_clean list e
 
     -- its name is given in the object that is its scope
@@ -374,10 +386,12 @@ module _ (whole : List Part) (none : twice whole ≡ []) (round : Trail) (i : �
         let text : text_at ms (codes "name") ≡ Some y.0 = ap (λ o. option_and_then (λ v. text_in (out-Json v)) o) v.1 ∙ y.1 in
         let named : needed_text ms (codes "name") ≡ y.0 = ap (λ o. unwrap_or o []) text in
         subst (λ n. one (bytes_eq x n) ≤ weight (one_given given_as.Signal (scope_of trail) x) (parts_in round i SIGNAL t)) (sym named)
-        (names_weigh (one_given given_as.Signal (scope_of trail) x) (one (bytes_eq x y.0)) (by_text y.0 (part_text (codes "name") t) (texts_are t ms is (codes "name") ∙ text)))
+        (names_weigh (one_given given_as.Signal (scope_of trail) x) (one (bytes_eq x y.0))
+        (by_text y.0 (part_text (codes "name") t) (texts_are t ms is (codes "name") ∙ text)))
       where
         by_text : (n : List ℕ) (m : Option (ℕ × List ℕ)) → option_map (λ (m : ℕ × List ℕ). m.1) m ≡ Some n →
-            one (bytes_eq x n) ≤ weight (one_given given_as.Signal (scope_of trail) x) (option_map_or (λ (m : ℕ × List ℕ). signal_name trail m ++ store_name trail t m) m [])
+            one (bytes_eq x n) ≤ weight (one_given given_as.Signal (scope_of trail) x)
+            (option_map_or (λ (m : ℕ × List ℕ). signal_name trail m ++ store_name trail t m) m [])
         by_text n None same = absurd cc
         by_text n (Some m) same =
             let text : m.1 ≡ n = cc in
@@ -403,7 +417,8 @@ module _ (whole : List Part) (none : twice whole ≡ []) (round : Trail) (i : �
       let same : members_of t ≡ ms.0 = ap (λ o. unwrap_or (members_in o) []) ms.1 in
       record {
         updates = subst (λ m. SaysUpdates (signal_of m)) (sym same) (signal_says ms.0 ms.1 o);
-        name = λ x. subst (λ m. one (bytes_eq x (signal_of m).name) ≤ weight (one_given given_as.Signal (scope_of trail) x) (parts_in round i SIGNAL t)) (sym same)
+        name = λ x. subst
+            (λ m. one (bytes_eq x (signal_of m).name) ≤ weight (one_given given_as.Signal (scope_of trail) x) (parts_in round i SIGNAL t)) (sym same)
             (name_weighs ms.0 ms.1 o x);
       }
 
@@ -436,7 +451,8 @@ module _ (whole : List Part) (none : twice whole ≡ []) (tree : Json) where
     each_named x n [] each = tt
     each_named x n (t ∷ items) each = ((is_said whole none in_list n t each.0).name x, each_named x (n + 1) items each.1)
 
-    names_total : (x : List ℕ) (items : List Json) → times x (map (λ (s : Signal). s.name) (signals_said items)) ≡ total (λ t. one (bytes_eq x (signal_of (members_of t)).name)) items
+    names_total : (x : List ℕ) (items : List Json) →
+        times x (map (λ (s : Signal). s.name) (signals_said items)) ≡ total (λ t. one (bytes_eq x (signal_of (members_of t)).name)) items
     names_total x [] = refl
     names_total x (t ∷ items) = ap (λ n. one (bytes_eq x (signal_of (members_of t)).name) + n) (names_total x items)
 
@@ -446,7 +462,8 @@ module _ (whole : List Part) (none : twice whole ≡ []) (tree : Json) where
         let l : Listed at_top k SIGNALS SIGNAL list = listed_as at_top k SIGNALS SIGNAL list h.stands signals_taken in
         let behind : (w : Part → ℕ) → weight w (parts_of_items in_list SIGNAL 0 l.items) ≤ weight w whole =
         λ w. through (weight w (parts_of_items in_list SIGNAL 0 l.items)) (weight w (parts_in at_top k SIGNALS list)) (weight w whole)
-        (subst (λ ps. weight w (parts_of_items in_list SIGNAL 0 l.items) ≤ weight w ps) (sym l.parts) (back_weighs w (parts_at in_list list) (parts_of_items in_list SIGNAL 0 l.items)))
+        (subst (λ ps. weight w (parts_of_items in_list SIGNAL 0 l.items) ≤ weight w ps) (sym l.parts)
+        (back_weighs w (parts_at in_list list) (parts_of_items in_list SIGNAL 0 l.items)))
         (h.weighs w) in
         let each : EachFrom (λ i t. Heavy whole in_list i SIGNAL t) 0 l.items = items_heavy whole in_list SIGNAL 0 l.items l.each behind in
         let here : unwrap_or signals [] ≡ signals_said l.items =
@@ -456,9 +473,11 @@ module _ (whole : List Part) (none : twice whole ≡ []) (tree : Json) where
           updates = each_updates 0 l.items each;
           names = λ x. subst (λ n. n ≤ 1) (sym (names_total x l.items))
               (through (total (λ t. one (bytes_eq x (signal_of (members_of t)).name)) l.items) (weight (one_given given_as.Signal [] x) whole) 1
-              (through (total (λ t. one (bytes_eq x (signal_of (members_of t)).name)) l.items) (weight (one_given given_as.Signal [] x) (parts_of_items in_list SIGNAL 0 l.items))
+              (through (total (λ t. one (bytes_eq x (signal_of (members_of t)).name)) l.items)
+              (weight (one_given given_as.Signal [] x) (parts_of_items in_list SIGNAL 0 l.items))
               (weight (one_given given_as.Signal [] x) whole)
-              (items_weigh (one_given given_as.Signal [] x) (λ t. one (bytes_eq x (signal_of (members_of t)).name)) in_list SIGNAL 0 l.items (each_named x 0 l.items each))
+              (items_weigh (one_given given_as.Signal [] x) (λ t. one (bytes_eq x (signal_of (members_of t)).name))
+              in_list SIGNAL 0 l.items (each_named x 0 l.items each))
               (behind (one_given given_as.Signal [] x)))
               (given_once given_as.Signal [] single_signal x whole none));
         })
@@ -497,13 +516,16 @@ names_of_selections : (x : List ℕ) (marks : MarkNames) (signals : List Signal)
 names_of_selections x marks [] = omega arith
 names_of_selections x marks (s ∷ signals) = by_on s.on (names_of_selections x marks signals)
   where
-    by_on : (o : Option (List EventUpdate)) → times x (map selection_name (filter_map (selection_in marks) signals)) ≤ times x (map (λ (s : Signal). s.name) signals) →
+    by_on : (o : Option (List EventUpdate)) →
+        times x (map selection_name (filter_map (selection_in marks) signals)) ≤ times x (map (λ (s : Signal). s.name) signals) →
         times x (map selection_name (cons_option (option_map (selection_with marks s) o) (filter_map (selection_in marks) signals)))
         ≤ one (bytes_eq x s.name) + times x (map (λ (s : Signal). s.name) signals)
     by_on None less =
-        more_or_less (times x (map selection_name (filter_map (selection_in marks) signals))) (times x (map (λ (s : Signal). s.name) signals)) (one (bytes_eq x s.name)) less
+        more_or_less (times x (map selection_name (filter_map (selection_in marks) signals)))
+        (times x (map (λ (s : Signal). s.name) signals)) (one (bytes_eq x s.name)) less
     by_on (Some es) less =
-        one_less (times x (map selection_name (filter_map (selection_in marks) signals))) (times x (map (λ (s : Signal). s.name) signals)) (one (bytes_eq x s.name)) less
+        one_less (times x (map selection_name (filter_map (selection_in marks) signals)))
+        (times x (map (λ (s : Signal). s.name) signals)) (one (bytes_eq x s.name)) less
 
 all_kept : (marks : MarkNames) (signals : List Signal) → Each SaysUpdates signals → All IsKept (filter_map (selection_in marks) signals)
 all_kept marks [] each = All-nil IsKept

@@ -42,7 +42,8 @@ a_set whole round j d scope x s in_scope at = record {
   quiet_front = s.quiet_before;
   quiet_between = s.quiet_source;
   quiet_back = s.quiet_behind;
-  made = s.parts ∙ (λ i. set_list (in_scope i) (at i) s.name_number (data_set_of (members_of d)).name s.before_source s.source s.behind_source (parts_of_items s.list_trail TRANSFORM 0 s.items) s.behind);
+  made = s.parts ∙ (λ i. set_list (in_scope i) (at i) s.name_number (data_set_of (members_of d)).name s.before_source s.source
+      s.behind_source (parts_of_items s.list_trail TRANSFORM 0 s.items) s.behind);
   source_is = s.source_is;
   multiplied = λ known few none.
       let m = all_multiplied whole known s.list_trail 0 s.items x s.each (λ i v. s.of_set i v ∙ at) few none in
@@ -55,8 +56,10 @@ a_set whole round j d scope x s in_scope at = record {
 }
 
 -- what all kinds of parts of a data set keep
-pub set_keeps : (P : Part → Type 0) (whole : List Part) (scope x : List ℕ) (parts : List Part) (set : DataSet) → ASet whole scope x parts set → ((p : Part) → IsQuiet p → P p) →
-    P (part.Data x) → ((k : ℕ) (name : List ℕ) → P (given given_as.Data scope x (x ++ k ∷ []) name)) → ((k : ℕ) (name : List ℕ) → P (used for_.Source scope (x ++ k ∷ []) name)) →
+pub set_keeps : (P : Part → Type 0) (whole : List Part) (scope x : List ℕ) (parts : List Part) (set : DataSet) →
+    ASet whole scope x parts set → ((p : Part) → IsQuiet p → P p) →
+    P (part.Data x) → ((k : ℕ) (name : List ℕ) → P (given given_as.Data scope x (x ++ k ∷ []) name)) →
+    ((k : ℕ) (name : List ℕ) → P (used for_.Source scope (x ++ k ∷ []) name)) →
     ((at : List ℕ) (k : ℕ) → P (part.Fold at x k)) → Each P parts
 set_keeps P whole scope x parts set s quiet here named source fold =
     subst (Each P) (sym s.made) (
@@ -84,7 +87,8 @@ module _ (list_trail : Trail) (scope : List ℕ) (k : ℕ) (in_scope : (j : ℕ)
   abbrev list : List ℕ
   list = scope ++ k ∷ []
 
-  one_set : (whole : List Part) (j : ℕ) (d : Json) → Stands list_trail j DATA d → ASet whole scope (list ++ j ∷ []) (parts_in list_trail j DATA d) (data_set_of (members_of d))
+  one_set : (whole : List Part) (j : ℕ) (d : Json) → Stands list_trail j DATA d →
+      ASet whole scope (list ++ j ∷ []) (parts_in list_trail j DATA d) (data_set_of (members_of d))
   one_set whole j d s = a_set whole list_trail j d scope (list ++ j ∷ []) (set_parts list_trail j d s) (in_scope j d) (at_child j d)
 
   grow : (j i : ℕ) → j + 1 ≤ i → j ≤ i
@@ -95,17 +99,21 @@ module _ (list_trail : Trail) (scope : List ℕ) (k : ℕ) (in_scope : (j : ℕ)
 
   -- what the object and all its data sets from a number on keep
   pub list_keeps : (P : Part → Type 0) (j : ℕ) (items : List Json) → EachFrom (λ i v. Stands list_trail i DATA v) j items → ((p : Part) → IsQuiet p → P p) →
-      ((i : ℕ) → j ≤ i → P (part.Data (list ++ i ∷ []))) → ((i : ℕ) → j ≤ i → (n : ℕ) (name : List ℕ) → P (given given_as.Data scope (list ++ i ∷ []) ((list ++ i ∷ []) ++ n ∷ []) name)) →
-      ((i : ℕ) → j ≤ i → (n : ℕ) (name : List ℕ) → P (used for_.Source scope ((list ++ i ∷ []) ++ n ∷ []) name)) → ((i : ℕ) → j ≤ i → (at : List ℕ) (n : ℕ) → P (part.Fold at (list ++ i ∷ []) n)) →
+      ((i : ℕ) → j ≤ i → P (part.Data (list ++ i ∷ []))) →
+      ((i : ℕ) → j ≤ i → (n : ℕ) (name : List ℕ) → P (given given_as.Data scope (list ++ i ∷ []) ((list ++ i ∷ []) ++ n ∷ []) name)) →
+      ((i : ℕ) → j ≤ i → (n : ℕ) (name : List ℕ) → P (used for_.Source scope ((list ++ i ∷ []) ++ n ∷ []) name)) →
+      ((i : ℕ) → j ≤ i → (at : List ℕ) (n : ℕ) → P (part.Fold at (list ++ i ∷ []) n)) →
       Each P (parts_of_items list_trail DATA j items)
   list_keeps P j [] each quiet here named source fold = tt
   list_keeps P j (d ∷ items) each quiet here named source fold =
       each_append P (parts_in list_trail j DATA d) (parts_of_items list_trail DATA (j + 1) items)
       (set_keeps P [] scope (list ++ j ∷ []) (parts_in list_trail j DATA d) (data_set_of (members_of d)) (one_set [] j d each.0) quiet
       (here j (same j)) (named j (same j)) (source j (same j)) (fold j (same j)))
-      (list_keeps P (j + 1) items each.1 quiet (λ i e. here i (grow j i e)) (λ i e. named i (grow j i e)) (λ i e. source i (grow j i e)) (λ i e. fold i (grow j i e)))
+      (list_keeps P (j + 1) items each.1 quiet (λ i e. here i (grow j i e))
+      (λ i e. named i (grow j i e)) (λ i e. source i (grow j i e)) (λ i e. fold i (grow j i e)))
 
-  pub list_concerns : (P : List ℕ → Type 0) (j : ℕ) (items : List Json) → EachFrom (λ i v. Stands list_trail i DATA v) j items → P scope → ((i : ℕ) → j ≤ i → P (list ++ i ∷ [])) →
+  pub list_concerns : (P : List ℕ → Type 0) (j : ℕ) (items : List Json) →
+      EachFrom (λ i v. Stands list_trail i DATA v) j items → P scope → ((i : ℕ) → j ≤ i → P (list ++ i ∷ [])) →
       Each (λ p. IfSome (concern p) P) (parts_of_items list_trail DATA j items)
   list_concerns P j [] each p q = tt
   list_concerns P j (d ∷ items) each p q =
@@ -117,9 +125,11 @@ module _ (list_trail : Trail) (scope : List ℕ) (k : ℕ) (in_scope : (j : ℕ)
   scope_apart i = under_itself_not scope k (list ++ i ∷ []) (under_itself list (i ∷ []))
 
   apart_scope : (i : ℕ) → same_place (list ++ i ∷ []) scope ≡ false
-  apart_scope i = unlike (list ++ i ∷ []) scope (λ e. let f : same_place scope (list ++ i ∷ []) ≡ true = (bytes_eq-Decides scope (list ++ i ∷ [])).1 (sym e) in let g = scope_apart i in cc)
+  apart_scope i = unlike (list ++ i ∷ []) scope
+      (λ e. let f : same_place scope (list ++ i ∷ []) ≡ true = (bytes_eq-Decides scope (list ++ i ∷ [])).1 (sym e) in let g = scope_apart i in cc)
 
-  items_behind : (at : List ℕ) (j : ℕ) (items : List Json) → EachFrom (λ i v. Stands list_trail i DATA v) j items → ((i : ℕ) → j ≤ i → ends_before (list ++ i ∷ []) at ≡ false) →
+  items_behind : (at : List ℕ) (j : ℕ) (items : List Json) → EachFrom (λ i v. Stands list_trail i DATA v) j items →
+      ((i : ℕ) → j ≤ i → ends_before (list ++ i ∷ []) at ≡ false) →
       Each (Behind scope at) (parts_of_items list_trail DATA j items)
   items_behind at j items each ends =
       list_keeps (Behind scope at) j items each (quiet_behind scope at) (λ i e. tt) (λ i e n name. λ same loud. ends i e) (λ i e n name. tt) (λ i e at n. tt)
@@ -136,7 +146,8 @@ module _ (list_trail : Trail) (scope : List ℕ) (k : ℕ) (in_scope : (j : ℕ)
     pub count : ℕ
     pub sofar : Sofar whole scope list outer count (before ++ parts) (products_after products sets)
 
-  pub through : (whole : List Part) → twice whole ≡ [] → unknown whole ≡ [] → folds_after whole [] whole ≡ [] → ((name : List ℕ) → first_given whole given_as.Facet scope name ≡ None) → (outer : Products) →
+  pub through : (whole : List Part) → twice whole ≡ [] → unknown whole ≡ [] → folds_after whole [] whole ≡ [] →
+      ((name : List ℕ) → first_given whole given_as.Facet scope name ≡ None) → (outer : Products) →
       (j : ℕ) (items : List Json) (before after : List Part) (products : Products) → EachFrom (λ i v. Stands list_trail i DATA v) j items →
       whole ≡ before ++ (parts_of_items list_trail DATA j items ++ after) → Sofar whole scope list outer j before products →
       ((i : ℕ) → Each (Apart (list ++ i ∷ [])) after) → Each (Apart scope) after →
@@ -159,7 +170,8 @@ module _ (list_trail : Trail) (scope : List ℕ) (k : ℕ) (in_scope : (j : ℕ)
       (λ i e. under_others list j i x (list ++ i ∷ []) (apart_numbers i j e) ([], sym (append-nil x)) ([], sym (append-nil (list ++ i ∷ []))))) (clear j) in
       let behind_rest : (r : List ℕ) → Each (Behind scope (x ++ r)) (rest ++ after) =
       λ r. each_append (Behind scope (x ++ r)) rest after
-      (items_behind (x ++ r) (j + 1) items each.1 (λ i e. ap (λ y. ends_before y (x ++ r)) (sym (append-nil (list ++ i ∷ []))) ∙ later_ends_not list i j [] r (over i j e)))
+      (items_behind (x ++ r) (j + 1) items each.1
+      (λ i e. ap (λ y. ends_before y (x ++ r)) (sym (append-nil (list ++ i ∷ []))) ∙ later_ends_not list i j [] r (over i j e)))
       (each_of (Apart scope) (Behind scope (x ++ r)) (apart_behind scope (x ++ r)) after apart) in
       let following : Sofar whole scope list outer (j + 1) (before ++ here) (and_its_product products set) =
       next whole no_twice no_unknown no_folds scope k no_facets outer j before here (rest ++ after) products set sofar s whole_is clear_rest behind_rest in
@@ -167,8 +179,13 @@ module _ (list_trail : Trail) (scope : List ℕ) (k : ℕ) (in_scope : (j : ℕ)
       through whole no_twice no_unknown no_folds no_facets outer (j + 1) items (before ++ here) after (and_its_product products set) each.1
       (whole_is ∙ sym (append_assoc before here (rest ++ after))) following clear apart in
       record {
-        fits = (set_fits whole no_twice no_unknown no_folds scope k no_facets outer j before here (rest ++ after) products set sofar s whole_is clear_rest behind_rest, on.fits);
+        fits = (
+          set_fits whole no_twice no_unknown no_folds scope k no_facets outer j before
+              here (rest ++ after) products set sofar s whole_is clear_rest behind_rest,
+          on.fits,
+        );
         count = on.count;
-        sofar = subst (λ ps. Sofar whole scope list outer on.count ps (products_after (and_its_product products set) (map (λ t. data_set_of (members_of t)) items)))
+        sofar = subst (λ ps. Sofar whole scope list outer on.count ps
+            (products_after (and_its_product products set) (map (λ t. data_set_of (members_of t)) items)))
             (append_assoc before here rest) on.sofar;
       }

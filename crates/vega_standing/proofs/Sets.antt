@@ -61,7 +61,8 @@ pub record Listed (round : Trail) (number shape inner : ℕ) (v : Json) : Type 0
   pub each : EachFrom (λ i w. Stands (noted number shape v ∷ round) i inner w) 0 items
 
 pub listed_as : (round : Trail) (number shape inner : ℕ) (v : Json) → Stands round number shape v →
-    ((o : Opened) (f : Form) → taken_form vega_schema shape o ≡ Some f → (list_passes (has_length 0 MAX_LENGTH) o ≡ true) × (form.List 0 MAX_LENGTH inner ≡ f)) →
+    ((o : Opened) (f : Form) → taken_form vega_schema shape o ≡ Some f →
+    (list_passes (has_length 0 MAX_LENGTH) o ≡ true) × (form.List 0 MAX_LENGTH inner ≡ f)) →
     Listed round number shape inner v
 listed_as round number shape inner v s taken =
     let form = formed shape v s.fine in
@@ -95,7 +96,8 @@ pub record SetParts (round : Trail) (number : ℕ) (tree : Json) : Type 0 where
   pub quiet_source : AreQuiet behind_source
   pub quiet_behind : AreQuiet behind
   pub parts : parts_in round number DATA tree ≡ part.Data (place_of (noted number DATA tree ∷ round))
-      ∷ given given_as.Data (scope_of (noted number DATA tree ∷ round)) (place_of (noted number DATA tree ∷ round)) (child (noted number DATA tree ∷ round) name_number) (data_set_of (members_of tree)).name
+      ∷ given given_as.Data (scope_of (noted number DATA tree ∷ round)) (place_of (noted number DATA tree ∷ round))
+      (child (noted number DATA tree ∷ round) name_number) (data_set_of (members_of tree)).name
       ∷ (before_source ++ (source_use (noted number DATA tree ∷ round) source ++ (behind_source ++ (parts_of_items list_trail TRANSFORM 0 items ++ behind))))
   pub source_is : option_map (λ (m : ℕ × List ℕ). m.1) source ≡ (data_set_of (members_of tree)).source
   pub transforms : transforms_of (data_set_of (members_of tree)) ≡ map (λ t. transform_of (members_of t)) items
@@ -119,7 +121,8 @@ or_dull false b e f = absurd cc
 
 -- a member that is read by a rule, where there are no other ones
 pub ruled_as : (rules : List Rule) (others : Option ℕ) (name : List ℕ) (inner : ℕ) (P : ℕ → Type 0) → others ≡ None →
-    ((r : Rule) → rule_in rules name ≡ Some r → P r.shape) → shape_in (record { object = 0; when = []; rules = rules; others = others }) name ≡ Some inner → P inner
+    ((r : Rule) → rule_in rules name ≡ Some r → P r.shape) →
+    shape_in (record { object = 0; when = []; rules = rules; others = others }) name ≡ Some inner → P inner
 ruled_as rules others name inner P none each e = by_rule (rule_in rules name) refl e
   where
     by_rule : (o : Option Rule) → rule_in rules name ≡ o → option_or (option_map (λ (r : Rule). r.shape) o) others ≡ Some inner → P inner
@@ -130,7 +133,8 @@ data_but : (m : Member) → DullBut data_set (codes "transform") m
 data_but m other inner e =
     ruled_as data_set.rules data_set.others m.name inner (λ i. is_dull i ≡ true) no_others
     (λ r found.
-    let passed : (bytes_eq r.name m.name ≡ true) × (dull_rule r ≡ true) = found_passes (λ (r : Rule). bytes_eq r.name m.name) dull_rule data_set.rules r found data_dull in
+    let passed : (bytes_eq r.name m.name ≡ true) × (dull_rule r ≡ true) =
+    found_passes (λ (r : Rule). bytes_eq r.name m.name) dull_rule data_set.rules r found data_dull in
     let named : r.name ≡ m.name = (bytes_eq-Decides r.name m.name).0 passed.0 in
     or_dull (is_dull r.shape) (bytes_eq r.name (codes "transform")) passed.1 (ap (λ n. bytes_eq n (codes "transform")) named ∙ other)) e
 
@@ -150,9 +154,11 @@ module _ (round : Trail) (number : ℕ) (tree : Json) (ms : List Member) (is : o
     at_child : ℕ
     behind : List Part
     quiet : AreQuiet behind
-    parts : data_names set_trail tree ≡ given given_as.Data (scope_of set_trail) (place_of set_trail) (child set_trail at_child) (needed_text ms (codes "name")) ∷ behind
+    parts : data_names set_trail tree
+        ≡ given given_as.Data (scope_of set_trail) (place_of set_trail) (child set_trail at_child) (needed_text ms (codes "name")) ∷ behind
 
-  named_by : (m : Option (ℕ × List ℕ)) (t : List ℕ) → part_text (codes "name") tree ≡ m → option_map (λ (m : ℕ × List ℕ). m.1) m ≡ Some t → needed_text ms (codes "name") ≡ t → Named
+  named_by : (m : Option (ℕ × List ℕ)) (t : List ℕ) → part_text (codes "name") tree ≡ m →
+      option_map (λ (m : ℕ × List ℕ). m.1) m ≡ Some t → needed_text ms (codes "name") ≡ t → Named
   named_by None t e same nm = absurd cc
   named_by (Some m) t e same nm =
       let text : m.1 ≡ needed_text ms (codes "name") = (let f : m.1 ≡ t = cc in f) ∙ sym nm in
@@ -176,7 +182,8 @@ module _ (round : Trail) (number : ℕ) (tree : Json) (ms : List Member) (is : o
   quiet_faults =
       both_quiet (transform_in_facet set_trail tree) (far_url set_trail tree)
       (if_quiet (is_faceted (object_round set_trail)) _ [] (quiet_fault Unsupported (codes "transform") set_trail tree) tt)
-      (some_quiet _ (λ (m : ℕ × List ℕ). if_quiet (is_far m.1) (part.Fault (child set_trail m.0) Unsupported ∷ []) [] (refl, tt) tt) (part_text (codes "url") tree))
+      (some_quiet _ (λ (m : ℕ × List ℕ). if_quiet (is_far m.1) (part.Fault (child set_trail m.0) Unsupported ∷ []) [] (refl, tt) tt)
+      (part_text (codes "url") tree))
 
   loud : OneLoud set_trail data_set (codes "transform") TRANSFORMS 0 ms
   loud = one_loud set_trail data_set (codes "transform") TRANSFORMS 0 ms data_transforms o.own o.each (each_but ms)
@@ -188,7 +195,8 @@ module _ (round : Trail) (number : ℕ) (tree : Json) (ms : List Member) (is : o
     front : List Part
     quiet : AreQuiet front
     parts : of_member set_trail TRANSFORMS here ≡ front ++ parts_of_items list_trail TRANSFORM 0 items
-    transforms : unwrap_or (option_map (map (λ t. transform_of (members_of t))) (option_and_then (λ v. items_in (out-Json v)) (option_map (λ (m : ℕ × Json). m.1) here))) []
+    transforms : unwrap_or (option_map (map (λ t. transform_of (members_of t)))
+        (option_and_then (λ v. items_in (out-Json v)) (option_map (λ (m : ℕ × Json). m.1) here))) []
         ≡ map (λ t. transform_of (members_of t)) items
     each : EachFrom (λ i v. Stands list_trail i TRANSFORM v) 0 items
     of_set : (i : ℕ) (v : Json) → data_of (noted i TRANSFORM v ∷ list_trail) ≡ place_of set_trail
@@ -220,7 +228,8 @@ module _ (round : Trail) (number : ℕ) (tree : Json) (ms : List Member) (is : o
   of_made : Made loud.here
   of_made = made loud.here loud.stands
 
-  all_parts : (a b : List Part) (d g : Part) (q source faults front steps lf lb : List Part) → a ≡ ((((d ∷ []) ++ (g ∷ q)) ++ source) ++ faults) → b ≡ lf ++ ((front ++ steps) ++ lb) →
+  all_parts : (a b : List Part) (d g : Part) (q source faults front steps lf lb : List Part) →
+      a ≡ ((((d ∷ []) ++ (g ∷ q)) ++ source) ++ faults) → b ≡ lf ++ ((front ++ steps) ++ lb) →
       a ++ b ≡ d ∷ g ∷ (q ++ (source ++ ((faults ++ (lf ++ front)) ++ (steps ++ lb))))
   all_parts a b d g q source faults front steps lf lb x y =
       (λ i. x i ++ y i)
@@ -231,7 +240,8 @@ module _ (round : Trail) (number : ℕ) (tree : Json) (ms : List Member) (is : o
       ap (λ l. faults ++ l) (ap (λ l. lf ++ l) (append_assoc front steps lb) ∙ sym (append_assoc lf front (steps ++ lb)))
       ∙ sym (append_assoc faults (lf ++ front) (steps ++ lb))))
 
-  set_is : members_of tree ≡ ms → parts_in round number DATA tree ≡ parts_at set_trail tree ++ parts_of_members set_trail data_set 0 ms → SetParts round number tree
+  set_is : members_of tree ≡ ms →
+      parts_in round number DATA tree ≡ parts_at set_trail tree ++ parts_of_members set_trail data_set 0 ms → SetParts round number tree
   set_is same whole = record {
     name_number = the_name.at_child;
     source = part_text (codes "source") tree;
@@ -241,16 +251,21 @@ module _ (round : Trail) (number : ℕ) (tree : Json) (ms : List Member) (is : o
     behind_source = data_faults set_trail tree ++ (loud.front ++ of_made.front);
     behind = loud.back;
     quiet_before = the_name.quiet;
-    quiet_source = both_quiet (data_faults set_trail tree) (loud.front ++ of_made.front) quiet_faults (both_quiet loud.front of_made.front loud.quiet_front of_made.quiet);
+    quiet_source = both_quiet (data_faults set_trail tree) (loud.front ++ of_made.front)
+        quiet_faults (both_quiet loud.front of_made.front loud.quiet_front of_made.quiet);
     quiet_behind = loud.quiet_back;
     parts = whole
         ∙ all_parts (parts_at set_trail tree) (parts_of_members set_trail data_set 0 ms) (part.Data (place_of set_trail))
         (given given_as.Data (scope_of set_trail) (place_of set_trail) (child set_trail the_name.at_child) (needed_text ms (codes "name")))
-        the_name.behind (source_use set_trail (part_text (codes "source") tree)) (data_faults set_trail tree) of_made.front (parts_of_items of_made.list_trail TRANSFORM 0 of_made.items) loud.front loud.back
-        (ap (λ names. ((data_itself set_trail ++ names) ++ used_member for_.Source (codes "source") set_trail tree) ++ data_faults set_trail tree) the_name.parts)
+        the_name.behind (source_use set_trail (part_text (codes "source") tree)) (data_faults set_trail tree) of_made.front
+        (parts_of_items of_made.list_trail TRANSFORM 0 of_made.items) loud.front loud.back
+        (ap (λ names. ((data_itself set_trail ++ names) ++ used_member for_.Source (codes "source") set_trail tree) ++ data_faults set_trail tree)
+        the_name.parts)
         (loud.parts ∙ ap (λ ps. loud.front ++ (ps ++ loud.back)) of_made.parts)
-        ∙ ap (λ m. part.Data (place_of set_trail) ∷ given given_as.Data (scope_of set_trail) (place_of set_trail) (child set_trail the_name.at_child) (data_set_of m).name
-        ∷ (the_name.behind ++ (source_use set_trail (part_text (codes "source") tree) ++ ((data_faults set_trail tree ++ (loud.front ++ of_made.front)) ++ (parts_of_items of_made.list_trail TRANSFORM 0 of_made.items ++ loud.back))))) (sym same);
+        ∙ ap (λ m. part.Data (place_of set_trail)
+        ∷ given given_as.Data (scope_of set_trail) (place_of set_trail) (child set_trail the_name.at_child) (data_set_of m).name
+        ∷ (the_name.behind ++ (source_use set_trail (part_text (codes "source") tree) ++ ((data_faults set_trail tree
+        ++ (loud.front ++ of_made.front)) ++ (parts_of_items of_made.list_trail TRANSFORM 0 of_made.items ++ loud.back))))) (sym same);
     source_is = texts_are tree ms is (codes "source") ∙ ap (λ m. (data_set_of m).source) (sym same);
     transforms = ap (λ m. transforms_of (data_set_of m)) same
         ∙ ap (λ o. unwrap_or (option_map (map (λ t. transform_of (members_of t))) (option_and_then (λ v. items_in (out-Json v)) o)) []) loud.value

@@ -48,7 +48,8 @@ some_of P Q f None p = tt
 some_of P Q f (Some x) p = f x p
 
 module _ (round : Trail) (number : ℕ) (tree : Json) where
-  share_tested : (f : Form) → taken_form vega_schema SHARE (out-Json tree) ≡ Some f → IfSome (number_in (out-Json tree)) (λ n. is_within (pos 0) (pos 1000000) n ≡ true)
+  share_tested : (f : Form) → taken_form vega_schema SHARE (out-Json tree) ≡ Some f
+      → IfSome (number_in (out-Json tree)) (λ n. is_within (pos 0) (pos 1000000) n ≡ true)
   unfolding vega_schema leaves named lists objects
   share_tested f e = numbered _ _ (out-Json tree) f e
 
@@ -57,7 +58,8 @@ module _ (round : Trail) (number : ℕ) (tree : Json) where
   share s = let form = formed SHARE tree s.fine in
       some_of _ IsPadding (λ n e. within (pos 0) (pos 1000000) n e) _ (share_tested form.0 form.1)
 
-  space_tested : (f : Form) → taken_form vega_schema SPACE (out-Json tree) ≡ Some f → IfSome (number_in (out-Json tree)) (λ n. is_within (pos 0) (pos 1000000000) n ≡ true)
+  space_tested : (f : Form) → taken_form vega_schema SPACE (out-Json tree) ≡ Some f
+      → IfSome (number_in (out-Json tree)) (λ n. is_within (pos 0) (pos 1000000000) n ≡ true)
   unfolding vega_schema leaves named lists objects
   space_tested f e = numbered _ _ (out-Json tree) f e
 
@@ -65,7 +67,8 @@ module _ (round : Trail) (number : ℕ) (tree : Json) where
   space s = let form = formed SPACE tree s.fine in
       some_of _ (λ n. (pos 0 ≤ℤ n) × (n ≤ℤ pos (1000 * million))) (λ n e. within (pos 0) (pos 1000000000) n e) _ (space_tested form.0 form.1)
 
-  count_tested : (f : Form) → taken_form vega_schema COUNT (out-Json tree) ≡ Some f → IfSome (number_in (out-Json tree)) (λ n. is_whole_between (pos 1000000) (pos 1000000000) n ≡ true)
+  count_tested : (f : Form) → taken_form vega_schema COUNT (out-Json tree) ≡ Some f
+      → IfSome (number_in (out-Json tree)) (λ n. is_whole_between (pos 1000000) (pos 1000000000) n ≡ true)
   unfolding vega_schema leaves named lists objects
   count_tested f e = numbered _ _ (out-Json tree) f e
 
@@ -73,7 +76,8 @@ module _ (round : Trail) (number : ℕ) (tree : Json) where
   count s = let form = formed COUNT tree s.fine in
       some_of _ IsCount (λ n e. within (pos 1000000) (pos 1000000000) n (both (is_whole n) _ e).1) _ (count_tested form.0 form.1)
 
-  ticks_tested : (f : Form) → taken_form vega_schema TICK_COUNT (out-Json tree) ≡ Some f → IfSome (number_in (out-Json tree)) (λ n. is_whole_between (pos 1000000) (pos 100000000) n ≡ true)
+  ticks_tested : (f : Form) → taken_form vega_schema TICK_COUNT (out-Json tree) ≡ Some f
+      → IfSome (number_in (out-Json tree)) (λ n. is_whole_between (pos 1000000) (pos 100000000) n ≡ true)
   unfolding vega_schema leaves named lists objects
   ticks_tested f e = numbered _ _ (out-Json tree) f e
 
@@ -84,7 +88,8 @@ module _ (round : Trail) (number : ℕ) (tree : Json) where
       few : (n : ℤ) → pos 1000000 ≤ℤ n → n ≤ℤ pos 100000000 → IsCount n
       few n a b = (a, omega (arith, ints))
 
-  step_tested : (f : Form) → taken_form vega_schema STEP (out-Json tree) ≡ Some f → IfSome (number_in (out-Json tree)) (λ n. is_within (pos 1) most_number n ≡ true)
+  step_tested : (f : Form) → taken_form vega_schema STEP (out-Json tree) ≡ Some f
+      → IfSome (number_in (out-Json tree)) (λ n. is_within (pos 1) most_number n ≡ true)
   unfolding vega_schema leaves named lists objects
   step_tested f e = numbered _ _ (out-Json tree) f e
 
@@ -95,7 +100,8 @@ module _ (round : Trail) (number : ℕ) (tree : Json) where
       over : (n : ℤ) → pos 1 ≤ℤ n → int_lt (pos 0) n ≡ true
       over n a = grind (arith, ints)
 
-  place_tested : (f : Form) → taken_form vega_schema RANGE_NUMBER (out-Json tree) ≡ Some f → IfSome (number_in (out-Json tree)) (λ n. is_within (pos 0) (pos 1000000000000) n ≡ true)
+  place_tested : (f : Form) → taken_form vega_schema RANGE_NUMBER (out-Json tree) ≡ Some f
+      → IfSome (number_in (out-Json tree)) (λ n. is_within (pos 0) (pos 1000000000000) n ≡ true)
   unfolding vega_schema leaves named lists objects
   place_tested f e = numbered _ _ (out-Json tree) f e
 

@@ -75,7 +75,8 @@ all_together : (o : Option (List VgMark)) → unwrap_or (former-Group-marks.map 
 all_together None = refl
 all_together (Some marks) = refl
 
-sources_opened : (g : Group) → sources_in g ≡ own_sources (unwrap_or (out-Group g).data_ []) ++ flat_map (λ names. names) (map mark_sources (unwrap_or (out-Group g).marks []))
+sources_opened : (g : Group) →
+    sources_in g ≡ own_sources (unwrap_or (out-Group g).data_ []) ++ flat_map (λ names. names) (map mark_sources (unwrap_or (out-Group g).marks []))
 sources_opened g =
     fold_out-Group (List (List ℕ)) (List (List ℕ)) sources_here mark_sources_here g
     ∙ ap (λ names. own_sources (unwrap_or (out-Group g).data_ []) ++ flat_map (λ names. names) names) (all_together (out-Group g).marks)
@@ -85,7 +86,8 @@ mark_sources_opened m = fold_out-VgMark (List (List ℕ)) (List (List ℕ)) sour
 
 times_all : (x : List ℕ) (marks : List VgMark) → times x (flat_map (λ names. names) (map mark_sources marks)) ≡ total (λ m. times x (mark_sources m)) marks
 times_all x [] = refl
-times_all x (m ∷ marks) = times_append x (mark_sources m) (flat_map (λ names. names) (map mark_sources marks)) ∙ ap (λ n. times x (mark_sources m) + n) (times_all x marks)
+times_all x (m ∷ marks) =
+    times_append x (mark_sources m) (flat_map (λ names. names) (map mark_sources marks)) ∙ ap (λ n. times x (mark_sources m) + n) (times_all x marks)
 
 -- those of a group of members
 abbrev pub own_times : List ℕ → List Member → ℕ
@@ -95,14 +97,16 @@ pub group_times : (x : List ℕ) (ms : List Member) (marks : Option (List VgMark
     times x (sources_in (group_with ms marks)) ≡ own_times x ms + total (λ m. times x (mark_sources m)) (unwrap_or marks [])
 group_times x ms marks =
     ap (times x) (sources_opened (group_with ms marks)
-    ∙ ap (λ (g : Group-F Group VgMark). own_sources (unwrap_or g.data_ []) ++ flat_map (λ names. names) (map mark_sources (unwrap_or g.marks []))) (group_opened ms marks))
+    ∙ ap (λ (g : Group-F Group VgMark). own_sources (unwrap_or g.data_ []) ++ flat_map (λ names. names) (map mark_sources (unwrap_or g.marks [])))
+    (group_opened ms marks))
     ∙ times_append x (own_sources (unwrap_or (objects_at data_set_of ms (codes "data")) [])) (flat_map (λ names. names) (map mark_sources (unwrap_or marks [])))
     ∙ ap (λ n. own_times x ms + n) (times_all x (unwrap_or marks []))
 
 pub mark_times : (x : List ℕ) (ms : List Member) (marks : Option (List VgMark)) →
     times x (mark_sources (mark_with ms marks)) ≡ own_times x ms + total (λ m. times x (mark_sources m)) (unwrap_or marks [])
 mark_times x ms marks =
-    ap (times x) (mark_sources_opened (mark_with ms marks) ∙ ap (λ (m : VgMark-F Group VgMark). sources_in m.group) (mark_opened ms marks)) ∙ group_times x ms marks
+    ap (times x) (mark_sources_opened (mark_with ms marks) ∙ ap (λ (m : VgMark-F Group VgMark). sources_in m.group) (mark_opened ms marks))
+    ∙ group_times x ms marks
 
 -- ---- data sets
 
@@ -150,7 +154,8 @@ module _ (tree : Json) (ms : List Member) (is : out-Json tree ≡ level.Object m
       by_text n None = refl
       by_text n (Some t) = refl
 
-      by_member : (o : Option (ℕ × Json)) → option_map (λ (m : ℕ × List ℕ). m.1) (option_and_then (λ (m : ℕ × Json). option_map (λ text. (m.0, text)) (text_in (out-Json m.1))) o)
+      by_member : (o : Option (ℕ × Json)) →
+          option_map (λ (m : ℕ × List ℕ). m.1) (option_and_then (λ (m : ℕ × Json). option_map (λ text. (m.0, text)) (text_in (out-Json m.1))) o)
           ≡ option_and_then (λ v. text_in (out-Json v)) (option_map (λ (m : ℕ × Json). m.1) o)
       by_member None = refl
       by_member (Some m) = by_text m.0 (text_in (out-Json m.1))
@@ -162,7 +167,8 @@ module _ (tree : Json) (ms : List Member) (is : out-Json tree ≡ level.Object m
       by_member None = refl
       by_member (Some m) = refl
 
-one_is : (x nm : List ℕ) (of at : List ℕ) → one_source x (part.Given (record { kind = given.Source; scope = []; of = of; at = at; name = nm; scale = None })) ≡ one (bytes_eq x nm)
+one_is : (x nm : List ℕ) (of at : List ℕ) →
+    one_source x (part.Given (record { kind = given.Source; scope = []; of = of; at = at; name = nm; scale = None })) ≡ one (bytes_eq x nm)
 one_is x nm of at = refl
 
 least : (a b c d : ℕ) → d ≡ a + (b + c) → b ≤ d
@@ -186,18 +192,23 @@ module _ (x : List ℕ) (round : Trail) (number : ℕ) (tree : Json) (ms : List 
   -- the parts of a data set without a source have its name
   named_weighs : (m : Option (ℕ × List ℕ)) (source : Bool) (nm : List ℕ) → option_map (λ (m : ℕ × List ℕ). m.1) m ≡ Some nm → source ≡ false →
       one (bytes_eq x nm) ≤ weight (one_source x) (option_map_or (λ (m : ℕ × List ℕ). data_name of_set m
-      ++ (if source then [] else part.Given (record { kind = given.Source; scope = []; of = place_of of_set; at = child of_set m.0; name = m.1; scale = None }) ∷ [])) m [])
+      ++ (if source then [] else
+      part.Given (record { kind = given.Source; scope = []; of = place_of of_set; at = child of_set m.0; name = m.1; scale = None }) ∷ [])) m [])
   named_weighs None source nm e own = absurd cc
   named_weighs (Some m) true nm e own = absurd cc
   named_weighs (Some m) false nm e own =
       let same : m.1 ≡ nm = cc in
-      subst (λ n. one (bytes_eq x n) ≤ weight (one_source x) (data_name of_set m ++ part.Given (record { kind = given.Source; scope = []; of = place_of of_set; at = child of_set m.0; name = m.1; scale = None }) ∷ [])) same
-      (least (one_source x (part.Given (record { kind = given.Data; scope = scope_of of_set; of = place_of of_set; at = child of_set m.0; name = m.1; scale = None })))
+      subst (λ n. one (bytes_eq x n) ≤ weight (one_source x) (data_name of_set m ++ part.Given
+      (record { kind = given.Source; scope = []; of = place_of of_set; at = child of_set m.0; name = m.1; scale = None }) ∷ [])) same
+      (least (one_source x
+      (part.Given (record { kind = given.Data; scope = scope_of of_set; of = place_of of_set; at = child of_set m.0; name = m.1; scale = None })))
       (one (bytes_eq x m.1)) 0 _ refl)
 
   in_names : weight (one_source x) (data_names of_set tree) ≤ weight (one_source x) (parts_at of_set tree)
-  in_names = first (weight (one_source x) (data_names of_set tree)) (weight (one_source x) (used_member for_.Source (codes "source") of_set tree)) (weight (one_source x) (data_faults of_set tree)) _
-      (weight_append (one_source x) (data_itself of_set ++ data_names of_set tree ++ used_member for_.Source (codes "source") of_set tree) (data_faults of_set tree)
+  in_names = first (weight (one_source x) (data_names of_set tree))
+      (weight (one_source x) (used_member for_.Source (codes "source") of_set tree)) (weight (one_source x) (data_faults of_set tree)) _
+      (weight_append (one_source x)
+      (data_itself of_set ++ data_names of_set tree ++ used_member for_.Source (codes "source") of_set tree) (data_faults of_set tree)
       ∙ ap (λ n. n + weight (one_source x) (data_faults of_set tree))
       (weight_append (one_source x) (data_itself of_set ++ data_names of_set tree) (used_member for_.Source (codes "source") of_set tree)))
     where
@@ -222,7 +233,8 @@ module _ (x : List ℕ) (round : Trail) (number : ℕ) (tree : Json) (ms : List 
       let own : times x (own_source (data_set_of ms)) ≡ one (bytes_eq x t.0) + 0 =
       ap (λ o. times x (if is_some (option_and_then (λ v. text_in (out-Json v)) o) then [] else needed_text ms (codes "name") ∷ [])) e
       ∙ ap (λ n. one (bytes_eq x n) + 0) nm in
-      through (times x (own_source (data_set_of ms))) (one (bytes_eq x t.0)) (weight (one_source x) (data_names of_set tree)) (weight (one_source x) (parts_at of_set tree)) own weighs in_names
+      through (times x (own_source (data_set_of ms))) (one (bytes_eq x t.0))
+      (weight (one_source x) (data_names of_set tree)) (weight (one_source x) (parts_at of_set tree)) own weighs in_names
     where
       through : (a b c d : ℕ) → a ≡ b + 0 → b ≤ c → c ≤ d → a ≤ d
       through a b c d p q r = omega arith
@@ -230,7 +242,8 @@ module _ (x : List ℕ) (round : Trail) (number : ℕ) (tree : Json) (ms : List 
 abbrev set_times : List ℕ → Json → ℕ
 set_times x tree = times x (own_source (data_set_of (members_of tree)))
 
-data_weighs : (x : List ℕ) (round : Trail) (number : ℕ) (tree : Json) → Stands round number DATA tree → set_times x tree ≤ weight (one_source x) (parts_in round number DATA tree)
+data_weighs : (x : List ℕ) (round : Trail) (number : ℕ) (tree : Json) → Stands round number DATA tree →
+    set_times x tree ≤ weight (one_source x) (parts_in round number DATA tree)
 data_weighs x round number tree s =
     let form = formed DATA tree s.fine in
     let ms : (ms : List Member) × (out-Json tree ≡ level.Object ms) = opened_as DATA (out-Json tree) (data_taken (out-Json tree) form.0 form.1).0 in
@@ -239,9 +252,11 @@ data_weighs x round number tree s =
     let o : StandsObject (noted number DATA tree ∷ round) data_set ms.0 = subst (λ x. StandsObject (noted number DATA tree ∷ round) x ms.0) is l.stands in
     let same : members_of tree ≡ ms.0 = ap (λ o. unwrap_or (members_in o) []) ms.1 in
     subst (λ m. times x (own_source (data_set_of m)) ≤ weight (one_source x) (parts_in round number DATA tree)) (sym same)
-    (less_front (times x (own_source (data_set_of ms.0))) (weight (one_source x) (parts_at (noted number DATA tree ∷ round) tree)) (weight (one_source x) (parts_of_members (noted number DATA tree ∷ round) l.layout 0 ms.0)) _
+    (less_front (times x (own_source (data_set_of ms.0))) (weight (one_source x) (parts_at (noted number DATA tree ∷ round) tree))
+    (weight (one_source x) (parts_of_members (noted number DATA tree ∷ round) l.layout 0 ms.0)) _
     (by_source x round number tree ms.0 ms.1 o (member_value ms.0 (codes "source")) refl)
-    (ap (weight (one_source x)) l.parts ∙ weight_append (one_source x) (parts_at (noted number DATA tree ∷ round) tree) (parts_of_members (noted number DATA tree ∷ round) l.layout 0 ms.0)))
+    (ap (weight (one_source x)) l.parts ∙ weight_append (one_source x) (parts_at (noted number DATA tree ∷ round) tree)
+    (parts_of_members (noted number DATA tree ∷ round) l.layout 0 ms.0)))
   where
     less_front : (a b c d : ℕ) → a ≤ b → d ≡ b + c → a ≤ d
     less_front a b c d p q = omega arith
@@ -249,7 +264,8 @@ data_weighs x round number tree s =
 sets_times : (x : List ℕ) (items : List Json) → times x (own_sources (map (λ t. data_set_of (members_of t)) items)) ≡ total (set_times x) items
 sets_times x [] = refl
 sets_times x (t ∷ items) =
-    times_append x (own_source (data_set_of (members_of t))) (own_sources (map (λ t. data_set_of (members_of t)) items)) ∙ ap (λ n. set_times x t + n) (sets_times x items)
+    times_append x (own_source (data_set_of (members_of t))) (own_sources (map (λ t. data_set_of (members_of t)) items))
+    ∙ ap (λ n. set_times x t + n) (sets_times x items)
 
 pub sets_taken : (o : Opened) (f : Form) → taken_form vega_schema DATA_LIST o ≡ Some f →
     (list_passes (has_length 0 MAX_LENGTH) o ≡ true) × (form.List 0 MAX_LENGTH DATA ≡ f)
@@ -262,7 +278,8 @@ sets_stand x trail n [] each = tt
 sets_stand x trail n (v ∷ items) each = (data_weighs x trail n v each.0, sets_stand x trail (n + 1) items each.1)
 
 list_weighs : (x : List ℕ) (round : Trail) (number : ℕ) (v : Json) → Stands round number DATA_LIST v →
-    times x (own_sources (unwrap_or (option_map (map (λ t. data_set_of (members_of t))) (items_in (out-Json v))) [])) ≤ weight (one_source x) (parts_in round number DATA_LIST v)
+    times x (own_sources (unwrap_or (option_map (map (λ t. data_set_of (members_of t))) (items_in (out-Json v))) []))
+    ≤ weight (one_source x) (parts_in round number DATA_LIST v)
 list_weighs x round number v s =
     let form = formed DATA_LIST v s.fine in
     let taken = sets_taken (out-Json v) form.0 form.1 in
@@ -273,7 +290,8 @@ list_weighs x round number v s =
     let each : EachFrom (λ i w. Stands trail i DATA w) 0 items.0 = list_stands round number DATA_LIST v items.0 form.0 DATA s items.1 known asks in
     below_sum _ (total (set_times x) items.0) (weight (one_source x) (parts_at trail v)) (weight (one_source x) (parts_of_items trail DATA 0 items.0)) _
     (ap (λ o. times x (own_sources (unwrap_or (option_map (map (λ t. data_set_of (members_of t))) (items_in o)) []))) items.1 ∙ sets_times x items.0)
-    (ap (weight (one_source x)) (list_parts_are round number DATA_LIST v items.0 form.0 DATA items.1 known asks) ∙ weight_append (one_source x) (parts_at trail v) (parts_of_items trail DATA 0 items.0))
+    (ap (weight (one_source x)) (list_parts_are round number DATA_LIST v items.0 form.0 DATA items.1 known asks)
+    ∙ weight_append (one_source x) (parts_at trail v) (parts_of_items trail DATA 0 items.0))
     (items_weigh (one_source x) (set_times x) trail DATA 0 items.0 (sets_stand x trail 0 items.0 each))
   where
     below_sum : (t n here rest whole : ℕ) → t ≡ n → whole ≡ here + rest → n ≤ rest → t ≤ whole
@@ -304,13 +322,15 @@ owned x trail l ms s ruled = by_value (member_value ms (codes "data")) refl rule
         (list_weighs x trail here.number v (subst (λ c. Stands trail here.number c v) shape here.stands))
 
 -- the sources of an object and of the marks in it stand among its parts
-pub sources_weigh : (x : List ℕ) (trail : Trail) (l : Layout) (ms : List Member) (here whole : List Part) → StandsObject trail l ms → shape_in l (codes "data") ≡ Some DATA_LIST →
+pub sources_weigh : (x : List ℕ) (trail : Trail) (l : Layout) (ms : List Member) (here whole : List Part) →
+    StandsObject trail l ms → shape_in l (codes "data") ≡ Some DATA_LIST →
     shape_in l (codes "marks") ≡ Some MARKS → whole ≡ here ++ parts_of_members trail l 0 ms →
     times x (sources_in (group_with ms (marks_at ms (codes "marks")))) ≤ weight (one_source x) whole
 sources_weigh x trail l ms here whole s sets marks is =
     same (times x (sources_in (group_with ms (marks_at ms (codes "marks"))))) _ (weight (one_source x) whole) (group_times x ms (marks_at ms (codes "marks")))
     (object_weighs (one_source x) (λ m. times x (mark_sources m)) (own_times x)
-    (λ round number tree ms s is l applies o. heavy (times x (mark_sources (mark_with ms (marks_at ms (codes "marks"))))) _ (own_times x ms) _ (mark_times x ms (marks_at ms (codes "marks"))))
+    (λ round number tree ms s is l applies o.
+    heavy (times x (mark_sources (mark_with ms (marks_at ms (codes "marks"))))) _ (own_times x ms) _ (mark_times x ms (marks_at ms (codes "marks"))))
     (owned x) trail l ms here whole s sets marks is)
   where
     same : (a b c : ℕ) → a ≡ b → b ≤ c → a ≤ c
@@ -358,7 +378,8 @@ module _ (of_kind : Given) (scope : List ℕ) (single : (k : Given) → number_o
       let name : g.name ≡ x = sym ((bytes_eq-Decides x g.name).0 first.1) in
       λ i. (kind i == number_of h.kind) && same_place (place i) h.scope && bytes_eq (name i) h.name
 
-  not_found : (x : List ℕ) (g : GivenName) (names : List GivenName) → is_given of_kind scope x g ≡ true → is_some (find (is_given g.kind g.scope g.name) names) ≡ false →
+  not_found : (x : List ℕ) (g : GivenName) (names : List GivenName) →
+      is_given of_kind scope x g ≡ true → is_some (find (is_given g.kind g.scope g.name) names) ≡ false →
       total (λ h. one (is_given of_kind scope x h)) names ≡ 0
   not_found x g [] e none = refl
   not_found x g (h ∷ names) e none = by_test (is_given g.kind g.scope g.name h) (sym (alike x g h e)) none (not_found x g names e)
@@ -368,7 +389,8 @@ module _ (of_kind : Given) (scope : List ℕ) (single : (k : Given) → number_o
           one (is_given of_kind scope x h) + total (λ h. one (is_given of_kind scope x h)) names ≡ 0
       by_test true same f rest = absurd cc
       by_test false same f rest =
-          ap (λ b. one b + total (λ h. one (is_given of_kind scope x h)) names) same ∙ sym (zero_more (total (λ h. one (is_given of_kind scope x h)) names)) ∙ rest f
+          ap (λ b. one b + total (λ h. one (is_given of_kind scope x h)) names) same
+          ∙ sym (zero_more (total (λ h. one (is_given of_kind scope x h)) names)) ∙ rest f
 
   weight_given : (x : List ℕ) (parts : List Part) → weight (one_given of_kind scope x) parts ≡ total (λ h. one (is_given of_kind scope x h)) (given_names parts)
   weight_given x [] = refl
@@ -420,10 +442,12 @@ module _ (of_kind : Given) (scope : List ℕ) (single : (k : Given) → number_o
       flat_map (λ (row : ℕ × Part). repeated (take row.0 all) row.1) (enumerate_from (length before) rest) ≡ [] → weight (one_given of_kind scope x) all ≤ 1
   from_here x all before [] is few none = subst (λ ps. weight (one_given of_kind scope x) ps ≤ 1) (sym (is ∙ append-nil before)) few
   from_here x all before (p ∷ rest) is few none =
-      let parts = none_of (repeated (take (length before) all) p) (flat_map (λ (row : ℕ × Part). repeated (take row.0 all) row.1) (enumerate_from (length before + 1) rest)) none in
+      let parts = none_of (repeated (take (length before) all) p)
+      (flat_map (λ (row : ℕ × Part). repeated (take row.0 all) row.1) (enumerate_from (length before + 1) rest)) none in
       let front : take (length before) all ≡ before = ap (take (length before)) is ∙ take-append_seam before (p ∷ rest) in
       let next : weight (one_given of_kind scope x) (before ++ p ∷ []) ≤ 1 =
-      subst (λ n. n ≤ 1) (sym (weight_append (one_given of_kind scope x) before (p ∷ []))) (ended (weight (one_given of_kind scope x) before) (one_given of_kind scope x p)
+      subst (λ n. n ≤ 1) (sym (weight_append (one_given of_kind scope x) before (p ∷ [])))
+      (ended (weight (one_given of_kind scope x) before) (one_given of_kind scope x p)
       (not_repeated x before p (ap (λ ps. repeated ps p) (sym front) ∙ parts.0) few)) in
       from_here x all (before ++ p ∷ []) rest (is ∙ sym (append_assoc before (p ∷ []) rest)) next
       (ap (λ n. flat_map (λ (row : ℕ × Part). repeated (take row.0 all) row.1) (enumerate_from n rest)) (length-append before (p ∷ [])) ∙ parts.1)
@@ -450,7 +474,8 @@ unlike_all x (name ∷ names) few = by_test (bytes_eq x name) refl (rest (one (b
     rest : (a b : ℕ) → a + b ≤ 0 → (a ≤ 0) × (b ≤ 0)
     rest a b e = (omega arith, omega arith)
 
-    by_test : (b : Bool) → bytes_eq x name ≡ b → (one (bytes_eq x name) ≤ 0) × (times x names ≤ 0) → (times x names ≤ 0 → All (λ name. x ≢ name) names) → All (λ name. x ≢ name) (name ∷ names)
+    by_test : (b : Bool) → bytes_eq x name ≡ b → (one (bytes_eq x name) ≤ 0) × (times x names ≤ 0) →
+        (times x names ≤ 0 → All (λ name. x ≢ name) names) → All (λ name. x ≢ name) (name ∷ names)
     by_test true same e others = absurd (let f : 1 ≤ 0 = subst (λ b. one b ≤ 0) same e.0 in omega (arith, f))
     by_test false same e others =
         All-cons (λ name. x ≢ name) name names (λ equal. let f : bytes_eq x name ≡ true = (bytes_eq-Decides x name).1 equal in absurd cc) (others e.1)

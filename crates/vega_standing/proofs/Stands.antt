@@ -15,7 +15,8 @@ use Rattle.spec_schema.specs.declared.layout.Rule.{Rule}
 use Rattle.spec_schema.specs.Layouts.{shape_in}
 use Rattle.spec_schema.specs.Forms.{taken_form, items_shape, layout_of}
 use Rattle.json_exact.specs.declared.spec_error.SpecKind.TheVariants.{Missing}
-use Rattle.spec_schema.specs.Faults.{Judged, faults_in, unless_wrong, list_faults, object_faults, item_faults, member_faults, faults_by, below, here, missing_faults, missing_fault, is_missing, judged_members, members_of}
+use Rattle.spec_schema.specs.Faults.{Judged, faults_in, unless_wrong, list_faults, object_faults, item_faults, member_faults, faults_by}
+use Rattle.spec_schema.specs.Faults.{below, here, missing_faults, missing_fault, is_missing, judged_members, members_of}
 use Rattle.spec_walk.specs.Walk.{Seen, seen_in, seen_members, where_formed, list_parts, object_parts, member_parts}
 use Rattle.spec_walk.specs.inner.Inside.{inside}
 use Rattle.vega_schema.specs.Schema.{vega_schema}
@@ -120,9 +121,13 @@ items_stand : (trail : Trail) (inner n : ℕ) (items : List Json) →
     Each HasOwnNames items → EachFrom (λ i item. Stands trail i inner item) n items
 items_stand trail inner n [] fine quiet own = tt
 items_stand trail inner n (item ∷ items) fine quiet own =
-    let faults = none_of (map (below n (decimal n)) (faults_in vega_schema item inner)) (flat_map (item_faults inner) (enumerate_from (n + 1) (map (faults_in vega_schema) items))) fine in
-    let parts = quiet_parts (parts_in trail n inner item) (flat_map (λ (item : ℕ × Seen Around Part). item.1 item.0 inner trail) (enumerate_from (n + 1) (map (seen_in vega_schema noted parts_at) items))) quiet in
-    (record { fine = none_mapped (below n (decimal n)) (faults_in vega_schema item inner) faults.0; quiet = parts.0; own = own.0 }, items_stand trail inner (n + 1) items faults.1 parts.1 own.1)
+    let faults = none_of (map (below n (decimal n)) (faults_in vega_schema item inner))
+    (flat_map (item_faults inner) (enumerate_from (n + 1) (map (faults_in vega_schema) items))) fine in
+    let parts = quiet_parts (parts_in trail n inner item) (flat_map (λ (item : ℕ × Seen Around Part). item.1 item.0 inner trail)
+    (enumerate_from (n + 1) (map (seen_in vega_schema noted parts_at) items))) quiet in (
+      record { fine = none_mapped (below n (decimal n)) (faults_in vega_schema item inner) faults.0; quiet = parts.0; own = own.0 },
+      items_stand trail inner (n + 1) items faults.1 parts.1 own.1,
+    )
 
 -- the items of a list stand in it
 pub list_stands : (round : Trail) (number shape : ℕ) (tree : Json) (items : List Json) (form : Form) (inner : ℕ) →
@@ -150,7 +155,8 @@ member_stands : (trail : Trail) (layout : Layout) (n : ℕ) (m : Member) (o : Op
     map (below n m.name) (faults_by o (faults_in vega_schema m.value)) ≡ [] →
     shown (option_map_or (λ shape. parts_in trail n shape m.value) o []) ≡ [] → HasOwnNames m.value → StandsMember trail layout n m
 member_stands trail layout n m None e fine quiet own = absurd cc
-member_stands trail layout n m (Some shape) e fine quiet own = (shape, e, record { fine = none_mapped (below n m.name) (faults_in vega_schema m.value shape) fine; quiet = quiet; own = own })
+member_stands trail layout n m (Some shape) e fine quiet own =
+    (shape, e, record { fine = none_mapped (below n m.name) (faults_in vega_schema m.value shape) fine; quiet = quiet; own = own })
 
 members_stand : (trail : Trail) (layout : Layout) (n : ℕ) (members : List Member) →
     flat_map (member_faults layout) (enumerate_from n (judged_members vega_schema members)) ≡ [] →
@@ -164,7 +170,8 @@ members_stand trail layout n (m ∷ ms) fine quiet own =
     (flat_map (member_parts layout trail) (enumerate_from (n + 1) (seen_members vega_schema noted parts_at ms))) quiet in
     (member_stands trail layout n m (shape_in layout m.name) refl faults.0 parts.0 own.0, members_stand trail layout (n + 1) ms faults.1 parts.1 own.1)
 
-one_there : (names : List (List ℕ)) (n : ℕ) (rule : Rule) (b : Bool) → is_missing names rule ≡ b → missing_fault names (n, rule) ≡ [] → is_missing names rule ≡ false
+one_there : (names : List (List ℕ)) (n : ℕ) (rule : Rule) (b : Bool) →
+    is_missing names rule ≡ b → missing_fault names (n, rule) ≡ [] → is_missing names rule ≡ false
 one_there names n rule false e none = e
 one_there names n rule true e none =
     let P : Bool → Type 0 = λ m. (if m then below n rule.name (here Missing) ∷ [] else []) ≡ [] in
@@ -188,8 +195,10 @@ object_stands round number shape tree members form layout s is taken laid =
     let again : taken_form vega_schema shape (out-Json (json.Object members)) ≡ Some form = ap (taken_form vega_schema shape) (opened_object members) ∙ taken in
     let fine : object_faults (Some layout) (judged_members vega_schema members) ≡ [] =
     ap (λ o. object_faults o (judged_members vega_schema members)) (sym laid)
-    ∙ ap (λ (o : Json-F Json Member). object_faults (layout_of vega_schema form (members_of o)) (judged_members vega_schema members)) (sym (opened_object members))
-    ∙ sym (faults_in-Object vega_schema members shape ∙ ap (λ o. unless_wrong o (λ form. object_faults (layout_of vega_schema form (members_of (out-Json (json.Object members)))) (judged_members vega_schema members))) again)
+    ∙ ap (λ (o : Json-F Json Member). object_faults (layout_of vega_schema form (members_of o)) (judged_members vega_schema members))
+    (sym (opened_object members))
+    ∙ sym (faults_in-Object vega_schema members shape ∙ ap (λ o. unless_wrong o
+    (λ form. object_faults (layout_of vega_schema form (members_of (out-Json (json.Object members)))) (judged_members vega_schema members))) again)
     ∙ ap (λ t. faults_in vega_schema t shape) (sym same) ∙ s.fine in
     let within : inside vega_schema noted parts_at tree form trail
     ≡ object_parts (Some layout) (seen_members vega_schema noted parts_at members) trail =
@@ -209,7 +218,8 @@ object_stands round number shape tree members form layout s is taken laid =
 -- ---- the parts of a list and of an object
 
 pub parts_open : (round : Trail) (number shape : ℕ) (tree : Json) (form : Form) → taken_form vega_schema shape (out-Json tree) ≡ Some form →
-    parts_in round number shape tree ≡ parts_at (noted number shape tree ∷ round) tree ++ inside vega_schema noted parts_at tree form (noted number shape tree ∷ round)
+    parts_in round number shape tree
+    ≡ parts_at (noted number shape tree ∷ round) tree ++ inside vega_schema noted parts_at tree form (noted number shape tree ∷ round)
 parts_open round number shape tree form taken =
     opened vega_schema noted parts_at tree number shape round
     ∙ ap (λ o. where_formed o (λ (f : Form). parts_at (noted number shape tree ∷ round) tree
@@ -217,7 +227,8 @@ parts_open round number shape tree form taken =
 
 -- the parts of the items of a list, counted from a number on
 abbrev pub parts_of_items : Trail → ℕ → ℕ → List Json → List Part
-parts_of_items trail inner n items = flat_map (λ (item : ℕ × Seen Around Part). item.1 item.0 inner trail) (enumerate_from n (map (seen_in vega_schema noted parts_at) items))
+parts_of_items trail inner n items =
+    flat_map (λ (item : ℕ × Seen Around Part). item.1 item.0 inner trail) (enumerate_from n (map (seen_in vega_schema noted parts_at) items))
 
 -- the parts of the members of an object
 abbrev pub parts_of_members : Trail → Layout → ℕ → List Member → List Part

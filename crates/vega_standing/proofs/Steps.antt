@@ -39,7 +39,8 @@ use Rattle.vega_parts.specs.Trails.{Trail, noted, place_of, child}
 use Rattle.vega_parts.specs.Members.{items_at, text_at as part_text, says_text}
 use Rattle.vega_parts.specs.Names.{used_member}
 use Rattle.vega_parts.specs.Lengths.{other_length}
-use Rattle.vega_parts.specs.Transforms.{data_of, by_type, lookup_parts, fold_fields, longer_list, window_lists, aggregate_lists, count_of_window, count_of_ops, extent_name}
+use Rattle.vega_parts.specs.Transforms.{data_of, by_type, lookup_parts, fold_fields, longer_list, window_lists, aggregate_lists}
+use Rattle.vega_parts.specs.Transforms.{count_of_window, count_of_ops, extent_name}
 use Rattle.vega_parts.specs.Parts.{parts_at}
 use Rattle.vega_rules.specs.Faults.{fault_if}
 use Rattle.vega_rules.specs.Places.{same_place}
@@ -82,9 +83,11 @@ unfolding vega_schema group_mark axis legend grid_layout top data_set data_forma
 steps_dull = refl
 
 -- the members of a transform are dull
-step_dull : (ms : List Member) (l : Layout) (name : List ℕ) (inner : ℕ) → layout_in vega_schema TRANSFORM ms ≡ Some l → shape_in l name ≡ Some inner → is_dull inner ≡ true
+step_dull : (ms : List Member) (l : Layout) (name : List ℕ) (inner : ℕ) →
+    layout_in vega_schema TRANSFORM ms ≡ Some l → shape_in l name ≡ Some inner → is_dull inner ≡ true
 step_dull ms l name inner laid ruled =
-    let passed : (applies vega_schema TRANSFORM ms l ≡ true) × (dull_step l ≡ true) = found_passes (applies vega_schema TRANSFORM ms) dull_step vega_schema.layouts l laid steps_dull in
+    let passed : (applies vega_schema TRANSFORM ms l ≡ true) × (dull_step l ≡ true) =
+    found_passes (applies vega_schema TRANSFORM ms) dull_step vega_schema.layouts l laid steps_dull in
     let is : (l.object == TRANSFORM) ≡ true = (both (l.object == TRANSFORM) (list_all (holds vega_schema ms) l.when) passed.0).0 in
     let members : dull_members l ≡ true = then_dull (l.object == TRANSFORM) (dull_members l) passed.1 is in
     let parts : (list_all (λ (r : Rule). is_dull r.shape) l.rules ≡ true) × (option_map_or is_dull l.others true ≡ true) =
@@ -140,7 +143,8 @@ module _ (round : Trail) (number : ℕ) (tree : Json) (s : Stands round number T
       list_any (says (codes "type") word) ms ≡ true → Told l
   other word l unlike length e o =
       let text : text_at ms (codes "type") ≡ Some word = says_is ms (codes "type") word o.own e in
-      let quiet : AreQuiet (parts_at step_trail tree) = (refl, quiet_step step_trail tree (says_type round number tree s ms is word (codes "fold") text ∙ unlike)) in
+      let quiet : AreQuiet (parts_at step_trail tree) =
+      (refl, quiet_step step_trail tree (says_type round number tree s ms is word (codes "fold") text ∙ unlike)) in
       inl (quiet, ap (λ t. fold_length (transform_by (unwrap_or t []) ms)) text ∙ length)
 
   fold_is : text_at ms (codes "type") ≡ Some (codes "fold") → by_type step_trail tree ≡ fold_fields step_trail tree
@@ -171,7 +175,8 @@ module _ (round : Trail) (number : ℕ) (tree : Json) (s : Stands round number T
   unfolding fold
   folds e o =
       let text : text_at ms (codes "type") ≡ Some (codes "fold") = says_is ms (codes "type") (codes "fold") o.own e in
-      let v : (v : Json) × (member_value ms (codes "fields") ≡ Some v) = required step_trail fold ms (codes "fields") (must (codes "fields") TEXTS) o refl refl refl in
+      let v : (v : Json) × (member_value ms (codes "fields") ≡ Some v) =
+      required step_trail fold ms (codes "fields") (must (codes "fields") TEXTS) o refl refl refl in
       let stands : (i : ℕ) × Stands step_trail i TEXTS v.0 = found_as step_trail fold ms (codes "fields") v.0 TEXTS o refl v.1 in
       let form = formed TEXTS v.0 stands.1.fine in
       let listed : is_some (items_in (out-Json v.0)) ≡ true = a_list (out-Json v.0) (texts_form (out-Json v.0) form.0 form.1) in
@@ -180,13 +185,15 @@ module _ (round : Trail) (number : ℕ) (tree : Json) (s : Stands round number T
       ∙ ap is_some (items_are tree ms is (codes "fields") ∙ ap (λ o. option_and_then (λ v. items_in (out-Json v)) o) v.1) ∙ listed in
       inr (ap (λ ps. part.Step (place_of step_trail) (data_of step_trail) ∷ ps)
       (fold_is text ∙ fields_are (items_at (codes "fields") tree) there
-      ∙ ap (λ o. part.Fold (place_of step_trail) (data_of step_trail) (length (unwrap_or (option_map (map text_of) o) [])) ∷ []) (items_are tree ms is (codes "fields"))
+      ∙ ap (λ o. part.Fold (place_of step_trail) (data_of step_trail) (length (unwrap_or (option_map (map text_of) o) [])) ∷ [])
+      (items_are tree ms is (codes "fields"))
       ∙ ap (λ t. part.Fold (place_of step_trail) (data_of step_trail) (fold_length (transform_by (unwrap_or t []) ms)) ∷ []) (sym text)))
 
   unknown : Told no_transform
   unfolding no_transform
   unknown o =
-      let v : (v : Json) × (member_value ms (codes "type") ≡ Some v) = required step_trail no_transform ms (codes "type") (must (codes "type") NOTHING) o refl refl refl in
+      let v : (v : Json) × (member_value ms (codes "type") ≡ Some v) =
+      required step_trail no_transform ms (codes "type") (must (codes "type") NOTHING) o refl refl refl in
       let stands : (i : ℕ) × Stands step_trail i NOTHING v.0 = found_as step_trail no_transform ms (codes "type") v.0 NOTHING o refl v.1 in
       absurd (nothing_stands step_trail stands.0 v.0 stands.1)
 
@@ -222,7 +229,8 @@ pub step_parts : (round : Trail) (number : ℕ) (tree : Json) → Stands round n
 step_parts round number tree s =
     let form = formed TRANSFORM tree s.fine in
     let ms : (ms : List Member) × (out-Json tree ≡ level.Object ms) = opened_as TRANSFORM (out-Json tree) (transform_taken (out-Json tree) form.0 form.1).0 in
-    let l : Laid round number TRANSFORM TRANSFORM tree ms.0 = laid_out round number TRANSFORM TRANSFORM tree ms.0 s ms.1 (λ f e. transform_taken (level.Object ms.0) f e) in
+    let l : Laid round number TRANSFORM TRANSFORM tree ms.0 =
+    laid_out round number TRANSFORM TRANSFORM tree ms.0 s ms.1 (λ f e. transform_taken (level.Object ms.0) f e) in
     let same : members_of tree ≡ ms.0 = ap (λ o. unwrap_or (members_in o) []) ms.1 in
     record {
       inner = parts_of_members (noted number TRANSFORM tree ∷ round) l.layout 0 ms.0;
@@ -269,7 +277,8 @@ one_multiplied whole known round number tree set s at few none = by_step s.is_st
     own = (none_of (folds_after whole known (parts_at (noted number TRANSFORM tree ∷ round) tree)) _
         (sym (folds_append whole known (parts_at (noted number TRANSFORM tree ∷ round) tree) s.inner) ∙ ap (folds_after whole known) (sym s.parts) ∙ none)).0
 
-    fold_made : (k : ℕ) (parts : List Part) → parts ≡ part.Step (place_of (noted number TRANSFORM tree ∷ round)) set ∷ part.Fold (place_of (noted number TRANSFORM tree ∷ round)) set k ∷ [] →
+    fold_made : (k : ℕ) (parts : List Part) → parts
+        ≡ part.Step (place_of (noted number TRANSFORM tree ∷ round)) set ∷ part.Fold (place_of (noted number TRANSFORM tree ∷ round)) set k ∷ [] →
         folds_after whole known parts ≡ [] →
         (product_of (known_after whole known parts) set ≡ product_of known set * k) × (product_of known set * k ≤ 8)
     fold_made k parts is none =
@@ -292,7 +301,8 @@ one_multiplied whole known round number tree set s at few none = by_step s.is_st
     )
     by_step (inr is) =
         let made = fold_made (fold_length (transform_of (members_of tree))) (parts_at (noted number TRANSFORM tree ∷ round) tree)
-        (is ∙ ap (λ x. part.Step (place_of (noted number TRANSFORM tree ∷ round)) x ∷ part.Fold (place_of (noted number TRANSFORM tree ∷ round)) x (fold_length (transform_of (members_of tree))) ∷ []) at) own in
+        (is ∙ ap (λ x. part.Step (place_of (noted number TRANSFORM tree ∷ round)) x
+        ∷ part.Fold (place_of (noted number TRANSFORM tree ∷ round)) x (fold_length (transform_of (members_of tree))) ∷ []) at) own in
         (ap (λ k. product_of k set) again ∙ made.0, made.1)
 
 -- and all of a list of them
@@ -334,7 +344,8 @@ steps_concern P trail n (v ∷ items) set p each at =
     own (inr is) = subst (Each (λ p. IfSome (concern p) P)) (sym is) (tt, (subst P (sym (at n v)) p, tt))
 
 -- what each quiet part and each fold of the data set keeps, all its transforms keep
-pub steps_keep : (P : Part → Type 0) → ((p : Part) → IsQuiet p → P p) → (trail : Trail) (n : ℕ) (items : List Json) (set : List ℕ) → ((at : List ℕ) (k : ℕ) → P (part.Fold at set k)) →
+pub steps_keep : (P : Part → Type 0) → ((p : Part) → IsQuiet p → P p) →
+    (trail : Trail) (n : ℕ) (items : List Json) (set : List ℕ) → ((at : List ℕ) (k : ℕ) → P (part.Fold at set k)) →
     EachFrom (λ i v. Stands trail i TRANSFORM v) n items → ((i : ℕ) (v : Json) → data_of (noted i TRANSFORM v ∷ trail) ≡ set) →
     Each P (parts_of_items trail TRANSFORM n items)
 steps_keep P quiet trail n [] set made each at = tt

@@ -43,7 +43,7 @@ use Rattle.vega_rules.specs.Limits.{limits}
 use Rattle.vega_rules.specs.Folds.{folds}
 use Rattle.vega_rules.specs.Intervals.{intervals}
 use Rattle.vega_rules.specs.Rules.{shown, rule_faults}
-use Rattle.vega_needs.specs.Cycles.{first_cycle}
+use Rattle.vega_rules.specs.Cycles.{first_cycle}
 use Rattle.vega_model.specs.Faults.{fault_by_members, fault_by_rules, with_path, judged, gathered, first_fault_of}
 use Rattle.vega_spec.specs.declared.spec.VgSpec.{VgSpec}
 use Rattle.vega_spec.specs.declared.spec.Group.{Group, Group-F, out-Group}
@@ -197,7 +197,8 @@ top_members trail ms s =
     let g : VgSpec = spec_with ms in
     let is : out-Group g.group ≡ group_parts ms (marks_at ms (codes "marks")) = group_opened ms (marks_at ms (codes "marks")) in
     let here : KeepsObject (object_here (out-Group g.group)) =
-    object_keeps trail top ms (out-Group g.group) s (record { sets = refl; scales = refl; axes = refl; grid = refl }) (built_of ms (marks_at ms (codes "marks")) _ is) in
+    object_keeps trail top ms (out-Group g.group) s (record { sets = refl; scales = refl; axes = refl; grid = refl })
+    (built_of ms (marks_at ms (codes "marks")) _ is) in
     let within : KeepsMarks (marks_of (unwrap_or (out-Group g.group).marks [])) =
     subst (λ (x : Group-F Group VgMark). KeepsMarks (marks_of (unwrap_or x.marks []))) (sym is) (marks_kept trail top ms s refl) in
     let space = space_kept trail top ms (codes "padding") s refl in
@@ -242,7 +243,8 @@ record Counted (g : VgSpec) : Type 0 where
 through : (a b : ℕ) → a ≤ b → b ≤ 1 → a ≤ 1
 through a b x y = omega arith
 
-counted : (trail : Trail) (ms : List Member) (here whole : List Part) → StandsObject trail top ms → whole ≡ here ++ parts_of_members trail top 0 ms → BreakNone whole →
+counted : (trail : Trail) (ms : List Member) (here whole : List Part) →
+    StandsObject trail top ms → whole ≡ here ++ parts_of_members trail top 0 ms → BreakNone whole →
     Counted (spec_with ms)
 unfolding top
 counted trail ms here whole s is rules =
@@ -250,13 +252,15 @@ counted trail ms here whole s is rules =
     let marks : (opened g.group).marks ≡ marks_of (unwrap_or (marks_at ms (codes "marks")) []) =
     opened_marks g.group ∙ ap (λ (x : Group-F Group VgMark). marks_of (unwrap_or x.marks [])) (group_opened ms (marks_at ms (codes "marks"))) in
     record {
-      few = subst (λ n. n < 2 ^ 32) (sym (numbered_count 0 1 (opened g.group).marks ∙ ap count_marks marks)) (few_marks trail top ms here whole s refl refl is rules.limits);
+      few = subst (λ n. n < 2 ^ 32) (sym (numbered_count 0 1 (opened g.group).marks ∙ ap count_marks marks))
+          (few_marks trail top ms here whole s refl refl is rules.limits);
       own = apart (sources_in (group_with ms (marks_at ms (codes "marks"))))
           (λ x. through _ _ (sources_weigh x trail top ms here whole s refl refl is) (at_most_once x whole rules.twice));
     }
 
 -- where its folds fit and its groups are few, a specification that is read keeps all rules
-pub rules_kept : (tree : Json) → HasOwnNames tree → first_fault_of tree ≡ None → FoldsKeep (spec_of tree) → HasFewGroups (spec_of tree) → KeepsAll (spec_of tree)
+pub rules_kept : (tree : Json) → HasOwnNames tree → first_fault_of tree ≡ None →
+    FoldsKeep (spec_of tree) → HasFewGroups (spec_of tree) → KeepsAll (spec_of tree)
 rules_kept tree own e folds few =
     let t : IsTop tree = the_top tree own e in
     let k : ObjectsKeep (spec_of tree) = objects_kept tree own e in

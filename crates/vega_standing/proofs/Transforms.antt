@@ -1,6 +1,7 @@
 -- Transforms and data sets that stand in a specification without faults.
 use Rattle.std.proofs.Common.{◌≡◌, ℕ, ℤ, pos, List, [], ◌∷◌, map, length, cond, find, refl, sym, ap, subst, ◌∙◌, arith, ◌+◌}
-use Rattle.std.specs.Prelude.{Option, Some, None, Bool, true, false, ◌==◌, nat_eq, int_lt, ◌&&◌, ◌||◌, IfSome, IsTrue, codes, unwrap_or, if◌then◌else◌, bytes_eq}
+use Rattle.std.specs.Prelude.{Option, Some, None, Bool, true, false, ◌==◌, nat_eq, int_lt, ◌&&◌, ◌||◌, IfSome, IsTrue, codes, unwrap_or}
+use Rattle.std.specs.Prelude.{if◌then◌else◌, bytes_eq}
 use Rattle.std.specs.Option.{option_map, option_map_or, option_and_then, is_some}
 use Rattle.std.specs.List.{list_any, enumerate_from}
 use Rattle.std.proofs.lemmas.Bool.Decides.{nat_tests}
@@ -39,7 +40,8 @@ use Rattle.vega_parts.specs.Trails.{Trail, noted, child}
 use Rattle.vega_parts.specs.Members.{named, member_at, items_at, says_text}
 use Rattle.vega_parts.specs.Names.{used_member}
 use Rattle.vega_parts.specs.Lengths.{other_length, unequal}
-use Rattle.vega_parts.specs.Transforms.{by_type, step as step_part, lookup_parts, fold_fields, window_lists, aggregate_lists, count_of_window, count_of_ops, extent_name}
+use Rattle.vega_parts.specs.Transforms.{by_type, step as step_part, lookup_parts, fold_fields, window_lists, aggregate_lists}
+use Rattle.vega_parts.specs.Transforms.{count_of_window, count_of_ops, extent_name}
 use Rattle.vega_parts.specs.Parts.{parts_at}
 use Rattle.vega_rules.specs.Rules.{shown}
 use Rattle.vega_spec.specs.declared.transforms.Transform.{Transform}
@@ -55,12 +57,14 @@ use Rattle.vega_standing.proofs.Scales.{nothing_stands}
 -- ---- members with their numbers
 
 named_value : (n : ℕ) (name : List ℕ) (ms : List Member) →
-    option_map (λ (m : ℕ × Json). m.1) (option_map (λ (m : ℕ × Member). (m.0, m.1.value)) (find (λ (m : ℕ × Member). bytes_eq m.1.name name) (enumerate_from n ms)))
+    option_map (λ (m : ℕ × Json). m.1)
+    (option_map (λ (m : ℕ × Member). (m.0, m.1.value)) (find (λ (m : ℕ × Member). bytes_eq m.1.name name) (enumerate_from n ms)))
     ≡ member_value ms name
 named_value n name [] = refl
 named_value n name (m ∷ ms) = by_name (bytes_eq m.name name) (named_value (n + 1) name ms)
   where
-    by_name : (b : Bool) → option_map (λ (m : ℕ × Json). m.1) (option_map (λ (m : ℕ × Member). (m.0, m.1.value)) (find (λ (m : ℕ × Member). bytes_eq m.1.name name) (enumerate_from (n + 1) ms)))
+    by_name : (b : Bool) → option_map (λ (m : ℕ × Json). m.1)
+        (option_map (λ (m : ℕ × Member). (m.0, m.1.value)) (find (λ (m : ℕ × Member). bytes_eq m.1.name name) (enumerate_from (n + 1) ms)))
         ≡ member_value ms name → option_map (λ (m : ℕ × Json). m.1) (option_map (λ (m : ℕ × Member). (m.0, m.1.value))
         (cond b (Some (n, m)) (find (λ (m : ℕ × Member). bytes_eq m.1.name name) (enumerate_from (n + 1) ms))))
         ≡ option_map (λ (m : Member). m.value) (cond b (Some m) (find (λ (m : Member). bytes_eq m.name name) ms))
@@ -75,7 +79,8 @@ module _ (tree : Json) (ms : List Member) (is : out-Json tree ≡ level.Object m
   says_member name text = by_member (member_at name tree) (member_value ms name) (member_is name)
     where
       by_member : (o : Option (ℕ × Json)) (p : Option Json) → option_map (λ (m : ℕ × Json). m.1) o ≡ p →
-          option_map_or (λ (m : ℕ × Json). text_passes (bytes_eq text) (out-Json m.1)) o false ≡ option_map_or (λ v. text_passes (bytes_eq text) (out-Json v)) p false
+          option_map_or (λ (m : ℕ × Json). text_passes (bytes_eq text) (out-Json m.1)) o false
+          ≡ option_map_or (λ v. text_passes (bytes_eq text) (out-Json v)) p false
       by_member None None e = refl
       by_member None (Some v) e = absurd cc
       by_member (Some m) None e = absurd cc
@@ -84,7 +89,8 @@ module _ (tree : Json) (ms : List Member) (is : out-Json tree ≡ level.Object m
   pub items_are : (name : List ℕ) → option_map (λ (m : ℕ × List Json). m.1) (items_at name tree) ≡ found_at items_in ms name
   items_are name = by_member (member_at name tree) ∙ ap (λ o. option_and_then (λ v. items_in (out-Json v)) o) (member_is name)
     where
-      by_member : (o : Option (ℕ × Json)) → option_map (λ (m : ℕ × List Json). m.1) (option_and_then (λ (m : ℕ × Json). option_map (λ items. (m.0, items)) (items_in (out-Json m.1))) o)
+      by_member : (o : Option (ℕ × Json)) →
+          option_map (λ (m : ℕ × List Json). m.1) (option_and_then (λ (m : ℕ × Json). option_map (λ items. (m.0, items)) (items_in (out-Json m.1))) o)
           ≡ option_and_then (λ v. items_in (out-Json v)) (option_map (λ (m : ℕ × Json). m.1) o)
       by_member None = refl
       by_member (Some m) = by_items (items_in (out-Json m.1))
@@ -165,7 +171,8 @@ module _ (round : Trail) (number : ℕ) (tree : Json) (s : Stands round number T
   kept_bin : list_any (says (codes "type") (codes "bin")) ms ≡ true → Kept bin
   unfolding bin
   kept_bin e o = typed bin (codes "bin") o e
-      ∙ step_or (number_at ms (codes "step")) (reads_kept (λ n. int_lt (pos 0) n ≡ true) number_in trail bin ms (codes "step") STEP o refl (λ i v t. step trail i v t))
+      ∙ step_or (number_at ms (codes "step"))
+      (reads_kept (λ n. int_lt (pos 0) n ≡ true) number_in trail bin ms (codes "step") STEP o refl (λ i v t. step trail i v t))
 
   quiet : shown (parts_at trail tree) ≡ []
   quiet = quiet_here round number TRANSFORM tree s
@@ -205,13 +212,15 @@ module _ (round : Trail) (number : ℕ) (tree : Json) (s : Stands round number T
   lookup_quiet : text_at ms (codes "type") ≡ Some (codes "lookup") → shown (other_length (codes "as") (codes "values") trail tree) ≡ []
   lookup_quiet e =
       let inner : shown (by_type trail tree) ≡ [] = (quiet_parts (step_part trail) (by_type trail tree) quiet).1 in
-      (quiet_parts (used_member for_.From (codes "from") trail tree) (other_length (codes "as") (codes "values") trail tree) (ap shown (sym (lookup_is e)) ∙ inner)).1
+      (quiet_parts (used_member for_.From (codes "from") trail tree)
+      (other_length (codes "as") (codes "values") trail tree) (ap shown (sym (lookup_is e)) ∙ inner)).1
 
   kept_lookup : list_any (says (codes "type") (codes "lookup")) ms ≡ true → Kept lookup
   unfolding lookup
   kept_lookup e o =
       let text : text_at ms (codes "type") ≡ Some (codes "lookup") = says_is ms (codes "type") (codes "lookup") o.own e in
-      let v : (v : Json) × (member_value ms (codes "values") ≡ Some v) = required trail lookup ms (codes "values") (must (codes "values") TEXTS) o refl refl refl in
+      let v : (v : Json) × (member_value ms (codes "values") ≡ Some v) =
+      required trail lookup ms (codes "values") (must (codes "values") TEXTS) o refl refl refl in
       let stands : (i : ℕ) × Stands trail i TEXTS v.0 = found_as trail lookup ms (codes "values") v.0 TEXTS o refl v.1 in
       let form = formed TEXTS v.0 stands.1.fine in
       let listed : is_some (items_in (out-Json v.0)) ≡ true = a_list (out-Json v.0) (texts_form (out-Json v.0) form.0 form.1) in
@@ -220,14 +229,16 @@ module _ (round : Trail) (number : ℕ) (tree : Json) (s : Stands round number T
       ∙ ap is_some (items_are tree ms is (codes "values") ∙ ap (λ o. option_and_then (λ v. items_in (out-Json v)) o) v.1) ∙ listed in
       let go = lengths_go trail (items_at (codes "as") tree) (items_at (codes "values") tree) (lookup_quiet text) there in
       typed lookup (codes "lookup") o e
-      ∙ (λ i. nat_eq (length (unwrap_or (named_by (sym (items_are tree ms is (codes "as")) i)) (unwrap_or (named_by (sym (items_are tree ms is (codes "values")) i)) [])))
+      ∙ (λ i. nat_eq (length
+      (unwrap_or (named_by (sym (items_are tree ms is (codes "as")) i)) (unwrap_or (named_by (sym (items_are tree ms is (codes "values")) i)) [])))
       (length (unwrap_or (named_by (sym (items_are tree ms is (codes "values")) i)) [])))
       ∙ go
 
   unknown : Kept no_transform
   unfolding no_transform
   unknown o =
-      let v : (v : Json) × (member_value ms (codes "type") ≡ Some v) = required trail no_transform ms (codes "type") (must (codes "type") NOTHING) o refl refl refl in
+      let v : (v : Json) × (member_value ms (codes "type") ≡ Some v) =
+      required trail no_transform ms (codes "type") (must (codes "type") NOTHING) o refl refl refl in
       let stands : (i : ℕ) × Stands trail i NOTHING v.0 = found_as trail no_transform ms (codes "type") v.0 NOTHING o refl v.1 in
       absurd (nothing_stands trail stands.0 v.0 stands.1)
 
@@ -265,7 +276,8 @@ pub transform_kept : (round : Trail) (number : ℕ) (tree : Json) → Stands rou
 transform_kept round number tree s =
     let form = formed TRANSFORM tree s.fine in
     let ms : (ms : List Member) × (out-Json tree ≡ level.Object ms) = opened_as TRANSFORM (out-Json tree) (transform_taken (out-Json tree) form.0 form.1).0 in
-    let l : Laid round number TRANSFORM TRANSFORM tree ms.0 = laid_out round number TRANSFORM TRANSFORM tree ms.0 s ms.1 (λ f e. transform_taken (level.Object ms.0) f e) in
+    let l : Laid round number TRANSFORM TRANSFORM tree ms.0 =
+    laid_out round number TRANSFORM TRANSFORM tree ms.0 s ms.1 (λ f e. transform_taken (level.Object ms.0) f e) in
     let same : members_of tree ≡ ms.0 = ap (λ o. unwrap_or (members_in o) []) ms.1 in
     let P : List Member → Type 0 = λ m. IsTrue (is_kept (transform_of m)) in
     subst P (sym same) (by_transform round number tree s ms.0 ms.1 l.layout l.applies l.stands)
@@ -304,5 +316,6 @@ data_kept round number tree s =
     let same : members_of tree ≡ ms.0 = ap (λ o. unwrap_or (members_in o) []) ms.1 in
     let P : List Member → Type 0 = λ m. OfTransforms is_kept (data_set_of m) in
     let o : StandsObject (noted number DATA tree ∷ round) data_set ms.0 = subst (λ x. StandsObject (noted number DATA tree ∷ round) x ms.0) is l.stands in
-    subst P (sym same) (list_kept (λ (t : Transform). IsTrue (is_kept t)) (λ t. transform_of (members_of t)) (noted number DATA tree ∷ round) data_set ms.0 (codes "transform") TRANSFORMS TRANSFORM
+    subst P (sym same) (list_kept (λ (t : Transform). IsTrue (is_kept t)) (λ t. transform_of (members_of t))
+    (noted number DATA tree ∷ round) data_set ms.0 (codes "transform") TRANSFORMS TRANSFORM
     o data_transforms transforms_listed (λ r i v t. transform_kept r i v t))

@@ -1,7 +1,11 @@
 -- Trees by what stands in them.
 use Rattle.std.proofs.Common.{◌≡◌, List, [], ◌∷◌, sym, ap, subst, ◌∙◌}
-use Rattle.json_exact.specs.declared.json.Json.{Json, Json-F, out-Json, roll-Json, out-roll-Json, roll-out-Json, Null, Flag, Number, Huge, Text, List', Object', Row_of-Json, end_of-Json, more_of-Json, items-the_row-Json, items_shown-the_row-Json-0, Row_of-Member, end_of-Member, more_of-Member, items-the_row-Member, items_shown-the_row-Member-1}
-use Rattle.json_exact.specs.declared.json.Json.TheVariants.{rolls-List, rolls-Object, outs-Null, outs-Flag, outs-Number, outs-Huge, outs-Text, outs-List', outs-Object'}
+use Rattle.json_exact.specs.declared.json.Json.{Json, Json-F, out-Json, roll-Json, out-roll-Json, roll-out-Json, Null, Flag, Number, Huge}
+use Rattle.json_exact.specs.declared.json.Json.{Text, List', Object', Row_of-Json, end_of-Json, more_of-Json, items-the_row-Json}
+use Rattle.json_exact.specs.declared.json.Json.{items_shown-the_row-Json-0, Row_of-Member, end_of-Member, more_of-Member}
+use Rattle.json_exact.specs.declared.json.Json.{items-the_row-Member, items_shown-the_row-Member-1}
+use Rattle.json_exact.specs.declared.json.Json.TheVariants.{rolls-List, rolls-Object, outs-Null, outs-Flag, outs-Number, outs-Huge}
+use Rattle.json_exact.specs.declared.json.Json.TheVariants.{outs-Text, outs-List', outs-Object'}
 use Rattle.json_exact.specs.declared.json.Json.TheVariants as json
 use Rattle.json_exact.specs.declared.json.Json.TheOpen as level
 use Rattle.json_exact.specs.declared.json.Member.{Member}
@@ -44,11 +48,26 @@ pub record Inner (P : Json → Type 0) (tree : Json) : Type 0 where
 mutual
   -- a property that a tree has where what stands in it has it: each tree has it
   pub of_each : (P : Json → Type 0) → ((tree : Json) → Inner P tree → P tree) → (tree : Json) → P tree
-  of_each P step Null = step Null (record { items = λ xs e. absurd (let f : out-Json Null ≡ level.Null = outs-Null in cc); values = λ ms e. absurd (let f : out-Json Null ≡ level.Null = outs-Null in cc) })
-  of_each P step (Flag b) = step (Flag b) (record { items = λ xs e. absurd (let f : out-Json (Flag b) ≡ level.Flag b = outs-Flag b in cc); values = λ ms e. absurd (let f : out-Json (Flag b) ≡ level.Flag b = outs-Flag b in cc) })
-  of_each P step (Number n) = step (Number n) (record { items = λ xs e. absurd (let f : out-Json (Number n) ≡ level.Number n = outs-Number n in cc); values = λ ms e. absurd (let f : out-Json (Number n) ≡ level.Number n = outs-Number n in cc) })
-  of_each P step Huge = step Huge (record { items = λ xs e. absurd (let f : out-Json Huge ≡ level.Huge = outs-Huge in cc); values = λ ms e. absurd (let f : out-Json Huge ≡ level.Huge = outs-Huge in cc) })
-  of_each P step (Text t) = step (Text t) (record { items = λ xs e. absurd (let f : out-Json (Text t) ≡ level.Text t = outs-Text t in cc); values = λ ms e. absurd (let f : out-Json (Text t) ≡ level.Text t = outs-Text t in cc) })
+  of_each P step Null = step Null (record {
+    items = λ xs e. absurd (let f : out-Json Null ≡ level.Null = outs-Null in cc);
+    values = λ ms e. absurd (let f : out-Json Null ≡ level.Null = outs-Null in cc);
+  })
+  of_each P step (Flag b) = step (Flag b) (record {
+    items = λ xs e. absurd (let f : out-Json (Flag b) ≡ level.Flag b = outs-Flag b in cc);
+    values = λ ms e. absurd (let f : out-Json (Flag b) ≡ level.Flag b = outs-Flag b in cc);
+  })
+  of_each P step (Number n) = step (Number n) (record {
+    items = λ xs e. absurd (let f : out-Json (Number n) ≡ level.Number n = outs-Number n in cc);
+    values = λ ms e. absurd (let f : out-Json (Number n) ≡ level.Number n = outs-Number n in cc);
+  })
+  of_each P step Huge = step Huge (record {
+    items = λ xs e. absurd (let f : out-Json Huge ≡ level.Huge = outs-Huge in cc);
+    values = λ ms e. absurd (let f : out-Json Huge ≡ level.Huge = outs-Huge in cc);
+  })
+  of_each P step (Text t) = step (Text t) (record {
+    items = λ xs e. absurd (let f : out-Json (Text t) ≡ level.Text t = outs-Text t in cc);
+    values = λ ms e. absurd (let f : out-Json (Text t) ≡ level.Text t = outs-Text t in cc);
+  })
   of_each P step (List' size items) = step (List' size items) (record {
     items = λ xs e. subst (Each P) (sym (items_shown-the_row-Json-0 size items) ∙ items_are (outs-List' size items) e) (of_items P step items);
     values = λ ms e. absurd (let f = outs-List' size items in cc);
@@ -97,7 +116,8 @@ values_of_own Huge members e own = absurd (let f : out-Json Huge ≡ level.Huge 
 values_of_own (Text t) members e own = absurd (let f : out-Json (Text t) ≡ level.Text t = outs-Text t in cc)
 values_of_own (List' size row) members e own = absurd (let f = outs-List' size row in cc)
 values_of_own (Object' size row) members e own =
-    subst (Each (λ (m : Member). HasOwnNames m.value)) (sym (items_shown-the_row-Member-1 size row) ∙ members_are (outs-Object' size row) e) (values_own row own.1)
+    subst (Each (λ (m : Member). HasOwnNames m.value))
+    (sym (items_shown-the_row-Member-1 size row) ∙ members_are (outs-Object' size row) e) (values_own row own.1)
 
 pub members_own : (tree : Json) (members : List Member) → out-Json tree ≡ level.Object members → HasOwnNames tree → AreOwn members
 members_own Null members e own = absurd (let f : out-Json Null ≡ level.Null = outs-Null in cc)

@@ -33,7 +33,8 @@ use Rattle.vega_spec.specs.declared.spec.VgMark.{VgMark}
 use Rattle.vega_building.specs.Spec.{mark_with, mark_of, marks_in, marks_at}
 use Rattle.vega_building.proofs.Nested.{marks_in-List, mark_of-Object}
 use Rattle.vega_standing.proofs.Trees.{Each, Inner, of_each, list_of, object_of}
-use Rattle.vega_standing.proofs.Stands.{EachFrom, Stands, StandsMember, StandsObject, formed, list_stands, parts_in, parts_of_items, parts_of_members, list_parts_are}
+use Rattle.vega_standing.proofs.Stands.{EachFrom, Stands, StandsMember, StandsObject, formed, list_stands, parts_in, parts_of_items}
+use Rattle.vega_standing.proofs.Stands.{parts_of_members, list_parts_are}
 use Rattle.vega_standing.proofs.Members.{Laid, laid_out, opened_as, found_as, required, unruled}
 use Rattle.vega_standing.proofs.Scales.{nothing_stands}
 use Rattle.vega_standing.proofs.Transforms.{one_layout, last_layout}
@@ -110,11 +111,13 @@ module _ (w : Part → ℕ) (trail : Trail) (l : Layout) where
     pub stands : Stands trail number shape v
     pub weighs : named_weight n ms name ≡ weight w (parts_in trail number shape v)
 
-  pub weighed : (n : ℕ) (ms : List Member) (name : List ℕ) (v : Json) → EachFrom (StandsMember trail l) n ms → member_value ms name ≡ Some v → Weighed n ms name v
+  pub weighed : (n : ℕ) (ms : List Member) (name : List ℕ) (v : Json) →
+      EachFrom (StandsMember trail l) n ms → member_value ms name ≡ Some v → Weighed n ms name v
   weighed n [] name v each e = absurd cc
   weighed n (m ∷ ms) name v each e = by_name (bytes_eq m.name name) refl e (weighed (n + 1) ms name v each.1)
     where
-      by_name : (b : Bool) → bytes_eq m.name name ≡ b → option_map (λ (m : Member). m.value) (cond b (Some m) (find (λ (m : Member). bytes_eq m.name name) ms)) ≡ Some v →
+      by_name : (b : Bool) → bytes_eq m.name name ≡ b →
+          option_map (λ (m : Member). m.value) (cond b (Some m) (find (λ (m : Member). bytes_eq m.name name) ms)) ≡ Some v →
           (member_value ms name ≡ Some v → Weighed (n + 1) ms name v) → Weighed n (m ∷ ms) name v
       by_name true same f rest =
           let named : m.name ≡ name = (bytes_eq-Decides m.name name).0 same in
@@ -168,7 +171,8 @@ module _ (trail : Trail) (ms : List Member) where
   unknown : Ruled no_mark
   unfolding no_mark
   unknown s =
-      let v : (v : Json) × (member_value ms (codes "type") ≡ Some v) = required trail no_mark ms (codes "type") (must (codes "type") NOTHING) s refl refl refl in
+      let v : (v : Json) × (member_value ms (codes "type") ≡ Some v) =
+      required trail no_mark ms (codes "type") (must (codes "type") NOTHING) s refl refl refl in
       let stands : (i : ℕ) × Stands trail i NOTHING v.0 = found_as trail no_mark ms (codes "type") v.0 NOTHING s refl v.1 in
       absurd (nothing_stands trail stands.0 v.0 stands.1)
 
@@ -201,7 +205,8 @@ below_sum t n here rest whole a b c = omega arith
 module _ (w : Part → ℕ) (f : VgMark → ℕ) (own : List Member → ℕ)
     (heavy : (round : Trail) (number : ℕ) (tree : Json) (ms : List Member) → Stands round number MARK tree → out-Json tree ≡ level.Object ms →
     (l : Layout) → layout_in vega_schema MARK ms ≡ Some l → StandsObject (noted number MARK tree ∷ round) l ms →
-    f (mark_with ms (marks_at ms (codes "marks"))) ≤ weight w (parts_at (noted number MARK tree ∷ round) tree) + own ms + total f (unwrap_or (marks_at ms (codes "marks")) []))
+    f (mark_with ms (marks_at ms (codes "marks")))
+    ≤ weight w (parts_at (noted number MARK tree ∷ round) tree) + own ms + total f (unwrap_or (marks_at ms (codes "marks")) []))
     (owned : (trail : Trail) (l : Layout) (ms : List Member) → StandsObject trail l ms →
     (shape_in l (codes "data") ≡ None) ⊎ (shape_in l (codes "data") ≡ Some DATA_LIST) → own ms ≤ named_weight w trail l 0 ms (codes "data")) where
   abbrev Light : Json → Type 0
@@ -227,9 +232,11 @@ module _ (w : Part → ℕ) (f : VgMark → ℕ) (own : List Member → ℕ)
       let trail : Trail = noted number MARKS v ∷ round in
       let each : EachFrom (λ i w. Stands trail i MARK w) 0 items.0 = list_stands round number MARKS v items.0 form.0 MARK s items.1 known asks in
       let built : marks_in v ≡ Some (map mark_of items.0) = ap marks_in (list_of v items.0 items.1) ∙ marks_in-List items.0 in
-      below_sum (total f (unwrap_or (marks_in v) [])) (total (λ v. f (mark_of v)) items.0) (weight w (parts_at trail v)) (weight w (parts_of_items trail MARK 0 items.0)) _
+      below_sum (total f (unwrap_or (marks_in v) [])) (total (λ v. f (mark_of v)) items.0)
+      (weight w (parts_at trail v)) (weight w (parts_of_items trail MARK 0 items.0)) _
       (ap (λ o. total f (unwrap_or o [])) built ∙ mapped_total f items.0)
-      (ap (weight w) (list_parts_are round number MARKS v items.0 form.0 MARK items.1 known asks) ∙ weight_append w (parts_at trail v) (parts_of_items trail MARK 0 items.0))
+      (ap (weight w) (list_parts_are round number MARKS v items.0 form.0 MARK items.1 known asks)
+      ∙ weight_append w (parts_at trail v) (parts_of_items trail MARK 0 items.0))
       (items_weigh w (λ v. f (mark_of v)) trail MARK 0 items.0 (lights trail 0 items.0 (deep.items items.0 items.1) each))
 
   at_most_equal : (t n m : ℕ) → m ≡ n → t ≤ n → t ≤ m
@@ -256,7 +263,8 @@ module _ (w : Part → ℕ) (f : VgMark → ℕ) (own : List Member → ℕ)
           (here.weighs ∙ ap (λ c. weight w (parts_in trail here.number c v)) shape)
           (list_weighs trail here.number v (subst (λ c. Stands trail here.number c v) shape here.stands) (value_of Deep ms (codes "marks") v deep e))
 
-  summed : (t here own sets marks inside members whole : ℕ) → t ≤ here + own + inside → own ≤ sets → inside ≤ marks → sets + marks ≤ members → whole ≡ here + members →
+  summed : (t here own sets marks inside members whole : ℕ) → t ≤ here + own + inside →
+      own ≤ sets → inside ≤ marks → sets + marks ≤ members → whole ≡ here + members →
       t ≤ whole
   summed t here own sets marks inside members whole a b c d e = omega arith
 
@@ -289,14 +297,17 @@ module _ (w : Part → ℕ) (f : VgMark → ℕ) (own : List Member → ℕ)
   deep_values [] = tt
   deep_values (m ∷ ms) = (of_each Deep deep_step m.value, deep_values ms)
 
-  all_summed : (own inside sets marks here members whole : ℕ) → own ≤ sets → inside ≤ marks → sets + marks ≤ members → whole ≡ here + members → own + inside ≤ whole
+  all_summed : (own inside sets marks here members whole : ℕ) → own ≤ sets → inside ≤ marks →
+      sets + marks ≤ members → whole ≡ here + members → own + inside ≤ whole
   all_summed own inside sets marks here members whole a b c d = omega arith
 
   -- the counts of an object's data sets and of its marks
-  pub object_weighs : (trail : Trail) (l : Layout) (ms : List Member) (here whole : List Part) → StandsObject trail l ms → shape_in l (codes "data") ≡ Some DATA_LIST →
+  pub object_weighs : (trail : Trail) (l : Layout) (ms : List Member) (here whole : List Part) →
+      StandsObject trail l ms → shape_in l (codes "data") ≡ Some DATA_LIST →
       shape_in l (codes "marks") ≡ Some MARKS → whole ≡ here ++ parts_of_members trail l 0 ms →
       own ms + total f (unwrap_or (marks_at ms (codes "marks")) []) ≤ weight w whole
   object_weighs trail l ms here whole s sets marks is =
-      all_summed (own ms) (total f (unwrap_or (marks_at ms (codes "marks")) [])) (named_weight w trail l 0 ms (codes "data")) (named_weight w trail l 0 ms (codes "marks"))
+      all_summed (own ms) (total f (unwrap_or (marks_at ms (codes "marks")) []))
+      (named_weight w trail l 0 ms (codes "data")) (named_weight w trail l 0 ms (codes "marks"))
       (weight w here) (weight w (parts_of_members trail l 0 ms)) _ (owned trail l ms s (inr sets)) (marks_weigh trail l ms s (inr marks) (deep_values ms))
       (two_named w trail l 0 ms (codes "data") (codes "marks") refl) (ap (weight w) is ∙ weight_append w here (parts_of_members trail l 0 ms))

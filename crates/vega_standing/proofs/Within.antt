@@ -25,12 +25,14 @@ use Rattle.vega_standing.proofs.Quiet.{each_append, each_of}
 
 -- shapes of which all that stands in their values is such again
 pub record IsClosed (ok : ℕ → Bool) : Type 0 where
-  pub items : (shape : ℕ) (o : Opened) (f : Form) (inner : ℕ) → ok shape ≡ true → taken_form vega_schema shape o ≡ Some f → items_shape f ≡ Some inner → ok inner ≡ true
+  pub items : (shape : ℕ) (o : Opened) (f : Form) (inner : ℕ) → ok shape ≡ true →
+      taken_form vega_schema shape o ≡ Some f → items_shape f ≡ Some inner → ok inner ≡ true
   pub members : (shape : ℕ) (o : Opened) (f : Form) (ms : List Member) (l : Layout) (name : List ℕ) (inner : ℕ) → ok shape ≡ true →
       taken_form vega_schema shape o ≡ Some f → layout_of vega_schema f ms ≡ Some l → shape_in l name ≡ Some inner → ok inner ≡ true
 
 module _ (ok : ℕ → Bool) (Holds : Trail → Part → Type 0) (closed : IsClosed ok)
-    (own : (round : Trail) (number shape : ℕ) (tree : Json) → ok shape ≡ true → Each (Holds (noted number shape tree ∷ round)) (parts_at (noted number shape tree ∷ round) tree))
+    (own : (round : Trail) (number shape : ℕ) (tree : Json) → ok shape ≡ true →
+    Each (Holds (noted number shape tree ∷ round)) (parts_at (noted number shape tree ∷ round) tree))
     (outward : (here : Around) (round : Trail) (p : Part) → Holds (here ∷ round) p → Holds round p) where
   abbrev Within : Json → Type 0
   Within tree = (round : Trail) (number shape : ℕ) → ok shape ≡ true → Each (Holds (noted number shape tree ∷ round)) (parts_in round number shape tree)
@@ -42,7 +44,8 @@ module _ (ok : ℕ → Bool) (Holds : Trail → Part → Type 0) (closed : IsClo
   of_items : (trail : Trail) (inner n : ℕ) (items : List Json) → ok inner ≡ true → Each Within items → Each (Holds trail) (parts_of_items trail inner n items)
   of_items trail inner n [] o each = tt
   of_items trail inner n (v ∷ items) o each =
-      each_append (Holds trail) (parts_in trail n inner v) (parts_of_items trail inner (n + 1) items) (one_value trail n inner v o each.0) (of_items trail inner (n + 1) items o each.1)
+      each_append (Holds trail) (parts_in trail n inner v) (parts_of_items trail inner (n + 1) items)
+      (one_value trail n inner v o each.0) (of_items trail inner (n + 1) items o each.1)
 
   of_members : (trail : Trail) (l : Layout) (n : ℕ) (ms : List Member) → ((name : List ℕ) (inner : ℕ) → shape_in l name ≡ Some inner → ok inner ≡ true) →
       Each (λ (m : Member). Within m.value) ms → Each (Holds trail) (parts_of_members trail l n ms)
@@ -58,7 +61,8 @@ module _ (ok : ℕ → Bool) (Holds : Trail → Part → Type 0) (closed : IsClo
   of_list : (tree : Json) (xs : List Json) → out-Json tree ≡ level.List xs → Each Within xs → (trail : Trail) (f : Form) →
       ((inner : ℕ) → items_shape f ≡ Some inner → ok inner ≡ true) → Each (Holds trail) (inside vega_schema noted parts_at tree f trail)
   of_list tree xs is each trail f oks =
-      subst (Each (Holds trail)) (sym (ap (λ t. inside vega_schema noted parts_at t f trail) (list_of tree xs is) ∙ inside-List vega_schema noted parts_at xs f trail))
+      subst (Each (Holds trail))
+      (sym (ap (λ t. inside vega_schema noted parts_at t f trail) (list_of tree xs is) ∙ inside-List vega_schema noted parts_at xs f trail))
       (by_shape (items_shape f) refl)
     where
       by_shape : (o : Option ℕ) → items_shape f ≡ o → Each (Holds trail) (list_parts o (map (seen_in vega_schema noted parts_at) xs) trail)
@@ -69,7 +73,8 @@ module _ (ok : ℕ → Bool) (Holds : Trail → Part → Type 0) (closed : IsClo
       ((l : Layout) (name : List ℕ) (inner : ℕ) → layout_of vega_schema f ms ≡ Some l → shape_in l name ≡ Some inner → ok inner ≡ true) →
       Each (Holds trail) (inside vega_schema noted parts_at tree f trail)
   of_object tree ms is each trail f oks =
-      subst (Each (Holds trail)) (sym (ap (λ t. inside vega_schema noted parts_at t f trail) (object_of tree ms is) ∙ inside-Object vega_schema noted parts_at ms f trail))
+      subst (Each (Holds trail))
+      (sym (ap (λ t. inside vega_schema noted parts_at t f trail) (object_of tree ms is) ∙ inside-Object vega_schema noted parts_at ms f trail))
       (by_layout (layout_of vega_schema f ms) refl)
     where
       by_layout : (o : Option Layout) → layout_of vega_schema f ms ≡ o → Each (Holds trail) (object_parts o (seen_members vega_schema noted parts_at ms) trail)
@@ -92,7 +97,8 @@ module _ (ok : ℕ → Bool) (Holds : Trail → Part → Type 0) (closed : IsClo
   of_value : (tree : Json) → Inner Within tree → Within tree
   of_value tree inner round number shape o = by_form (taken_form vega_schema shape (out-Json tree)) refl
     where
-      by_form : (f : Option Form) → taken_form vega_schema shape (out-Json tree) ≡ f → Each (Holds (noted number shape tree ∷ round)) (parts_in round number shape tree)
+      by_form : (f : Option Form) → taken_form vega_schema shape (out-Json tree) ≡ f →
+          Each (Holds (noted number shape tree ∷ round)) (parts_in round number shape tree)
       by_form None e =
           subst (Each (Holds (noted number shape tree ∷ round)))
           (sym (opened vega_schema noted parts_at tree number shape round

@@ -1,6 +1,7 @@
 -- Trees in which no object has a member's name twice.
 use Rattle.std.specs.Prelude.{◌≡◌, false, List, [], ◌∷◌}
-use Rattle.json_exact.specs.declared.json.Json.{Json, out-Json, Null, Flag, Number, Huge, Text, List', Object', Row_of-Json, end_of-Json, more_of-Json, Row_of-Member, end_of-Member, more_of-Member}
+use Rattle.json_exact.specs.declared.json.Json.{Json, out-Json, Null, Flag, Number, Huge, Text, List', Object', Row_of-Json, end_of-Json}
+use Rattle.json_exact.specs.declared.json.Json.{more_of-Json, Row_of-Member, end_of-Member, more_of-Member}
 use Rattle.json_exact.specs.declared.json.Member.{Member}
 use Rattle.spec_schema.specs.Layouts.{has_name}
 use Rattle.spec_schema.specs.Faults.{members_of}

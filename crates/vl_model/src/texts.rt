@@ -2,7 +2,8 @@
 ghost use Rattle.std.specs.Prelude.{◌≡◌, ◌-◌, drop, length, IfOk};
 ghost use Rattle.std.specs.List.{list_all};
 ghost use Rattle.expr_syntax.specs.Tokens.{is_name_start, is_name_byte};
-ghost use Rattle.vl_model.specs.Texts.{is_expression, is_label_format, is_name, is_reserved, is_parameter_name, begins_far, is_far, wrong_unless, unsupported_if, plain_fault, text_fault};
+ghost use Rattle.vl_model.specs.Texts.{is_expression, is_label_format, is_name, is_reserved, is_parameter_name, begins_far, is_far};
+ghost use Rattle.vl_model.specs.Texts.{wrong_unless, unsupported_if, plain_fault, text_fault};
 
 use expr_reading::expression_of;
 use expr_syntax::has_domain_length;

@@ -1,5 +1,6 @@
 -- Where names are first given, as a map keeps it.
-use Rattle.std.proofs.Common.{◌≡◌, ◌+◌, ◌<◌, ◌≤◌, ◌-◌, ℕ, Bool, true, false, List, [], ◌∷◌, drop, get_or, length, map, Option, Some, None, cond, refl, sym, ap, ◌∙◌, arith}
+use Rattle.std.proofs.Common.{◌≡◌, ◌+◌, ◌<◌, ◌≤◌, ◌-◌, ℕ, Bool, true, false, List, [], ◌∷◌, drop, get_or, length, map, Option, Some, None}
+use Rattle.std.proofs.Common.{cond, refl, sym, ap, ◌∙◌, arith}
 use Rattle.std.specs.Prelude.{Vec, bytes_eq, filter}
 use Rattle.std.specs.Option.{option_map_or}
 use Rattle.std.specs.BTreeMap.{BTreeMap}
@@ -39,7 +40,8 @@ pub earlier_put : (old new : Firsts) (key name place : List ℕ) (stays : Bool) 
 earlier_put old new key name place stays is before put q =
     put q
     ∙ ap (λ b. cond (bytes_eq q key) (cond b (place_under old key) (Some place)) (place_under old q)) before
-    ∙ (λ i. cond (bytes_eq q (is i)) (cond (option_map_or (λ first. is_before first place) (place_under old (is i)) false) (place_under old (is i)) (Some place)) (place_under old q))
+    ∙ (λ i. cond (bytes_eq q (is i))
+    (cond (option_map_or (λ first. is_before first place) (place_under old (is i)) false) (place_under old (is i)) (Some place)) (place_under old q))
     ∙ ap (λ v. cond (bytes_eq q name) v (place_under old q)) (sooner_is place (place_under old name))
 
 -- where a name is first given, with one more before the others

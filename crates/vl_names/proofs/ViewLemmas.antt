@@ -12,7 +12,8 @@ use Rattle.vl_spec.specs.declared.views.ViewKind.TheVariants as kind
 use Rattle.vl_spec.specs.declared.views.ViewKind.TheVariants.{rolls-Unit, rolls-Layer, rolls-Facet, rolls-Joined}
 use Rattle.vl_spec.specs.declared.views.ViewKind.TheOpen as level
 use Rattle.vl_trails.specs.Trails.{Trail, to_item, to_member}
-use Rattle.vl_names.specs.Views.{ViewIn, Inside, Opened, list_from, in_list, joined_word, layer_here, faceted_here, joined_here, kind_here, view_in, view_here, views_in}
+use Rattle.vl_names.specs.Views.{ViewIn, Inside, Opened, list_from, in_list, joined_word, layer_here, faceted_here, joined_here, kind_here}
+use Rattle.vl_names.specs.Views.{view_in, view_here, views_in}
 use Rattle.vl_names.specs.inner.Shown.{encoding_at, facet_at, view_at}
 
 opened_kind : ViewKind → Opened
@@ -35,7 +36,8 @@ inside_at (level.Facet f) = λ trail. views_in (out-Faceted f).spec (to_member t
 inside_at (level.Joined j) = λ trail. in_list (map views_in (out-Joined j).views) (to_member trail (joined_word (out-Joined j).joining))
 
 by_level : (o : ViewKind-F ViewKind Faceted Joined Layer View) →
-    kind_here (map-ViewKind ViewKind Faceted Joined Layer View Opened Opened Opened Opened Inside opened_kind opened_faceted opened_joined opened_layer views_in o)
+    kind_here (map-ViewKind ViewKind Faceted Joined Layer View Opened Opened Opened Opened
+    Inside opened_kind opened_faceted opened_joined opened_layer views_in o)
     ≡ record { encoding = encoding_at o; facet = facet_at o; inside = inside_at o }
 unfolding opened_kind opened_faceted opened_joined opened_layer
 by_level (level.Unit u) = refl

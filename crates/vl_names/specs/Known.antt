@@ -1,5 +1,6 @@
 -- Which names are known.
-use Rattle.std.specs.Prelude.{◌≡◌, refl, ℕ, ◌==◌, Bool, true, false, ◌&&◌, Option, None, List, [], ◌∷◌, codes, length, map, is_some, slice_get, bytes_eq, if◌then◌else◌}
+use Rattle.std.specs.Prelude.{◌≡◌, refl, ℕ, ◌==◌, Bool, true, false, ◌&&◌, Option, None, List, [], ◌∷◌, codes, length, map, is_some}
+use Rattle.std.specs.Prelude.{slice_get, bytes_eq, if◌then◌else◌}
 use Rattle.std.specs.Option.{option_map_or}
 use Rattle.std.specs.List.{filter_map, list_all, position_from}
 use Rattle.expr_syntax.specs.declared.expr.Expr.{Expr}

@@ -2,7 +2,8 @@
 ghost use Rattle.std.specs.Prelude.{◌≡◌, [], ◌∷◌, ◌++◌, codes, flat_map, map, IfOk, OnOk};
 ghost use Rattle.std.specs.Option.{option_copied, option_to_list};
 ghost use Rattle.std.specs.List.{enumerate_from};
-ghost use Rattle.vl_names.specs.Given.{data_given, datasets_of, given_at, given_by_data, given_by_dataset, given_by_transform, given_as, given_by_view, given_if, looked_up, name_given, name_trail, views_given};
+ghost use Rattle.vl_names.specs.Given.{data_given, datasets_of, given_at, given_by_data, given_by_dataset, given_by_transform, given_as};
+ghost use Rattle.vl_names.specs.Given.{given_by_view, given_if, looked_up, name_given, name_trail, views_given};
 ghost use Rattle.vl_names.specs.inner.Shown.{view_shown};
 ghost use Rattle.vl_trails.specs.Trails.{to_item as item_trail, to_member as member_trail};
 

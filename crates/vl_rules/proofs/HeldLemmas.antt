@@ -39,7 +39,8 @@ conditions_open tree code k =
     fold_out-Conditions view.Faulty view.Faulty view.Faulty view.conditions_here (view.channel_here tree code) view.condition_here k ∙ by (out-Conditions k)
   where
     by : (o : Conditions-F Conditions Channel Condition) →
-        view.conditions_here (map-Conditions Conditions Channel Condition view.Faulty view.Faulty view.Faulty (conditions_faults tree code) (view.channel_faults tree code)
+        view.conditions_here
+        (map-Conditions Conditions Channel Condition view.Faulty view.Faulty view.Faulty (conditions_faults tree code) (view.channel_faults tree code)
         (folded_condition tree code) o) ≡ conditions_at tree code o
     by (level.One c) = condition_opens tree code c
     by (level.Several cs) = ap view.item_faults (each_opens tree code cs)
@@ -65,16 +66,19 @@ unfolding folded_condition
 channel_by tree code c trail None is =
     let at : Channel-F Conditions Channel Condition → List RuleFault = λ o. view.channel_here tree code (map-Channel Conditions Channel Condition
     view.Faulty view.Faulty view.Faulty (conditions_faults tree code) (view.channel_faults tree code) (folded_condition tree code) o) trail in
-    ap (λ (j : view.Faulty). j trail) (fold_out-Channel view.Faulty view.Faulty view.Faulty view.conditions_here (view.channel_here tree code) view.condition_here c)
+    ap (λ (j : view.Faulty). j trail)
+    (fold_out-Channel view.Faulty view.Faulty view.Faulty view.conditions_here (view.channel_here tree code) view.condition_here c)
     ∙ ap at (λ i. record { definition = (out-Channel c).definition; condition = is i })
 channel_by tree code c trail (Some k) is =
     let at : Channel-F Conditions Channel Condition → List RuleFault = λ o. view.channel_here tree code (map-Channel Conditions Channel Condition
     view.Faulty view.Faulty view.Faulty (conditions_faults tree code) (view.channel_faults tree code) (folded_condition tree code) o) trail in
-    ap (λ (j : view.Faulty). j trail) (fold_out-Channel view.Faulty view.Faulty view.Faulty view.conditions_here (view.channel_here tree code) view.condition_here c)
+    ap (λ (j : view.Faulty). j trail)
+    (fold_out-Channel view.Faulty view.Faulty view.Faulty view.conditions_here (view.channel_here tree code) view.condition_here c)
     ∙ ap at (λ i. record { definition = (out-Channel c).definition; condition = is i })
 
 pub channel_opens : (tree : Json) (code : ℕ) (c : Channel) (trail : Trail) →
-    view.channel_faults tree code c trail ≡ definition_faults tree code (out-Channel c).definition trail ++ held_faults tree code (out-Channel c).condition trail
+    view.channel_faults tree code c trail
+    ≡ definition_faults tree code (out-Channel c).definition trail ++ held_faults tree code (out-Channel c).condition trail
 channel_opens tree code c trail = channel_by tree code c trail (out-Channel c).condition refl
 
 -- ---- definitions
@@ -97,7 +101,8 @@ defined_at (level.Several cs) = flat_map all_of_condition cs
 conditions_define : (k : Conditions) → all_of_conditions k ≡ defined_at (out-Conditions k)
 unfolding defined_condition
 conditions_define k =
-    fold_out-Conditions (List Definition) (List Definition) (List Definition) part.conditions_here part.channel_here part.condition_here k ∙ by (out-Conditions k)
+    fold_out-Conditions (List Definition) (List Definition) (List Definition)
+    part.conditions_here part.channel_here part.condition_here k ∙ by (out-Conditions k)
   where
     by : (o : Conditions-F Conditions Channel Condition) →
         part.conditions_here (map-Conditions Conditions Channel Condition (List Definition) (List Definition) (List Definition) all_of_conditions part.all_of

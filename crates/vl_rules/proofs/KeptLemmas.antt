@@ -67,7 +67,8 @@ unit_without tree u k = λ i. k.rows i ++ (k.ends i ++ (k.size i ++ k.folds i))
 units_without : (tree : Json) (units : List MarkedAt) → All (UnitIsKept tree) units → flat_map (faults_of_unit tree) units ≡ []
 units_without tree [] all = refl
 units_without tree (u ∷ units) all =
-    both_empty (faults_of_unit tree u) (flat_map (faults_of_unit tree) units) (unit_without tree u (All-head (UnitIsKept tree) u units all)) (units_without tree units (All-tail (UnitIsKept tree) u units all))
+    both_empty (faults_of_unit tree u) (flat_map (faults_of_unit tree) units)
+    (unit_without tree u (All-head (UnitIsKept tree) u units all)) (units_without tree units (All-tail (UnitIsKept tree) u units all))
 
 pub kept_without_faults : KeptWithoutFaults
 unfolding rule_faults

@@ -1,5 +1,6 @@
 -- The units that selections concern: a line with points is two of them here, the line and its points.
-use Rattle.std.specs.Prelude.{ℕ, ◌==◌, Bool, false, ◌||◌, ◌&&◌, Option, Some, None, List, [], ◌∷◌, ◌++◌, filter_map, find, flat_map, is_some, map, unwrap_or, if◌then◌else◌}
+use Rattle.std.specs.Prelude.{ℕ, ◌==◌, Bool, false, ◌||◌, ◌&&◌, Option, Some, None, List, [], ◌∷◌, ◌++◌, filter_map, find, flat_map}
+use Rattle.std.specs.Prelude.{is_some, map, unwrap_or, if◌then◌else◌}
 use Rattle.std.specs.Option.{option_map_or, option_to_list}
 use Rattle.std.specs.List.{last_or, list_any}
 use Rattle.vl_spec.specs.declared.channels.Channel.{Channel, Channel-F, fold-Channel, out-Channel}

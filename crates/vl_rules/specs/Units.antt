@@ -1,5 +1,6 @@
 -- What is asked of each unit, with all that stands round it.
-use Rattle.std.specs.Prelude.{◌≡◌, refl, ℕ, Bool, true, false, not, ◌&&◌, Option, Some, None, List, [], ◌∷◌, ◌++◌, bytes_eq, codes, find, flat_map, is_none, is_some, slice_get, if◌then◌else◌}
+use Rattle.std.specs.Prelude.{◌≡◌, refl, ℕ, Bool, true, false, not, ◌&&◌, Option, Some, None, List, [], ◌∷◌, ◌++◌, bytes_eq, codes, find}
+use Rattle.std.specs.Prelude.{flat_map, is_none, is_some, slice_get, if◌then◌else◌}
 use Rattle.std.specs.Option.{option_map_or}
 use Rattle.json_exact.specs.Inside.{text_in}
 use Rattle.json_exact.specs.declared.json.Json.{Json, out-Json}

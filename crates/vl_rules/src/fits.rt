@@ -1,7 +1,8 @@
 //! What a scale may say, by the kind of its cells.
 ghost use Rattle.std.specs.Prelude.{◌≡◌, ◌==◌, false};
 ghost use Rattle.std.specs.Option.{option_map_or};
-ghost use Rattle.vl_rules.specs.Fits.{apart_fits, kind_fits, has_fit_type, has_unfit_type, is_ramp, is_ordinal, is_number, are_two_numbers, range_fits, has_unfit_range, is_tableau, has_unfit_scheme};
+ghost use Rattle.vl_rules.specs.Fits.{apart_fits, kind_fits, has_fit_type, has_unfit_type, is_ramp, is_ordinal, is_number, are_two_numbers};
+ghost use Rattle.vl_rules.specs.Fits.{range_fits, has_unfit_range, is_tableau, has_unfit_scheme};
 
 use cell_value::Cell;
 use scale_infer::{BAND, LINEAR, ORDINAL, POINT, TIME, is_continuous};

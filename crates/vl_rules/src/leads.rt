@@ -6,7 +6,8 @@ ghost use Rattle.vl_normalize.specs.Channels.{has_channel};
 ghost use Rattle.vl_compose.specs.Shown.{kind_of, round_shown, view_shown};
 ghost use Rattle.vl_compose.specs.Units.{own_channels};
 ghost use Rattle.vl_names.specs.Views.{joined_word};
-ghost use Rattle.vl_rules.specs.Leads.{item_steps, view_steps, led_from, led, last_trail, channel_in, gives_channel, has_encoding, has_name, holds, may_have, may_hold};
+ghost use Rattle.vl_rules.specs.Leads.{item_steps, view_steps, led_from, led, last_trail, channel_in, gives_channel, has_encoding};
+ghost use Rattle.vl_rules.specs.Leads.{has_name, holds, may_have, may_hold};
 ghost use Rattle.vl_rules.specs.inner.Shown.{led_at, led_shown};
 
 use json_exact::{Json, Member};

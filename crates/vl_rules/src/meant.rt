@@ -5,7 +5,8 @@ ghost use Rattle.std.specs.List.{list_any};
 ghost use Rattle.vl_normalize.specs.Facets.{is_facet};
 ghost use Rattle.vl_compose.specs.Shown.{kind_of, round_shown};
 ghost use Rattle.scale_infer.specs.Types.{is_aggregated as is_aggregated_definition};
-ghost use Rattle.vl_rules.specs.Parts.{facet_part, view_part, own_part, round_parts, own_of, owns_of, owns_at, innermost, meant, has_source, all_of, kind_definitions, shows_aggregate};
+ghost use Rattle.vl_rules.specs.Parts.{facet_part, view_part, own_part, round_parts, own_of, owns_of, owns_at, innermost, meant};
+ghost use Rattle.vl_rules.specs.Parts.{has_source, all_of, kind_definitions, shows_aggregate};
 ghost use Rattle.vl_rules.specs.inner.Held.{all_of_conditions, all_of_condition};
 ghost use Rattle.vl_rules.specs.inner.Shown.{marked_shown, part_shown};
 

@@ -1,7 +1,8 @@
 //! What the units of a specification have that selections may keep.
 ghost use Rattle.std.specs.Prelude.{◌≡◌, ◌++◌, filter_map, flat_map, map, option_to_list, IfOk, OnOk};
 ghost use Rattle.vl_compose.specs.Shown.{round_shown};
-ghost use Rattle.vl_rules.specs.Offers.{asked_of, asked_at, channel_groups, facet_groups, group_names, row_names, kept_by_default, spot_among, offer_among, offers_among};
+ghost use Rattle.vl_rules.specs.Offers.{asked_of, asked_at, channel_groups, facet_groups, group_names, row_names, kept_by_default};
+ghost use Rattle.vl_rules.specs.Offers.{spot_among, offer_among, offers_among};
 ghost use Rattle.vl_rules.specs.Parts.{own_of, parts_of};
 ghost use Rattle.vl_rules.specs.inner.Shown.{marked_shown, part_shown};
 

@@ -3,7 +3,8 @@ ghost use Rattle.std.specs.Prelude.{◌≡◌, IfOk};
 ghost use Rattle.std.specs.Option.{option_map};
 ghost use Rattle.json_exact.specs.declared.json.Json.{out-Json};
 ghost use Rattle.vl_trails.specs.Trails.{place_of as place_led, to_member as member_trail};
-ghost use Rattle.vl_rules.specs.Resting.{is_aside, item_at, member_at, named_child, lies_aside, lies_in, lies_in_own, is_more, takes_away, place_steps, select_by, select_at};
+ghost use Rattle.vl_rules.specs.Resting.{is_aside, item_at, member_at, named_child, lies_aside, lies_in, lies_in_own, is_more, takes_away};
+ghost use Rattle.vl_rules.specs.Resting.{place_steps, select_by, select_at};
 
 use json_exact::{Json, Member, SpecKind};
 use spec_schema::Fault;

@@ -7,7 +7,8 @@ ghost use Rattle.vl_trails.specs.Faults.{wrong_if};
 ghost use Rattle.vl_trails.specs.Judging.{after};
 ghost use Rattle.vl_trails.specs.Trails.{to_member as to_scale};
 ghost use Rattle.vl_rules.specs.Fits.{has_unfit_range, has_unfit_scheme, has_unfit_type};
-ghost use Rattle.vl_rules.specs.Scales.{silent_others, silent_in, silent_of, held_or, hangs_on_type, in_scale, fits_some, unfit_at, unfit_type, unfit_range, unfit_scheme, scale_faults, definition_faults};
+ghost use Rattle.vl_rules.specs.Scales.{silent_others, silent_in, silent_of, held_or, hangs_on_type, in_scale, fits_some, unfit_at};
+ghost use Rattle.vl_rules.specs.Scales.{unfit_type, unfit_range, unfit_scheme, scale_faults, definition_faults};
 
 use crate::fits::{has_fit_type, has_unfit_range, has_unfit_scheme, has_unfit_type, is_ordinal};
 use crate::leads::holds;

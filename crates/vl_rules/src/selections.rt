@@ -3,7 +3,10 @@ ghost use Rattle.std.specs.Prelude.{◌≡◌, ◌==◌, ◌||◌, ◌++◌, ◌
 ghost use Rattle.std.specs.List.{list_any};
 ghost use Rattle.spec_walk.specs.declared.places.Step.TheVariants as step;
 ghost use Rattle.vl_compose.specs.Sharing.{is_filled};
-ghost use Rattle.vl_rules.specs.Selections.{is_interval_type, is_interval, fields_of, encodings_of, unnamed, codes_over, asking_of, same_step, begins, below, is_under, concerned, asked_for, lacks_source, is_place, spot_for, cant_span, is_no_span, of_neighbours, same_names, names_over, keep_same_points, keep_same_extents, keep_same, is_unlike, part_scales, is_parted, is_wrong_for};
+ghost use Rattle.vl_rules.specs.Selections.{is_interval_type, is_interval, fields_of, encodings_of, unnamed, codes_over, asking_of};
+ghost use Rattle.vl_rules.specs.Selections.{same_step, begins, below, is_under, concerned, asked_for, lacks_source, is_place, spot_for};
+ghost use Rattle.vl_rules.specs.Selections.{cant_span, is_no_span, of_neighbours, same_names, names_over, keep_same_points};
+ghost use Rattle.vl_rules.specs.Selections.{keep_same_extents, keep_same, is_unlike, part_scales, is_parted, is_wrong_for};
 ghost use Rattle.vl_rules.specs.Standings.{same_home as same_up_to};
 
 use crate::offers::{CHANNEL_CODES, Offer, Spot};

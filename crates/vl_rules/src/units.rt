@@ -9,7 +9,8 @@ ghost use Rattle.vl_trails.specs.declared.fault.Broken.TheVariants as broken;
 ghost use Rattle.vl_trails.specs.Faults.{earliest_placed, fault_if, missing_at, wrong_if};
 ghost use Rattle.vl_rules.specs.Leads.{channel_trail, led};
 ghost use Rattle.vl_rules.specs.Rules.{faults_of_unit};
-ghost use Rattle.vl_rules.specs.Units.{data_among, without_data, encodes, start_among, lone_end, lone_ends, is_sign, is_plain, may_lack_type, is_text, type_trail, says_bar, size_trail, useless_size, one_too_many};
+ghost use Rattle.vl_rules.specs.Units.{data_among, without_data, encodes, start_among, lone_end, lone_ends, is_sign, is_plain};
+ghost use Rattle.vl_rules.specs.Units.{may_lack_type, is_text, type_trail, says_bar, size_trail, useless_size, one_too_many};
 ghost use Rattle.vl_rules.specs.inner.Shown.{led_shown, marked_shown};
 ghost use Rattle.vl_rules.specs.inner.Counted.{times_counted, trail_behind, wrong_there};
 

@@ -126,7 +126,8 @@ fn judge_item(
     number: usize,
 ) -> Result<(), OutOfMemory>
     ensures { OnOk result (judging.new
-        ≡ after judging.old (param_fault judging.old.tree.now first.now params.now offers.now (map (λ o. o.now) inside.now) number (to_item judging.old.trail place))) }
+        ≡ after judging.old
+        (param_fault judging.old.tree.now first.now params.now offers.now (map (λ o. o.now) inside.now) number (to_item judging.old.trail place))) }
 {
     judging.enter_item(place)?;
     judge_param(alloc, judging, first, params, offers, inside, number)?;
@@ -235,7 +236,8 @@ fn sooner_view(
     offers: &[Offer],
     here: &ViewHere,
 ) -> Result<Option<Fault>, OutOfMemory>
-    ensures { IfOk result (λ f. f ≡ earlier_fault so_far (earliest_placed tree.now (faults_of_view tree.now first.now params.now offers.now (view_shown here.now)))) }
+    ensures { IfOk result
+        (λ f. f ≡ earlier_fault so_far (earliest_placed tree.now (faults_of_view tree.now first.now params.now offers.now (view_shown here.now)))) }
 {
     let trail = copied_trail(alloc, here.trail.as_slice())?;
     let mut judging = Judging {

@@ -1,5 +1,6 @@
 -- The columns of a header by their names, and the cells that stand under them.
-use Rattle.std.specs.Prelude.{ℕ, suc, Bool, true, false, ℤ, Option, Some, None, List, [], ◌∷◌, ◌++◌, map, zip, find, fold, unwrap_or, slice_get, String, string_bytes, if◌then◌else◌}
+use Rattle.std.specs.Prelude.{ℕ, suc, Bool, true, false, ℤ, Option, Some, None, List, [], ◌∷◌, ◌++◌, map, zip, find, fold, unwrap_or}
+use Rattle.std.specs.Prelude.{slice_get, String, string_bytes, if◌then◌else◌}
 use Rattle.std.specs.declared.alloc.Global.{Global}
 use Rattle.std.specs.Option.{option_map}
 use Rattle.std.specs.Ordering.{nat_cmp}

@@ -1,5 +1,6 @@
 -- How many plots stand in facets, step by step.
-use Rattle.std.specs.Prelude.{ℕ, ◌+◌, ◌-◌, ◌*◌, ◌^◌, ◌&&◌, ◌==◌, min, Bool, Option, Some, None, Result, Err, IfErr, List, [], ◌∷◌, map, zip, is_some, if◌then◌else◌}
+use Rattle.std.specs.Prelude.{ℕ, ◌+◌, ◌-◌, ◌*◌, ◌^◌, ◌&&◌, ◌==◌, min, Bool, Option, Some, None, Result, Err, IfErr, List, [], ◌∷◌, map, zip}
+use Rattle.std.specs.Prelude.{is_some, if◌then◌else◌}
 use Rattle.std.specs.Option.{option_map, option_map_or}
 use Rattle.fixed_num.specs.Ranges.{◌>>=◌}
 use Rattle.cell_value.specs.State.{Dataset}

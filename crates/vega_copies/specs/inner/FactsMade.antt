@@ -110,7 +110,8 @@ facts_over own inside = roll-CopyFacts (record { cells = own.cells; signals = ow
 
 -- What holds of the facts of a copy of an object, where these are its levels of names, the values of its own signals and its cells, and this was
 -- made of the marks in it.
-pub record IsFactsOf (stores : List StoreOf) (sources : List Named) (o : Object) (Inside : List Level → List CopiesMade → List MarkFacts → Type 0) (levels : List Level)
+pub record IsFactsOf (stores : List StoreOf) (sources : List Named) (o : Object)
+    (Inside : List Level → List CopiesMade → List MarkFacts → Type 0) (levels : List Level)
     (signals : Settled) (cells : Option (List (List ℕ × Cell))) (made : List CopiesMade) (c : CopyFacts) : Type 0 where
   pub cells_are : (out-CopyFacts c).cells ≡ cells
   pub signals_are : (out-CopyFacts c).signals ≡ signals
@@ -120,12 +121,15 @@ pub record IsFactsOf (stores : List StoreOf) (sources : List Named) (o : Object)
   pub inside : Inside levels made (out-CopyFacts c).inside
 
 -- the same of a copy of a group that was made
-abbrev pub IsFactsIn : List StoreOf → List Named → Object → (List Level → List CopiesMade → List MarkFacts → Type 0) → List Level → CopyMade → CopyFacts → Type 0
+abbrev pub IsFactsIn : List StoreOf → List Named → Object
+    → (List Level → List CopiesMade → List MarkFacts → Type 0) → List Level → CopyMade → CopyFacts → Type 0
 IsFactsIn stores sources o Inside levels copy c =
-    IsFactsOf stores sources o Inside ((out-CopyMade copy).level ∷ levels) (out-CopyMade copy).level.signals (out-CopyMade copy).cells (out-CopyMade copy).inside c
+    IsFactsOf stores sources o Inside ((out-CopyMade copy).level ∷ levels)
+    (out-CopyMade copy).level.signals (out-CopyMade copy).cells (out-CopyMade copy).inside c
 
 -- the facts of a group: those of its copies
-pub record AreGroupFacts (stores : List StoreOf) (sources : List Named) (o : Object) (Inside : List Level → List CopiesMade → List MarkFacts → Type 0) (levels : List Level)
+pub record AreGroupFacts (stores : List StoreOf) (sources : List Named) (o : Object)
+    (Inside : List Level → List CopiesMade → List MarkFacts → Type 0) (levels : List Level)
     (made : CopiesMade) (facts : MarkFacts) : Type 0 where
   pub copies : AllZip (IsFactsIn stores sources o Inside levels) (out-CopiesMade made).copies (out-MarkFacts facts).copies
   pub across : (out-MarkFacts facts).across ≡ (out-CopiesMade made).across

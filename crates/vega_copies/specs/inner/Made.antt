@@ -45,7 +45,8 @@ abbrev pub made_seen : CopyMade → Copy
 made_seen m = record { cells = (out-CopyMade m).cells; parts = map dataset_of (out-CopyMade m).level.parts }
 
 -- What holds of a copy of a group that was made where these are the levels round it, and what holds of the copies in it.
-pub record IsMade (stores : List StoreOf) (sources : List Named) (o : Object) (inside : Marks) (Within : List Level → List CopiesMade → Type 0) (levels : List Level)
+pub record IsMade (stores : List StoreOf) (sources : List Named) (o : Object) (inside : Marks)
+    (Within : List Level → List CopiesMade → Type 0) (levels : List Level)
     (m : CopyMade) : Type 0 where
   -- what names stand for in it
   pub names : names_in_copy (map dataset_of sources) (names_under stores sources levels) o (made_seen m)
@@ -55,7 +56,8 @@ pub record IsMade (stores : List StoreOf) (sources : List Named) (o : Object) (i
   pub within : Within ((out-CopyMade m).level ∷ levels) (out-CopyMade m).inside
 
 -- What was made of a group: its copies.
-pub record IsGroupMade (stores : List StoreOf) (sources : List Named) (o : Object) (inside : Marks) (Within : List Level → List CopiesMade → Type 0) (levels : List Level)
+pub record IsGroupMade (stores : List StoreOf) (sources : List Named) (o : Object) (inside : Marks)
+    (Within : List Level → List CopiesMade → Type 0) (levels : List Level)
     (found : CopiesMade) : Type 0 where
   pub copies : map made_seen (out-CopiesMade found).copies ≡ copies_of (names_under stores sources levels).lists o
   pub across : (out-CopiesMade found).across ≡ columns_across (names_under stores sources levels).lists o

@@ -4,7 +4,8 @@ use Rattle.vega_spec.specs.declared.marks.MarkType.{MarkType}
 use Rattle.vega_spec.specs.declared.marks.MarkType.TheVariants as mark
 use Rattle.vega_spec.specs.declared.spec.Group.{Group, Group-F, out-Group}
 use Rattle.vega_spec.specs.declared.spec.VgMark.{VgMark, VgMark-F, fold-VgMark}
-use Rattle.vega_copies.specs.Outlines.{Object, object_here, facet_in, Opened, Before, Marks, group_here, mark_here, in_a_row, numbered, count_marks, count_groups, PlainMark}
+use Rattle.vega_copies.specs.Outlines.{Object, object_here, facet_in, Opened, Before, Marks, group_here, mark_here, in_a_row, numbered}
+use Rattle.vega_copies.specs.Outlines.{count_marks, count_groups, PlainMark}
 
 -- the marks of an object
 abbrev pub marks_in : Group-F Group VgMark → List VgMark

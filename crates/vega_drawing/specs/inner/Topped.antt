@@ -57,7 +57,8 @@ abbrev pub found_on_top : ListsOnPaths → Values → CopyFacts → Found
 found_on_top lists values facts = marks_seen lists [] values 0 (out-CopyFacts facts).inside
 
 -- the top as the one copy of itself, with these scales and this size
-abbrev pub held_top : Bor (List Step) → ValuesAt → Bor (List HeldScale) → Bor ScaleSet → Bor (List HeldAxis) → Option (Bor (List (List ℕ × Cell))) → Bor (List Header)
+abbrev pub held_top : Bor (List Step) → ValuesAt → Bor (List HeldScale) → Bor ScaleSet
+    → Bor (List HeldAxis) → Option (Bor (List (List ℕ × Cell))) → Bor (List Header)
     → ℤ → ℤ → HeldFrame
 held_top path values scales set axes cells headers width height = record {
   path = path;

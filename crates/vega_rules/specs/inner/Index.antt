@@ -1,5 +1,6 @@
 -- By which keys parts are looked up.
-use Rattle.std.specs.Prelude.{◌≡◌, ℕ, ◌==◌, Bool, false, ◌&&◌, not, Option, Some, None, List, ◌∷◌, ◌++◌, length, if◌then◌else◌, bytes_eq, Vec, option_map, option_and_then, slice_get}
+use Rattle.std.specs.Prelude.{◌≡◌, ℕ, ◌==◌, Bool, false, ◌&&◌, not, Option, Some, None, List, ◌∷◌, ◌++◌, length, if◌then◌else◌, bytes_eq}
+use Rattle.std.specs.Prelude.{Vec, option_map, option_and_then, slice_get}
 use Rattle.std.specs.List.{position_from}
 use Rattle.std.specs.BTreeMap.{BTreeMap}
 use Rattle.std.specs.declared.alloc.Global.{Global}

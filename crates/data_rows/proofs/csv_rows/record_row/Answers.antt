@@ -39,4 +39,5 @@ returns-in_ok-from_sorted-in-None c =
     let none : bad_column header.columns c.read_numbers.new.numbers ≡ None = cc (c.in-None.ensures, c.as_slice.ensures, c.as_slice-2.ensures) in
     let is : entries c.in_ok-from_sorted-in-None.field-0 ≡ cells_from fields c.read_numbers.new.numbers header.kept =
     c.in_ok-from_sorted-in-None.ensures.entries ∙ cc (c.in_ok-cells_from-in-None.ensures, c.as_slice-in-None.ensures, c.as_slice-in-None-2.ensures) in
-    filled_row c.args.number header.columns fields c.read_numbers.new.numbers header.kept c.in_ok-from_sorted-in-None.field-0 c.requires same known header.right none is
+    filled_row c.args.number header.columns fields c.read_numbers.new.numbers header.kept
+    c.in_ok-from_sorted-in-None.field-0 c.requires same known header.right none is

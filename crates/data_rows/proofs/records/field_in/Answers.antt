@@ -5,7 +5,8 @@ use Rattle.data_rows.proofs.FieldLemmas.{at_place}
 use Rattle.data_rows.proofs.records.field_in.Goals as goal
 
 pub unreachable-requires : goal.unreachable-requires
-unreachable-requires c = cc (slice_get-get_or (fields_of c.args.fields.now) c.args.i [] c.requires, at_place (fields_of c.args.fields.now) c.args.i, c.in-None.ensures.value)
+unreachable-requires c = cc
+    (slice_get-get_or (fields_of c.args.fields.now) c.args.i [] c.requires, at_place (fields_of c.args.fields.now) c.args.i, c.in-None.ensures.value)
 
 pub returns : goal.returns
 returns c = sym (at_place (fields_of c.args.fields.now) c.args.i) ∙ sym c.in-Some.ensures.value

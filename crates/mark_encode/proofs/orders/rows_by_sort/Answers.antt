@@ -6,5 +6,6 @@ use Rattle.mark_encode.proofs.orders.rows_by_sort.Goals as goal
 
 pub returns : goal.returns
 returns c =
-    let Reads : List SortBy → Type 0 = λ settings. IfOk c.sorted_rows.result (λ found. ReadAs found (in_order (row_order settings) (data_of c.args.rows.now))) in
+    let Reads : List SortBy → Type 0 =
+    λ settings. IfOk c.sorted_rows.result (λ found. ReadAs found (in_order (row_order settings) (data_of c.args.rows.now))) in
     subst Reads (c.as_slice.ensures ∙ c.in_ok-settings.ensures) c.sorted_rows.ensures

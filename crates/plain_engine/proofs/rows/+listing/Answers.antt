@@ -15,7 +15,8 @@ use Rattle.vega_copies.proofs.FactsLemmas.{at_index}
 use Rattle.vega_copies.proofs.MadeLemmas.{each_copy_made, copies_in_made, levels_in_made}
 use Rattle.vega_copies.proofs.StandLemmas.{rows_are_under}
 use Rattle.plain_engine.specs.inner.Rows.{entries_of, entries_of_copies, entries_of_copy, entries_of_mark, seen}
-use Rattle.plain_engine.proofs.RowLemmas.{part_pushed, parts_ended, group_entries, plain_entries, entries_ended, one_within, one_is_few, one_stands, one_is_made, one_more, inside_few}
+use Rattle.plain_engine.proofs.RowLemmas.{part_pushed, parts_ended, group_entries, plain_entries, entries_ended, one_within, one_is_few}
+use Rattle.plain_engine.proofs.RowLemmas.{one_stands, one_is_made, one_more, inside_few}
 use Rattle.plain_engine.proofs.rows.+listing.Goals as goal
 
 -- ---- marks one after the other
@@ -114,7 +115,8 @@ push_copies-push_copy-requires t c =
           (
             at_index one c.as_slice-copies.result.now c.loop-copy.copy-index c.copy-item.result
                 (subst (All one) (sym c.as_slice-copies.ensures)
-                (each_copy_made c.args.names.now.stores.now c.args.names.now.sources.now c.args.names.now.levels.now c.args.mark.now c.args.made.now c.requires.group c.requires.made))
+                (each_copy_made c.args.names.now.stores.now c.args.names.now.sources.now
+                c.args.names.now.levels.now c.args.mark.now c.args.made.now c.requires.group c.requires.made))
                 c.loop-copy-test.true c.copy-item.is,
             (c.requires.few, c.requires.group),
           ),
@@ -180,7 +182,8 @@ push_entered-push_inside-requires t c =
         c.requires.names,
         (
           subst (HaveCopies c.args.stores.now c.args.sources.now c.args.levels.now c.marks_in.result.now) (sym c.as_slice.ensures)
-              (subst (λ marks. HaveCopies c.args.stores.now c.args.sources.now c.args.levels.now marks (out-CopyMade c.args.copy.now).inside) (sym c.marks_in.ensures) c.requires.marks),
+              (subst (λ marks. HaveCopies c.args.stores.now c.args.sources.now c.args.levels.now marks (out-CopyMade c.args.copy.now).inside)
+              (sym c.marks_in.ensures) c.requires.marks),
           inside_few c.args.mark.now c.marks_in.result.now c.args.unit c.requires.group c.marks_in.ensures c.requires.few,
         ),
       ),

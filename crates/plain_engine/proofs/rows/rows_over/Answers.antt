@@ -35,7 +35,8 @@ level_with-requires-clause-kept c = (top_kept c.args.g.now (rules_kept c.args.g.
 
 pub level_with-requires-clause-folds : goal.level_with-requires-clause-folds
 level_with-requires-clause-folds c =
-    subst (λ parts. SetsMayFold (parts_over parts no_rows) (top_of c.args.g.now).object.sets) (sym c.new.ensures) (top_folds c.args.g.now (rules_kept c.args.g.now c.requires.kept))
+    subst (λ parts. SetsMayFold (parts_over parts no_rows) (top_of c.args.g.now).object.sets)
+    (sym c.new.ensures) (top_folds c.args.g.now (rules_kept c.args.g.now c.requires.kept))
 
 pub rows_with-requires-clause-rows : goal.rows_with-requires-clause-rows
 rows_with-requires-clause-rows c = c.in-Ok.ensures.rows

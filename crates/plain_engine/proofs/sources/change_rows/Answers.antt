@@ -5,8 +5,8 @@ use Rattle.cell_value.specs.State.{dataset_of}
 use Rattle.expr_eval.specs.Stores.{values_of_stores}
 use Rattle.param_flow.specs.Change.{rows_after, count_staying}
 use Rattle.param_flow.specs.Machine.{new_rows}
-use Rattle.row_edits.specs.Rows.{Fits}
-use Rattle.row_edits.specs.Edits.{edited, data_edited}
+use Rattle.plain_engine.specs.inner.Fits.{Fits}
+use Rattle.plain_engine.specs.inner.Edits.{edited, data_edited}
 use Rattle.vega_signals.specs.Parameters.{values_with}
 use Rattle.plain_engine.specs.inner.Sources.{rows_at, with_rows, sources_changed}
 use Rattle.plain_engine.proofs.Changes.{few_stay, few_here, rows_fit, past_is, sources_by, fit_by, out_of_range_by, reply_past}
@@ -22,7 +22,8 @@ overflow_sub-others c =
 pub edits_of-requires : goal.edits_of-requires
 edits_of-requires c =
     subst Fits (sym c.rows_at-rows.ensures)
-    (rows_fit c.args.stores.now c.args.next_id c.args.params.now c.args.signals.now c.args.sources.now c.args.index c.args.change.now c.requires.within c.requires.state)
+    (rows_fit c.args.stores.now c.args.next_id c.args.params.now c.args.signals.now
+    c.args.sources.now c.args.index c.args.change.now c.requires.within c.requires.state)
 
 pub overflow_add-others : goal.overflow_add-others
 overflow_add-others c =
@@ -57,12 +58,14 @@ returns-then-is_past_limit-clause-reply c =
     (rows_at sources c.args.index) ≡ c.count_rows-all.result =
     omega (arith, all, few, rows) in
     let count = c.in_ok-each.ensures.staying
-    ∙ (λ i. count_staying (values_with (values_of_stores (c.in_ok-held.ensures i)) c.args.signals.now []) change.remove (map datum_of c.rows_at-rows.result.now))
+    ∙ (λ i. count_staying (values_with (values_of_stores (c.in_ok-held.ensures i)) c.args.signals.now [])
+    change.remove (map datum_of c.rows_at-rows.result.now))
     ∙ ap (λ rows. count_staying values change.remove (map datum_of rows)) c.rows_at-rows.ensures in
     let past = past_is c.args.stores.now c.args.next_id c.args.params.now c.args.signals.now sources c.args.index change c.count_rows-all.result
     (c.count_rows-all.result - length c.rows_at-rows.result.now) edits.staying c.len.result c.is_past_limit.result all others count c.len.ensures
     c.is_past_limit.ensures in
-    reply_past c.args.stores.now c.args.next_id c.args.params.now c.args.signals.now sources c.args.index change c.args.g.now (sym past ∙ c.if-is_past_limit.true)
+    reply_past c.args.stores.now c.args.next_id c.args.params.now c.args.signals.now
+    sources c.args.index change c.args.g.now (sym past ∙ c.if-is_past_limit.true)
 
 pub returns-then-overflows-clause-reply : goal.returns-then-overflows-clause-reply
 returns-then-overflows-clause-reply c =
@@ -77,7 +80,8 @@ returns-then-overflows-clause-reply c =
     (rows_at sources c.args.index) ≡ c.count_rows-all.result =
     omega (arith, all, few, rows) in
     let count = c.in_ok-each.ensures.staying
-    ∙ (λ i. count_staying (values_with (values_of_stores (c.in_ok-held.ensures i)) c.args.signals.now []) change.remove (map datum_of c.rows_at-rows.result.now))
+    ∙ (λ i. count_staying (values_with (values_of_stores (c.in_ok-held.ensures i)) c.args.signals.now [])
+    change.remove (map datum_of c.rows_at-rows.result.now))
     ∙ ap (λ rows. count_staying values change.remove (map datum_of rows)) c.rows_at-rows.ensures in
     let past = past_is c.args.stores.now c.args.next_id c.args.params.now c.args.signals.now sources c.args.index change c.count_rows-all.result
     (c.count_rows-all.result - length c.rows_at-rows.result.now) edits.staying c.len.result c.is_past_limit.result all others count c.len.ensures
@@ -105,7 +109,8 @@ put_rows-requires-clause-fit c =
     (rows_at sources c.args.index) ≡ c.count_rows-all.result =
     omega (arith, all, few, rows) in
     let count = c.in_ok-each.ensures.staying
-    ∙ (λ i. count_staying (values_with (values_of_stores (c.in_ok-held.ensures i)) c.args.signals.now []) change.remove (map datum_of c.rows_at-rows.result.now))
+    ∙ (λ i. count_staying (values_with (values_of_stores (c.in_ok-held.ensures i)) c.args.signals.now [])
+    change.remove (map datum_of c.rows_at-rows.result.now))
     ∙ ap (λ rows. count_staying values change.remove (map datum_of rows)) c.rows_at-rows.ensures in
     let past = past_is c.args.stores.now c.args.next_id c.args.params.now c.args.signals.now sources c.args.index change c.count_rows-all.result
     (c.count_rows-all.result - length c.rows_at-rows.result.now) edits.staying c.len.result c.is_past_limit.result all others count c.len.ensures
@@ -119,7 +124,8 @@ put_rows-requires-clause-fit c =
     c.in_ok-each.ensures.rows) in
     let more = c.in_ok-more.more in
     let new = c.in_ok-more.ensures ∙ ap (new_rows c.args.next_id) c.as_slice.ensures in
-    fit_by c.args.stores.now c.args.next_id c.args.params.now c.args.signals.now sources c.args.index change edits is more c.if-overflows.false new c.requires.within
+    fit_by c.args.stores.now c.args.next_id c.args.params.now c.args.signals.now sources
+    c.args.index change edits is more c.if-overflows.false new c.requires.within
     c.requires.state free
 
 pub returns-clause-reply : goal.returns-clause-reply
@@ -135,7 +141,8 @@ returns-clause-reply c =
     (rows_at sources c.args.index) ≡ c.count_rows-all.result =
     omega (arith, all, few, rows) in
     let count = c.in_ok-each.ensures.staying
-    ∙ (λ i. count_staying (values_with (values_of_stores (c.in_ok-held.ensures i)) c.args.signals.now []) change.remove (map datum_of c.rows_at-rows.result.now))
+    ∙ (λ i. count_staying (values_with (values_of_stores (c.in_ok-held.ensures i)) c.args.signals.now [])
+    change.remove (map datum_of c.rows_at-rows.result.now))
     ∙ ap (λ rows. count_staying values change.remove (map datum_of rows)) c.rows_at-rows.ensures in
     let past = past_is c.args.stores.now c.args.next_id c.args.params.now c.args.signals.now sources c.args.index change c.count_rows-all.result
     (c.count_rows-all.result - length c.rows_at-rows.result.now) edits.staying c.len.result c.is_past_limit.result all others count c.len.ensures
@@ -149,7 +156,8 @@ returns-clause-reply c =
     c.in_ok-each.ensures.rows) in
     let more = c.in_ok-more.more in
     let new = c.in_ok-more.ensures ∙ ap (new_rows c.args.next_id) c.as_slice.ensures in
-    let changed = sources_by c.args.stores.now c.args.next_id c.args.params.now c.args.signals.now sources c.args.index change edits is more c.if-overflows.false new in
+    let changed = sources_by c.args.stores.now c.args.next_id c.args.params.now
+    c.args.signals.now sources c.args.index change edits is more c.if-overflows.false new in
     subst (λ wanted. IfOk c.put_rows.result (λ reply. reply ≡ wanted))
     (sym (reply_by c.args.stores.now c.args.next_id c.args.params.now c.args.signals.now sources c.args.index change c.args.g.now
     (Some (map dataset_of (with_rows sources c.args.index (edited edits.each (rows_at sources c.args.index) ++ more)))) free changed))
@@ -168,7 +176,8 @@ returns-clause-sources c =
     (rows_at sources c.args.index) ≡ c.count_rows-all.result =
     omega (arith, all, few, rows) in
     let count = c.in_ok-each.ensures.staying
-    ∙ (λ i. count_staying (values_with (values_of_stores (c.in_ok-held.ensures i)) c.args.signals.now []) change.remove (map datum_of c.rows_at-rows.result.now))
+    ∙ (λ i. count_staying (values_with (values_of_stores (c.in_ok-held.ensures i)) c.args.signals.now [])
+    change.remove (map datum_of c.rows_at-rows.result.now))
     ∙ ap (λ rows. count_staying values change.remove (map datum_of rows)) c.rows_at-rows.ensures in
     let past = past_is c.args.stores.now c.args.next_id c.args.params.now c.args.signals.now sources c.args.index change c.count_rows-all.result
     (c.count_rows-all.result - length c.rows_at-rows.result.now) edits.staying c.len.result c.is_past_limit.result all others count c.len.ensures
@@ -182,6 +191,7 @@ returns-clause-sources c =
     c.in_ok-each.ensures.rows) in
     let more = c.in_ok-more.more in
     let new = c.in_ok-more.ensures ∙ ap (new_rows c.args.next_id) c.as_slice.ensures in
-    let changed = sources_by c.args.stores.now c.args.next_id c.args.params.now c.args.signals.now sources c.args.index change edits is more c.if-overflows.false new in
+    let changed = sources_by c.args.stores.now c.args.next_id c.args.params.now
+    c.args.signals.now sources c.args.index change edits is more c.if-overflows.false new in
     left_by c.put_rows.result (sources_changed c.args.stores.now c.args.next_id c.args.signals.now (map dataset_of sources) c.args.index change) sources
     (with_rows sources c.args.index (edited edits.each (rows_at sources c.args.index) ++ more)) _ changed c.put_rows.ensures.sources

@@ -1,5 +1,5 @@
 use Rattle.std.proofs.Common.{ap, ◌∙◌}
-use Rattle.row_edits.specs.Marks.{taken_back}
+use Rattle.plain_engine.specs.inner.Undo.{taken_back}
 use Rattle.plain_engine.specs.inner.Sources.{with_rows}
 use Rattle.plain_engine.proofs.Places.{found_rows, put_rows}
 use Rattle.plain_engine.proofs.sources.take_back_at.Goals as goal

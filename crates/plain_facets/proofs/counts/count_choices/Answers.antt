@@ -12,4 +12,5 @@ loop-cells-preserved c = record {
 
 pub returns : goal.returns
 returns c =
-    all_lists (2 ^ 128 - 1) c.args.lists.now c.loop-cells.cells-index c.loop-cells.count _ (omega arith) c.loop-cells.invariant.few c.loop-cells.invariant.counts
+    all_lists (2 ^ 128 - 1) c.args.lists.now c.loop-cells.cells-index c.loop-cells.count _
+    (omega arith) c.loop-cells.invariant.few c.loop-cells.invariant.counts

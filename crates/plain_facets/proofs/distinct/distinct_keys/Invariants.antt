@@ -10,5 +10,6 @@ use Rattle.plain_facets.proofs.distinct.distinct_keys.Given as goal
 abbrev pub invariant-loop-at : goal.invariant-loop-at
 invariant-loop-at l = record {
   places : (q : Vec Cell Global) → place_at l.places q.items ≡ first_place (keys_shown l.fields (take l.at l.rows)) q.items;
-  found : l.found ++ firsts_behind is_key (keys_shown l.fields (take l.at l.rows)) (keys_shown l.fields (drop l.at l.rows)) ≡ distinct_keys (keys_shown l.fields l.rows);
+  found : l.found ++ firsts_behind is_key (keys_shown l.fields (take l.at l.rows)) (keys_shown l.fields (drop l.at l.rows))
+      ≡ distinct_keys (keys_shown l.fields l.rows);
 }

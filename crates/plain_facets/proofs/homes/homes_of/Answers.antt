@@ -7,7 +7,8 @@ pub loop-key-preserved : goal.loop-key-preserved
 loop-key-preserved c =
     mapped_more (home_among c.args.copies.now) c.args.keys.now c.loop-key.key-index c.key-item.result c.home_of.result c.loop-key.homes _ _
     c.loop-key-test.true c.key-item.is
-    (c.home_of.ensures ∙ ap (λ o. unwrap_or o (length c.args.copies.now)) (c.in_ok-places.ensures c.in_ok-own.own) ∙ ap (home_among c.args.copies.now) c.in_ok-own.ensures)
+    (c.home_of.ensures ∙ ap (λ o. unwrap_or o (length c.args.copies.now)) (c.in_ok-places.ensures c.in_ok-own.own)
+    ∙ ap (home_among c.args.copies.now) c.in_ok-own.ensures)
     c.in_ok-push.ensures.ok c.loop-key.invariant
 
 pub returns : goal.returns

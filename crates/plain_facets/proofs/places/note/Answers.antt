@@ -13,4 +13,5 @@ pub returns-in_ok-put-in-None-clause-places : goal.returns-in_ok-put-in-None-cla
 returns-in_ok-put-in-None-clause-places c q =
     c.in_ok-put-in-None.ensures q
     ∙ ap (λ k. cond (is_key k q.items) (Some c.args.at) (place_at c.args.places.now q.items)) c.in_ok-copied-in-None.ensures
-    ∙ found_more c.args.places.now c.args.key.now.items q.items c.args.at (ap (place_at c.args.places.now) (sym c.as_slice.ensures.value) ∙ sym c.in-None.ensures)
+    ∙ found_more c.args.places.now c.args.key.now.items q.items c.args.at
+    (ap (place_at c.args.places.now) (sym c.as_slice.ensures.value) ∙ sym c.in-None.ensures)

@@ -15,13 +15,28 @@ loop-at-preserved c =
     let below : at < length cells = c.loop-at-test.true in
     let is = c.index-cells-at.is in
     let place : c.in_ok-leader.field-0 ≡ unwrap_or (first_place (map f (take at cells)) (f cell)) at =
-    leads_found cells at cell below is f c.in_ok-lone.field-0.items _ c.in_ok-leader.field-0 c.in_ok-lone.ensures (c.loop-at.invariant.places c.in_ok-lone.field-0) c.in_ok-leader.ensures.place in
+    leads_found cells at cell below is f c.in_ok-lone.field-0.items _ c.in_ok-leader.field-0 c.in_ok-lone.ensures
+    (c.loop-at.invariant.places c.in_ok-lone.field-0) c.in_ok-leader.ensures.place in
     record {
       counted =
           elim c.if-branch-at.branch [
-            | then-branch-at w ↦ omega (arith, ap length (first_here cells at cell below is f same_cells lone_keys c.in_ok-leader.field-0 place w.if-branch-at.true), c.loop-at.invariant.counted, w.n-is)
-            | else-branch-at w ↦ omega (arith, ap length (not_first cells at cell below is f same_cells lone_keys c.in_ok-leader.field-0 place w.if-branch-at.false), c.loop-at.invariant.counted, w.n-is)
+            | then-branch-at w ↦ omega (
+              arith,
+              ap length (first_here cells at cell below is f same_cells lone_keys c.in_ok-leader.field-0 place w.if-branch-at.true),
+              c.loop-at.invariant.counted,
+              w.n-is,
+            )
+            | else-branch-at w ↦ omega (
+              arith,
+              ap length (not_first cells at cell below is f same_cells lone_keys c.in_ok-leader.field-0 place w.if-branch-at.false),
+              c.loop-at.invariant.counted,
+              w.n-is,
+            )
           ];
-      few = elim c.if-branch-at.branch [ then-branch-at w ↦ omega (arith, c.loop-at.invariant.few, w.n-is) | else-branch-at w ↦ omega (arith, c.loop-at.invariant.few, w.n-is) ];
-      places = λ q. places_more cells at cell below is f q.items _ _ c.in_ok-lone.field-0.items c.in_ok-lone.ensures (c.loop-at.invariant.places q) (c.in_ok-leader.ensures.places q);
+      few = elim c.if-branch-at.branch [
+        | then-branch-at w ↦ omega (arith, c.loop-at.invariant.few, w.n-is)
+        | else-branch-at w ↦ omega (arith, c.loop-at.invariant.few, w.n-is)
+      ];
+      places = λ q. places_more cells at cell below is f q.items _ _ c.in_ok-lone.field-0.items
+          c.in_ok-lone.ensures (c.loop-at.invariant.places q) (c.in_ok-leader.ensures.places q);
     }

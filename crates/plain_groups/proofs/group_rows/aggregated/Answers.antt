@@ -8,10 +8,12 @@ use Rattle.plain_groups.proofs.group_rows.aggregated.Goals as goal
 
 pub rows_of_heads-requires-clause-heads : goal.rows_of_heads-requires-clause-heads
 rows_of_heads-requires-clause-heads c =
-    let led : c.in_ok-led.led ≡ leaders (map (key_cells c.args.g.now.groupby) c.args.rows.now) = c.in_ok-led.ensures.value ∙ ap (λ fields. leaders (map (key_cells fields) c.args.rows.now)) c.as_slice.ensures in
+    let led : c.in_ok-led.led ≡ leaders (map (key_cells c.args.g.now.groupby) c.args.rows.now) =
+    c.in_ok-led.ensures.value ∙ ap (λ fields. leaders (map (key_cells fields) c.args.rows.now)) c.as_slice.ensures in
     let heads : c.as_slice-4.result.now ≡ heads_from 0 (leaders (map (key_cells c.args.g.now.groupby) c.args.rows.now)) =
     c.as_slice-4.ensures ∙ c.in_ok-firsts.ensures ∙ ap (heads_from 0) (c.as_slice-3.ensures ∙ led) in
-    subst (All (λ head. head < length c.args.rows.now)) (sym heads) (heads_within 0 (length c.args.rows.now) (leaders (map (key_cells c.args.g.now.groupby) c.args.rows.now)) (omega (arith, leaders_long (key_cells c.args.g.now.groupby) c.args.rows.now)))
+    subst (All (λ head. head < length c.args.rows.now)) (sym heads) (heads_within 0 (length c.args.rows.now)
+    (leaders (map (key_cells c.args.g.now.groupby) c.args.rows.now)) (omega (arith, leaders_long (key_cells c.args.g.now.groupby) c.args.rows.now)))
 
 pub rows_of_heads-requires-clause-within : goal.rows_of_heads-requires-clause-within
 rows_of_heads-requires-clause-within c = λ p below.
@@ -20,7 +22,8 @@ rows_of_heads-requires-clause-within c = λ p below.
     let long : length c.as_slice-2.result.now ≡ length c.args.rows.now = ap length led ∙ leaders_long (key_cells c.args.g.now.groupby) c.args.rows.now in
     let members : get_or c.deref.result.now p [] ≡ members_from p 0 c.as_slice-2.result.now =
     ap (λ lists. get_or lists p []) c.deref.ensures.value ∙ c.in_ok-groups.ensures.value p (omega (arith, long, below)) in
-    subst (All (λ place. place < length c.args.rows.now)) (sym members) (members_within p 0 (length c.args.rows.now) c.as_slice-2.result.now (omega (arith, long)))
+    subst (All (λ place. place < length c.args.rows.now)) (sym members)
+    (members_within p 0 (length c.args.rows.now) c.as_slice-2.result.now (omega (arith, long)))
 
 pub rows_of_heads-requires-clause-few : goal.rows_of_heads-requires-clause-few
 rows_of_heads-requires-clause-few c = λ p below.
@@ -33,10 +36,13 @@ rows_of_heads-requires-clause-few c = λ p below.
 
 pub returns : goal.returns
 returns c =
-    let led : c.in_ok-led.led ≡ leaders (map (key_cells c.args.g.now.groupby) c.args.rows.now) = c.in_ok-led.ensures.value ∙ ap (λ fields. leaders (map (key_cells fields) c.args.rows.now)) c.as_slice.ensures in
-    let long : length c.as_slice-2.result.now ≡ length c.args.rows.now = ap length (c.as_slice-2.ensures ∙ led) ∙ leaders_long (key_cells c.args.g.now.groupby) c.args.rows.now in
+    let led : c.in_ok-led.led ≡ leaders (map (key_cells c.args.g.now.groupby) c.args.rows.now) =
+    c.in_ok-led.ensures.value ∙ ap (λ fields. leaders (map (key_cells fields) c.args.rows.now)) c.as_slice.ensures in
+    let long : length c.as_slice-2.result.now ≡ length c.args.rows.now =
+    ap length (c.as_slice-2.ensures ∙ led) ∙ leaders_long (key_cells c.args.g.now.groupby) c.args.rows.now in
     subst (Evaluates c.rows_of_heads.result)
     (groups_given c.args.g.now c.args.rows.now c.deref.result.now c.as_slice-4.result.now
     (c.as_slice-4.ensures ∙ c.in_ok-firsts.ensures ∙ ap (heads_from 0) (c.as_slice-3.ensures ∙ led))
-    (λ p below. ap (λ lists. get_or lists p []) c.deref.ensures.value ∙ c.in_ok-groups.ensures.value p (omega (arith, long, below)) ∙ ap (members_from p 0) (c.as_slice-2.ensures ∙ led)))
+    (λ p below. ap (λ lists. get_or lists p []) c.deref.ensures.value
+    ∙ c.in_ok-groups.ensures.value p (omega (arith, long, below)) ∙ ap (members_from p 0) (c.as_slice-2.ensures ∙ led)))
     c.rows_of_heads.ensures

@@ -6,4 +6,5 @@ use Rattle.plain_groups.proofs.group_rows.column.Given as goal
 
 abbrev pub invariant-loop-place : goal.invariant-loop-place
 invariant-loop-place l =
-    l.cells ++ map (λ row. read_by l.op (cell_at row)) (rows_at l.rows (drop l.place-index l.places)) ≡ map (λ row. read_by l.op (cell_at row)) (rows_at l.rows l.places)
+    l.cells ++ map (λ row. read_by l.op (cell_at row)) (rows_at l.rows (drop l.place-index l.places))
+    ≡ map (λ row. read_by l.op (cell_at row)) (rows_at l.rows l.places)

@@ -7,9 +7,11 @@ use Rattle.plain_groups.proofs.group_rows.op_cells.Goals as goal
 
 pub returns-in-Err : goal.returns-in-Err
 returns-in-Err c =
-    stops_all (op_cell cell_at (rows_at c.args.rows.now c.args.places.now)) c.args.ops.now c.loop-op.op-index _ c.loop-op-test.true c.op-item.is c.in-Err.error c.in-Err.ensures
+    stops_all (op_cell cell_at (rows_at c.args.rows.now c.args.places.now)) c.args.ops.now
+    c.loop-op.op-index _ c.loop-op-test.true c.op-item.is c.in-Err.error c.in-Err.ensures
 
 pub loop-op-preserved : goal.loop-op-preserved
 loop-op-preserved c =
-    all_more (op_cell cell_at (rows_at c.args.rows.now c.args.places.now)) c.args.ops.now c.loop-op.op-index _ c.loop-op.given c.in-Ok.cell c.loop-op-test.true c.op-item.is c.loop-op.invariant c.in-Ok.ensures
+    all_more (op_cell cell_at (rows_at c.args.rows.now c.args.places.now)) c.args.ops.now c.loop-op.op-index _ c.loop-op.given
+    c.in-Ok.cell c.loop-op-test.true c.op-item.is c.loop-op.invariant c.in-Ok.ensures
     ∙ ap Some (sym c.in_ok-push-in-Ok.ensures.ok)

@@ -14,15 +14,19 @@ group_at-requires-clause-id c =
 pub returns-in-Err : goal.returns-in-Err
 returns-in-Err c =
     let inside : get_or c.args.heads.now c.loop-head.head-index 0 < length c.args.rows.now = c.requires.heads c.loop-head.head-index 0 c.loop-head-test.true in
-    stops_all (group_at c.args.g.now c.args.rows.now c.args.members.now) c.args.heads.now c.loop-head.head-index (get_or c.args.heads.now c.loop-head.head-index 0)
+    stops_all (group_at c.args.g.now c.args.rows.now c.args.members.now) c.args.heads.now
+    c.loop-head.head-index (get_or c.args.heads.now c.loop-head.head-index 0)
     c.loop-head-test.true (get_or_default c.args.heads.now c.loop-head.head-index 0 _ c.loop-head-test.true) c.in-Err.error
     (subst (Evaluates (Err c.in-Err.error))
-    (at_head c.args.g.now c.args.rows.now c.args.members.now _ c.index-rows-head.result c.index-members-head.result c.as_slice.result.now inside c.requires.len c.index-rows-head.is c.index-members-head.is c.as_slice.ensures) c.in-Err.ensures)
+    (at_head c.args.g.now c.args.rows.now c.args.members.now _ c.index-rows-head.result c.index-members-head.result c.as_slice.result.now inside
+    c.requires.len c.index-rows-head.is c.index-members-head.is c.as_slice.ensures) c.in-Err.ensures)
 
 pub loop-head-preserved : goal.loop-head-preserved
 loop-head-preserved c =
     let inside : get_or c.args.heads.now c.loop-head.head-index 0 < length c.args.rows.now = c.requires.heads c.loop-head.head-index 0 c.loop-head-test.true in
-    all_more (group_at c.args.g.now c.args.rows.now c.args.members.now) c.args.heads.now c.loop-head.head-index (get_or c.args.heads.now c.loop-head.head-index 0)
+    all_more (group_at c.args.g.now c.args.rows.now c.args.members.now) c.args.heads.now
+    c.loop-head.head-index (get_or c.args.heads.now c.loop-head.head-index 0)
     c.loop-head.out c.in-Ok.row c.loop-head-test.true (get_or_default c.args.heads.now c.loop-head.head-index 0 _ c.loop-head-test.true) c.loop-head.invariant
-    (sym (at_head c.args.g.now c.args.rows.now c.args.members.now _ c.index-rows-head.result c.index-members-head.result c.as_slice.result.now inside c.requires.len c.index-rows-head.is c.index-members-head.is c.as_slice.ensures) ∙ c.in-Ok.ensures)
+    (sym (at_head c.args.g.now c.args.rows.now c.args.members.now _ c.index-rows-head.result c.index-members-head.result c.as_slice.result.now inside
+    c.requires.len c.index-rows-head.is c.index-members-head.is c.as_slice.ensures) ∙ c.in-Ok.ensures)
     ∙ ap Some (sym c.in_ok-push-in-Ok.ensures.ok)

@@ -17,11 +17,15 @@ loop-at-preserved c =
     let below : at < length rows = c.loop-at-test.true in
     let is = c.index-rows-at.is in
     let place : c.in_ok-leader.field-0 ≡ unwrap_or (first_place (map f (take at rows)) (f row)) at =
-    leads_found rows at row below is f c.in_ok-key.key.items _ c.in_ok-leader.field-0 c.in_ok-key.ensures (c.loop-at.invariant.places c.in_ok-key.key) c.in_ok-leader.ensures.place in
+    leads_found rows at row below is f c.in_ok-key.key.items _ c.in_ok-leader.field-0 c.in_ok-key.ensures
+    (c.loop-at.invariant.places c.in_ok-key.key) c.in_ok-leader.ensures.place in
     record {
-      found = leader_more rows at row below is f c.loop-at.found c.push.new.self _ c.in_ok-leader.field-0 place c.in_ok-push.ensures.ok c.loop-at.invariant.found;
+      found = leader_more rows at row below is f c.loop-at.found c.push.new.self _
+          c.in_ok-leader.field-0 place c.in_ok-push.ensures.ok c.loop-at.invariant.found;
       within =
           subst (All (λ place. place < length rows)) (sym c.in_ok-push.ensures.ok)
-          (All-push (λ place. place < length rows) c.loop-at.found c.in_ok-leader.field-0 c.loop-at.invariant.within (subst (λ k. k < length rows) (sym place) (leads_within rows at row below is f)));
-      places = λ q. places_more rows at row below is f q.items _ _ c.in_ok-key.key.items c.in_ok-key.ensures (c.loop-at.invariant.places q) (c.in_ok-leader.ensures.places q);
+          (All-push (λ place. place < length rows) c.loop-at.found c.in_ok-leader.field-0 c.loop-at.invariant.within
+          (subst (λ k. k < length rows) (sym place) (leads_within rows at row below is f)));
+      places = λ q. places_more rows at row below is f q.items _ _ c.in_ok-key.key.items
+          c.in_ok-key.ensures (c.loop-at.invariant.places q) (c.in_ok-leader.ensures.places q);
     }

@@ -8,7 +8,8 @@ returns-then-len-lt2 c =
     short_is_all c.args.op c.loop-times.times c.loop-times.left _ few c.loop-times.invariant
 
 pub loop-times-preserved : goal.loop-times-preserved
-loop-times-preserved c = one_round c.args.op c.loop-times.times c.loop-times.left c.in_ok-left.left _ c.loop-times-test.true c.in_ok-left.ensures c.loop-times.invariant
+loop-times-preserved c =
+    one_round c.args.op c.loop-times.times c.loop-times.left c.in_ok-left.left _ c.loop-times-test.true c.in_ok-left.ensures c.loop-times.invariant
 
 pub returns : goal.returns
 returns c =

@@ -8,4 +8,5 @@ use Rattle.unit_plan.proofs.stacks.push_facet_names.Given as goal
 
 abbrev pub invariant-loop-shown : goal.invariant-loop-shown
 invariant-loop-shown l =
-    l.names ++ flat_map (λ (s : ShownAt). name_list (name_in s.channel s.shows)) (shows_shown (drop l.shown-index l.shows)) ≡ l.fn.names ++ flat_map (λ (s : ShownAt). name_list (name_in s.channel s.shows)) (shows_shown l.shows)
+    l.names ++ flat_map (λ (s : ShownAt). name_list (name_in s.channel s.shows)) (shows_shown (drop l.shown-index l.shows))
+    ≡ l.fn.names ++ flat_map (λ (s : ShownAt). name_list (name_in s.channel s.shows)) (shows_shown l.shows)

@@ -36,6 +36,7 @@ returns-in-Err c =
     let names = names_at c.args.names.stores.now c.args.names.sources.now c.args.names.levels.now in
     none_stopped (plots_in_facets sources (marks_of (marks_in (out-Group g.group))) false (is_some (out-Group g.group).layout) names) c.in-Err.error
     c.requires.counted
-    (subst (λ marks. Evaluates {X = ℕ} (Err c.in-Err.error) (plots_in_facets sources (marks_of marks) false (is_some (out-Group g.group).layout) names)) c.marks_in.ensures
+    (subst (λ marks. Evaluates {X = ℕ} (Err c.in-Err.error)
+    (plots_in_facets sources (marks_of marks) false (is_some (out-Group g.group).layout) names)) c.marks_in.ensures
     (c.in-Err.ensures.stops false (is_some (out-Group g.group).layout)))
     (drawing_over g sources (top_of g) names)

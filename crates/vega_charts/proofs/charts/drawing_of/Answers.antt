@@ -30,7 +30,8 @@ level_with-requires-clause-kept c = (top_kept c.args.g.now (rules_kept c.args.g.
 
 pub level_with-requires-clause-folds : goal.level_with-requires-clause-folds
 level_with-requires-clause-folds c =
-    subst (λ parts. SetsMayFold (parts_over parts no_rows) (top_of c.args.g.now).object.sets) (sym c.new.ensures) (top_folds c.args.g.now (rules_kept c.args.g.now c.requires.kept))
+    subst (λ parts. SetsMayFold (parts_over parts no_rows) (top_of c.args.g.now).object.sets)
+    (sym c.new.ensures) (top_folds c.args.g.now (rules_kept c.args.g.now c.requires.kept))
 
 pub drawing_at-requires-clause-rows : goal.drawing_at-requires-clause-rows
 drawing_at-requires-clause-rows c = c.in-Ok.ensures.rows
@@ -48,7 +49,8 @@ returns-in-Ok c =
     subst (λ o. Comes o c.drawing_at.result) (sym (from_top (values_of_stores c.args.stores.now) g c.args.params.now sources))
     (named c.drawing_at.result (names_at_top (values_of_stores c.args.stores.now) c.args.params.now sources (top_of g).object) (drawn_within sources g)
     (names_on_top c.args.stores.now c.args.sources.now c.in-Ok.level)
-    (sym (named_by (values_of_stores c.args.stores.now) sources c.new.result c.args.params.now (top_of g).object c.new.ensures) ∙ c.in-Ok.ensures.value) c.drawing_at.ensures)
+    (sym (named_by (values_of_stores c.args.stores.now) sources c.new.result c.args.params.now (top_of g).object c.new.ensures)
+    ∙ c.in-Ok.ensures.value) c.drawing_at.ensures)
 
 pub returns-in-Err : goal.returns-in-Err
 returns-in-Err c =

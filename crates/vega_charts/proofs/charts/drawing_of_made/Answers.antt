@@ -17,17 +17,20 @@ facts_of-requires-clause-object c = top_kept c.args.g.now c.requires.kept
 pub drawing_of_facts-requires-clause-rows : goal.drawing_of_facts-requires-clause-rows
 drawing_of_facts-requires-clause-rows c = record {
   sources_are = c.requires.names.sources_are;
-  on_paths = rows_on_paths c.args.names c.args.level.now (marks_in (out-Group c.args.g.now.group)) c.args.made.now c.requires.level c.requires.names c.requires.marks;
+  on_paths = rows_on_paths c.args.names c.args.level.now (marks_in (out-Group c.args.g.now.group))
+      c.args.made.now c.requires.level c.requires.names c.requires.marks;
 }
 
 pub returns-in-Ok : goal.returns-in-Ok
 returns-in-Ok c =
     subst (Evaluates c.drawing_of_facts.result)
     (sym (drawn_is c.args.g.now (map dataset_of c.args.names.sources.now) (names_at c.args.names.stores.now c.args.names.sources.now c.args.names.levels.now)
-    (copy_seen (lists_on c.args.names.sources.now (top_made c.args.level.now c.args.made.now)) c.in-Ok.facts [] (values_of_stores c.args.names.stores.now)) c.in-Ok.ensures.value))
+    (copy_seen (lists_on c.args.names.sources.now (top_made c.args.level.now c.args.made.now)) c.in-Ok.facts
+    [] (values_of_stores c.args.names.stores.now)) c.in-Ok.ensures.value))
     c.drawing_of_facts.ensures
 
 pub returns-in-Err : goal.returns-in-Err
 returns-in-Err c =
-    drawn_stops c.args.g.now (map dataset_of c.args.names.sources.now) (names_at c.args.names.stores.now c.args.names.sources.now c.args.names.levels.now) c.in-Err.error
+    drawn_stops c.args.g.now (map dataset_of c.args.names.sources.now)
+    (names_at c.args.names.stores.now c.args.names.sources.now c.args.names.levels.now) c.in-Err.error
     c.in-Err.ensures.value

@@ -26,7 +26,8 @@ drawing_counted-requires-clause-counted c =
     let sources = map dataset_of c.args.names.sources.now in
     let names = names_at c.args.names.stores.now c.args.names.sources.now c.args.names.levels.now in
     is_counted (plots_in_facets sources (marks_of (marks_in (out-Group g.group))) false (is_some (out-Group g.group).layout) names) c.in-Ok.plots
-    ((λ i. option_map (λ n. min n (2 ^ 64 - 1)) (plots_in_facets sources (marks_of (sym c.marks_in.ensures i)) false (sym c.is_some.ensures i) names)) ∙ c.in-Ok.ensures)
+    ((λ i. option_map (λ n. min n (2 ^ 64 - 1)) (plots_in_facets sources (marks_of (sym c.marks_in.ensures i)) false (sym c.is_some.ensures i) names))
+    ∙ c.in-Ok.ensures)
 
 pub returns-in-Ok : goal.returns-in-Ok
 returns-in-Ok c =

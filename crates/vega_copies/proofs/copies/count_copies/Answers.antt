@@ -7,5 +7,6 @@ returns c = record {
   with_rows = c.in_ok-copies_counted.ensures.with_rows;
   without_rows = c.in_ok-copies_counted.ensures.without_rows;
   sound =
-      with_rows_sound c.args.names.now (out-VgMark c.args.mark.now) c.requires.names c.in_ok-copies_counted.field-0.with_rows c.in_ok-copies_counted.ensures.with_rows;
+      with_rows_sound c.args.names.now (out-VgMark c.args.mark.now) c.requires.names
+      c.in_ok-copies_counted.field-0.with_rows c.in_ok-copies_counted.ensures.with_rows;
 }

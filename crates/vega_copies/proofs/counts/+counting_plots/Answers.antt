@@ -14,7 +14,8 @@ use Rattle.vega_copies.specs.inner.Levels.{rows_at, names_at, names_with_level}
 use Rattle.vega_copies.specs.inner.Made.{levels_behind}
 use Rattle.vega_copies.specs.inner.Outlined.{marks_in}
 use Rattle.vega_copies.proofs.StandLemmas.{levels_entered, names_entered, stand_inside}
-use Rattle.vega_copies.proofs.CountLemmas.{counted_from, marks_count, plots_alone, plots_held, more_at, one_more, stand_at, copy_stops, stops_counted, copy_counts, with_itself, none_with_itself}
+use Rattle.vega_copies.proofs.CountLemmas.{counted_from, marks_count, plots_alone, plots_held, more_at, one_more, stand_at, copy_stops}
+use Rattle.vega_copies.proofs.CountLemmas.{stops_counted, copy_counts, with_itself, none_with_itself}
 use Rattle.vega_copies.proofs.MadeLemmas.{stand_with}
 use Rattle.vega_copies.proofs.PanelLemmas.{copies_count, group_counts, alike_plots, each_plots, each_stops, with_each_bare, bare_stops}
 use Rattle.vega_copies.proofs.counts.+counting_plots.Goals as goal
@@ -51,20 +52,23 @@ count_plots-loop-mark-preserved t c =
 pub count_of_group-returns-then-are_alike : goal.count_of_group-returns-then-are_alike
 count_of_group-returns-then-are_alike t c =
     group_counts (map dataset_of c.args.names.now.sources.now) c.args.mark.now c.args.in_facet c.args.in_grid
-    (names_at c.args.names.now.stores.now c.args.names.now.sources.now c.args.names.now.levels.now) c.requires.group c.is_deeper-deeper.result c.count_of_alike.result
+    (names_at c.args.names.now.stores.now c.args.names.now.sources.now c.args.names.now.levels.now)
+    c.requires.group c.is_deeper-deeper.result c.count_of_alike.result
     c.is_deeper-deeper.ensures c.count_of_alike.ensures
 
 pub count_of_group-returns-else-are_alike : goal.count_of_group-returns-else-are_alike
 count_of_group-returns-else-are_alike t c =
     group_counts (map dataset_of c.args.names.now.sources.now) c.args.mark.now c.args.in_facet c.args.in_grid
-    (names_at c.args.names.now.stores.now c.args.names.now.sources.now c.args.names.now.levels.now) c.requires.group c.is_deeper-deeper.result c.count_of_each.result
+    (names_at c.args.names.now.stores.now c.args.names.now.sources.now c.args.names.now.levels.now)
+    c.requires.group c.is_deeper-deeper.result c.count_of_each.result
     c.is_deeper-deeper.ensures c.count_of_each.ensures
 
 pub count_of_alike-returns : goal.count_of_alike-returns
 count_of_alike-returns t c =
     let names = c.args.names.now in
     subst (Evaluates c.count_with_bare.result)
-    (alike_plots (map dataset_of names.sources.now) c.args.mark.now c.args.in_facet c.args.in_grid (names_at names.stores.now names.sources.now names.levels.now)
+    (alike_plots (map dataset_of names.sources.now) c.args.mark.now c.args.in_facet
+    c.args.in_grid (names_at names.stores.now names.sources.now names.levels.now)
     c.in_ok-copies.copies c.requires.alike c.in_ok-copies.ensures)
     c.count_with_bare.ensures
 
@@ -92,7 +96,8 @@ count_of_copies-loop-copy-init t c =
     c.into_iter-copy-iterator.ensures.into_iter_gives.0 ∙ c.into_vec-copy-items.ensures in
     record {
       counts =
-          ap (λ copies. counted_from 0 (map (plots_held (map dataset_of names.sources.now) c.args.in_facet c.args.in_grid (out-VgMark c.args.mark.now) (names_at names.stores.now names.sources.now names.levels.now)) copies)) items
+          ap (λ copies. counted_from 0 (map (plots_held (map dataset_of names.sources.now) c.args.in_facet c.args.in_grid (out-VgMark c.args.mark.now)
+          (names_at names.stores.now names.sources.now names.levels.now)) copies)) items
           ∙ copies_count (map dataset_of names.sources.now) c.args.in_facet c.args.in_grid (out-VgMark c.args.mark.now)
           (names_at names.stores.now names.sources.now names.levels.now) c.args.copies;
       copies = subst (All (IsCopy names (out-VgMark c.args.mark.now))) (sym items) c.requires.copies;
@@ -121,10 +126,14 @@ count_of_copies-loop-copy-preserved t c =
     let sources = map dataset_of names.sources.now in
     record {
       counts =
-          ap (λ k. counted_from k (map (plots_held sources c.args.in_facet c.args.in_grid m (names_at names.stores.now names.sources.now names.levels.now)) (into_iter_items c.next.new.self))) c.saturating_add-plots.ensures
-          ∙ one_more c.loop-copy.plots c.in-Ok.found (plots_held sources c.args.in_facet c.args.in_grid m (names_at names.stores.now names.sources.now names.levels.now) c.in-Some.copy)
-          (map (plots_held sources c.args.in_facet c.args.in_grid m (names_at names.stores.now names.sources.now names.levels.now)) (into_iter_items c.next.new.self)) _ c.in-Ok.ensures
-          (ap (λ copies. counted_from c.loop-copy.plots (map (plots_held sources c.args.in_facet c.args.in_grid m (names_at names.stores.now names.sources.now names.levels.now)) copies)) (sym c.in-Some.ensures.steps.0)
+          ap (λ k. counted_from k (map (plots_held sources c.args.in_facet c.args.in_grid m
+          (names_at names.stores.now names.sources.now names.levels.now)) (into_iter_items c.next.new.self))) c.saturating_add-plots.ensures
+          ∙ one_more c.loop-copy.plots c.in-Ok.found
+          (plots_held sources c.args.in_facet c.args.in_grid m (names_at names.stores.now names.sources.now names.levels.now) c.in-Some.copy)
+          (map (plots_held sources c.args.in_facet c.args.in_grid m (names_at names.stores.now names.sources.now names.levels.now))
+          (into_iter_items c.next.new.self)) _ c.in-Ok.ensures
+          (ap (λ copies. counted_from c.loop-copy.plots (map (plots_held sources c.args.in_facet c.args.in_grid m
+          (names_at names.stores.now names.sources.now names.levels.now)) copies)) (sym c.in-Some.ensures.steps.0)
           ∙ c.loop-copy.invariant.counts);
       copies =
           All-tail (IsCopy names m) c.in-Some.copy (into_iter_items c.next.new.self)
@@ -158,7 +167,8 @@ count_with_bare-returns-in-Err t c =
 
 pub count_of_copy-returns-in-Err : goal.count_of_copy-returns-in-Err
 count_of_copy-returns-in-Err t c =
-    stops_counted _ c.in-Err.error (copy_stops c.args.outer.now c.args.mark.now c.args.copy c.args.in_facet c.args.in_grid c.in-Err.error c.in-Err.ensures.value)
+    stops_counted _ c.in-Err.error
+    (copy_stops c.args.outer.now c.args.mark.now c.args.copy c.args.in_facet c.args.in_grid c.in-Err.error c.in-Err.ensures.value)
 
 pub count_of_copy-count_with_level-requires : goal.count_of_copy-count_with_level-requires
 count_of_copy-count_with_level-requires t c = (
@@ -182,13 +192,15 @@ count_of_copy-returns-in-Ok t c =
 pub count_with_level-returns-in-Ok : goal.count_with_level-returns-in-Ok
 count_with_level-returns-in-Ok t c =
     with_itself (is_panel c.args.in_facet c.args.in_grid (out-VgMark c.args.mark.now))
-    (plots_inside (map dataset_of c.args.outer.now.sources.now) c.args.in_facet (out-VgMark c.args.mark.now) (names_with_level c.args.outer.now c.args.level.now))
+    (plots_inside (map dataset_of c.args.outer.now.sources.now) c.args.in_facet
+    (out-VgMark c.args.mark.now) (names_with_level c.args.outer.now c.args.level.now))
     c.in-Ok.plots _ _ c.in-Ok.ensures c.plot_itself.ensures c.saturating_add.ensures
 
 pub count_with_level-returns-in-Err : goal.count_with_level-returns-in-Err
 count_with_level-returns-in-Err t c =
     none_with_itself (is_panel c.args.in_facet c.args.in_grid (out-VgMark c.args.mark.now))
-    (plots_inside (map dataset_of c.args.outer.now.sources.now) c.args.in_facet (out-VgMark c.args.mark.now) (names_with_level c.args.outer.now c.args.level.now))
+    (plots_inside (map dataset_of c.args.outer.now.sources.now) c.args.in_facet
+    (out-VgMark c.args.mark.now) (names_with_level c.args.outer.now c.args.level.now))
     c.in-Err.error c.in-Err.ensures
 
 -- ---- one more level of names

@@ -14,13 +14,17 @@ use Rattle.vega_copies.proofs.counts.+counting_plots.Given as goal
 
 abbrev pub invariant-count_plots-loop-mark : goal.invariant-count_plots-loop-mark
 invariant-count_plots-loop-mark l =
-    counted_from l.plots (map (plots_alone (map dataset_of l.names.sources.now) l.in_facet l.in_grid (names_at l.names.stores.now l.names.sources.now l.names.levels.now)) (drop l.mark-index l.marks))
-    ≡ counted (plots_in_facets (map dataset_of l.names.sources.now) (marks_of l.marks) l.in_facet l.in_grid (names_at l.names.stores.now l.names.sources.now l.names.levels.now))
+    counted_from l.plots (map (plots_alone (map dataset_of l.names.sources.now) l.in_facet l.in_grid
+    (names_at l.names.stores.now l.names.sources.now l.names.levels.now)) (drop l.mark-index l.marks))
+    ≡ counted (plots_in_facets (map dataset_of l.names.sources.now) (marks_of l.marks) l.in_facet
+    l.in_grid (names_at l.names.stores.now l.names.sources.now l.names.levels.now))
 
 abbrev pub invariant-count_of_copies-loop-copy : goal.invariant-count_of_copies-loop-copy
 invariant-count_of_copies-loop-copy l = record {
-  counts : counted_from l.plots (map (plots_held (map dataset_of l.names.sources.now) l.in_facet l.in_grid (out-VgMark l.mark) (names_at l.names.stores.now l.names.sources.now l.names.levels.now)) (into_iter_items l.copy-iterator))
-      ≡ counted (total (plots_of_all (map dataset_of l.names.sources.now) l.in_facet l.in_grid (out-VgMark l.mark) (names_at l.names.stores.now l.names.sources.now l.names.levels.now)
+  counts : counted_from l.plots (map (plots_held (map dataset_of l.names.sources.now) l.in_facet l.in_grid (out-VgMark l.mark)
+      (names_at l.names.stores.now l.names.sources.now l.names.levels.now)) (into_iter_items l.copy-iterator))
+      ≡ counted (total (plots_of_all (map dataset_of l.names.sources.now) l.in_facet l.in_grid
+      (out-VgMark l.mark) (names_at l.names.stores.now l.names.sources.now l.names.levels.now)
       (map copy_seen l.fn.copies)));
   copies : All (IsCopy l.names (out-VgMark l.mark)) (into_iter_items l.copy-iterator);
 }

@@ -70,14 +70,16 @@ facts_inside-returns-clause-facts t c =
 
 pub facts_of_mark-returns-else-is_group-clause-facts : goal.facts_of_mark-returns-else-is_group-clause-facts
 facts_of_mark-returns-else-is_group-clause-facts t c =
-    plain_has c.args.names.now.stores.now c.args.names.now.sources.now (levels_behind c.args.names.now.levels.now) c.args.mark.now c.args.made.now c.no_facts.result
+    plain_has c.args.names.now.stores.now c.args.names.now.sources.now
+    (levels_behind c.args.names.now.levels.now) c.args.mark.now c.args.made.now c.no_facts.result
     (sym c.is_group.ensures ∙ c.if-is_group.false) c.no_facts.ensures
 
 -- ---- the copies of a group
 
 pub facts_of_group-loop-copy-init : goal.facts_of_group-loop-copy-init
 facts_of_group-loop-copy-init t c =
-    subst (AllZip (CopyHasFacts c.args.names.now.stores.now c.args.names.now.sources.now (levels_behind c.args.names.now.levels.now) (out-VgMark c.args.mark.now)) [])
+    subst (AllZip (CopyHasFacts c.args.names.now.stores.now c.args.names.now.sources.now
+    (levels_behind c.args.names.now.levels.now) (out-VgMark c.args.mark.now)) [])
     (sym c.in_ok-facts.ensures) tt
 
 pub facts_of_group-facts_of_copy-requires : goal.facts_of_group-facts_of_copy-requires
@@ -91,7 +93,8 @@ facts_of_group-facts_of_copy-requires t c =
           (
             at_index one c.as_slice-copies.result.now c.loop-copy.copy-index c.copy-item.result
                 (subst (All one) (sym c.as_slice-copies.ensures)
-                (each_copy_made c.args.names.now.stores.now c.args.names.now.sources.now c.args.names.now.levels.now c.args.mark.now c.args.made.now c.requires.group c.requires.made))
+                (each_copy_made c.args.names.now.stores.now c.args.names.now.sources.now
+                c.args.names.now.levels.now c.args.mark.now c.args.made.now c.requires.group c.requires.made))
                 c.loop-copy-test.true c.copy-item.is,
             c.requires.group,
           ),
@@ -115,7 +118,8 @@ pub facts_of_group-returns-clause-facts : goal.facts_of_group-returns-clause-fac
 facts_of_group-returns-clause-facts t c =
     let has = CopyHasFacts c.args.names.now.stores.now c.args.names.now.sources.now (levels_behind c.args.names.now.levels.now) (out-VgMark c.args.mark.now) in
     let parts : MarkFacts-F CopyFacts MarkFacts = record { copies = c.loop-copy.facts; across = (out-CopiesMade c.args.made.now).across } in
-    group_of c.args.names.now.stores.now c.args.names.now.sources.now (levels_behind c.args.names.now.levels.now) c.args.mark.now c.args.made.now (roll-MarkFacts parts) parts
+    group_of c.args.names.now.stores.now c.args.names.now.sources.now
+    (levels_behind c.args.names.now.levels.now) c.args.mark.now c.args.made.now (roll-MarkFacts parts) parts
     (out-roll-MarkFacts parts) c.requires.group
     (subst (λ copies. AllZip has copies c.loop-copy.facts) c.as_slice-copies.ensures
     (subst (λ copies. AllZip has copies c.loop-copy.facts) (take_all c.loop-copy.copy-index c.as_slice-copies.result.now c.loop-copy-test.false)
@@ -146,14 +150,16 @@ facts_of_copy-returns-clause-stops t c =
     let more : levels_behind c.as_slice.result.now ≡ (out-CopyMade c.args.copy.now).level ∷ levels_behind outer.levels.now =
     ap levels_behind c.as_slice.ensures ∙ c.in_ok-levels.ensures in
     subst (Stops {X = CopyFacts} {Y = CopyFound} c.facts_entered.result)
-    (sym (entered_is outer.stores.now outer.sources.now outer.levels.now c.args.mark.now c.args.copy.now c.requires.copy c.as_slice.result.now more)) c.facts_entered.ensures.stops
+    (sym (entered_is outer.stores.now outer.sources.now outer.levels.now c.args.mark.now c.args.copy.now c.requires.copy c.as_slice.result.now more))
+    c.facts_entered.ensures.stops
 
 pub facts_of_copy-returns-clause-facts : goal.facts_of_copy-returns-clause-facts
 facts_of_copy-returns-clause-facts t c =
     let outer = c.args.outer.now in
     let more : levels_behind c.as_slice.result.now ≡ (out-CopyMade c.args.copy.now).level ∷ levels_behind outer.levels.now =
     ap levels_behind c.as_slice.ensures ∙ c.in_ok-levels.ensures in
-    entered_has outer.stores.now outer.sources.now outer.levels.now c.args.mark.now c.args.copy.now c.requires.copy c.as_slice.result.now more c.facts_entered.result
+    entered_has outer.stores.now outer.sources.now outer.levels.now c.args.mark.now
+    c.args.copy.now c.requires.copy c.as_slice.result.now more c.facts_entered.result
     c.facts_entered.ensures.facts
 
 pub facts_entered-facts_inside-requires : goal.facts_entered-facts_inside-requires
@@ -165,14 +171,16 @@ facts_entered-facts_inside-requires t c =
       (
         c.requires.names,
         subst (HaveCopies c.args.stores.now c.args.sources.now c.args.levels.now c.marks_in.result.now) (sym c.as_slice-in-Ok.ensures)
-            (subst (λ marks. HaveCopies c.args.stores.now c.args.sources.now c.args.levels.now marks (out-CopyMade c.args.copy.now).inside) (sym c.marks_in.ensures) c.requires.marks),
+            (subst (λ marks. HaveCopies c.args.stores.now c.args.sources.now c.args.levels.now marks (out-CopyMade c.args.copy.now).inside)
+            (sym c.marks_in.ensures) c.requires.marks),
       ),
     )
 
 pub facts_entered-returns-in-Ok-clause-stops : goal.facts_entered-returns-in-Ok-clause-stops
 facts_entered-returns-in-Ok-clause-stops t c =
     let m = out-VgMark c.args.mark.now in
-    answer_stops c.args.stores.now c.args.sources.now (object_here (out-Group m.group)) c.args.levels.now c.in-Ok.own c.facts_inside.result (out-CopyMade c.args.copy.now).cells
+    answer_stops c.args.stores.now c.args.sources.now (object_here (out-Group m.group)) c.args.levels.now
+    c.in-Ok.own c.facts_inside.result (out-CopyMade c.args.copy.now).cells
     (marks_in (out-Group m.group)) c.marks_in.result.now c.marks_in.ensures c.facts_over.result c.facts_over.ensures c.facts_inside.ensures.stops
 
 pub facts_entered-returns-in-Ok-clause-facts : goal.facts_entered-returns-in-Ok-clause-facts
@@ -186,5 +194,6 @@ facts_entered-returns-in-Ok-clause-facts t c =
 pub facts_entered-returns-in-Err-clause-stops : goal.facts_entered-returns-in-Err-clause-stops
 facts_entered-returns-in-Err-clause-stops t c =
     let m = out-VgMark c.args.mark.now in
-    own_lost (map dataset_of c.args.sources.now) (out-CopyMade c.args.copy.now).cells (object_here (out-Group m.group)) (marks_of (marks_in (out-Group m.group)))
+    own_lost (map dataset_of c.args.sources.now) (out-CopyMade c.args.copy.now).cells
+    (object_here (out-Group m.group)) (marks_of (marks_in (out-Group m.group)))
     (names_at c.args.stores.now c.args.sources.now c.args.levels.now) c.in-Err.error c.in-Err.ensures.stops

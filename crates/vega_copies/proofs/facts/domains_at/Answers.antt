@@ -31,7 +31,8 @@ loop-scale-preserved c =
 
 pub returns-in-Err-clause-value : goal.returns-in-Err-clause-value
 returns-in-Err-clause-value c =
-    stops_all (domain_at (names_at c.args.names.now.stores.now c.args.names.now.sources.now c.args.names.now.levels.now)) c.args.scales.now c.loop-scale.scale-index _
+    stops_all (domain_at (names_at c.args.names.now.stores.now c.args.names.now.sources.now c.args.names.now.levels.now))
+    c.args.scales.now c.loop-scale.scale-index _
     c.loop-scale-test.true c.scale-item.is c.in-Err.error c.in-Err.ensures.value
 
 pub returns-clause-value : goal.returns-clause-value

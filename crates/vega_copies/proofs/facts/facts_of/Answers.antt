@@ -10,7 +10,8 @@ use Rattle.vega_copies.proofs.facts.facts_of.Goals as goal
 
 pub facts_inside-requires-clause-marks : goal.facts_inside-requires-clause-marks
 facts_inside-requires-clause-marks c =
-    subst (λ marks. HaveCopies c.args.names.now.stores.now c.args.names.now.sources.now c.args.names.now.levels.now marks c.args.made.now) (sym c.marks_in.ensures) c.requires.marks
+    subst (λ marks. HaveCopies c.args.names.now.stores.now c.args.names.now.sources.now c.args.names.now.levels.now marks c.args.made.now)
+    (sym c.marks_in.ensures) c.requires.marks
 
 pub returns-in-Ok-clause-value : goal.returns-in-Ok-clause-value
 returns-in-Ok-clause-value c =
@@ -18,9 +19,11 @@ returns-in-Ok-clause-value c =
     let o = object_here (out-Group c.args.group.now) in
     let marks = marks_in (out-Group c.args.group.now) in
     answered_facts names c.args.level.now o marks c.args.made.now c.requires.level c.requires.marks c.facts_over.result
-    (answer_stops names.stores.now names.sources.now o names.levels.now c.in-Ok.own c.facts_inside.result None marks c.marks_in.result.now c.marks_in.ensures c.facts_over.result
+    (answer_stops names.stores.now names.sources.now o names.levels.now c.in-Ok.own c.facts_inside.result
+    None marks c.marks_in.result.now c.marks_in.ensures c.facts_over.result
     c.facts_over.ensures c.facts_inside.ensures.stops)
-    (answer_has names.stores.now names.sources.now o names.levels.now c.in-Ok.own c.facts_inside.result None marks c.marks_in.result.now c.marks_in.ensures c.facts_over.result
+    (answer_has names.stores.now names.sources.now o names.levels.now c.in-Ok.own c.facts_inside.result
+    None marks c.marks_in.result.now c.marks_in.ensures c.facts_over.result
     c.facts_over.ensures c.args.level.now.signals c.as_slice.result.now c.as_slice.ensures c.args.made.now c.args.made.now refl c.in-Ok.ensures.own
     c.facts_inside.ensures.facts)
 
@@ -30,7 +33,8 @@ returns-in-Ok-clause-fits c =
     let o = object_here (out-Group c.args.group.now) in
     let marks = marks_in (out-Group c.args.group.now) in
     answered_fit names c.args.level.now o marks c.args.made.now c.requires.level c.requires.marks c.facts_over.result
-    (answer_has names.stores.now names.sources.now o names.levels.now c.in-Ok.own c.facts_inside.result None marks c.marks_in.result.now c.marks_in.ensures c.facts_over.result
+    (answer_has names.stores.now names.sources.now o names.levels.now c.in-Ok.own c.facts_inside.result
+    None marks c.marks_in.result.now c.marks_in.ensures c.facts_over.result
     c.facts_over.ensures c.args.level.now.signals c.as_slice.result.now c.as_slice.ensures c.args.made.now c.args.made.now refl c.in-Ok.ensures.own
     c.facts_inside.ensures.facts)
 

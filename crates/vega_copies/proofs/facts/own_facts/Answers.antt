@@ -7,5 +7,6 @@ use Rattle.vega_copies.proofs.facts.own_facts.Goals as goal
 
 pub returns-else-keeps_own-clause-stops : goal.returns-else-keeps_own-clause-stops
 returns-else-keeps_own-clause-stops c =
-    lacking_own c.args.cells.now (object_here (out-Group c.args.group.now)) (names_at c.args.names.now.stores.now c.args.names.now.sources.now c.args.names.now.levels.now)
+    lacking_own c.args.cells.now (object_here (out-Group c.args.group.now))
+    (names_at c.args.names.now.stores.now c.args.names.now.sources.now c.args.names.now.levels.now)
     (sym c.keeps_own.ensures ∙ c.if-keeps_own.false)

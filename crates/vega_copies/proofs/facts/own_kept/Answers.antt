@@ -18,7 +18,8 @@ domains_at-requires-clause-built c = subst (All (λ s. IsTrue (is_built s))) (sy
 pub returns-in_ok-own_with-in-Ok-clause-own : goal.returns-in_ok-own_with-in-Ok-clause-own
 returns-in_ok-own_with-in-Ok-clause-own c =
     let names = names_at c.args.names.now.stores.now c.args.names.now.sources.now c.args.names.now.levels.now in
-    own_parts (object_here (out-Group c.args.group.now)) names c.args.signals.now c.args.cells.now c.in-Ok.domains c.in_ok-own_with-in-Ok.field-0 c.in_ok-own_with-in-Ok.ensures
+    own_parts (object_here (out-Group c.args.group.now)) names c.args.signals.now c.args.cells.now
+    c.in-Ok.domains c.in_ok-own_with-in-Ok.field-0 c.in_ok-own_with-in-Ok.ensures
     c.requires.kept (ap (λ scales. all_found (map (domain_at names) scales)) (sym c.scales_in.ensures) ∙ c.in-Ok.ensures.value)
     (subst (λ scales. AllZip FitsScale scales c.in-Ok.domains) c.scales_in.ensures c.in-Ok.ensures.fits)
 

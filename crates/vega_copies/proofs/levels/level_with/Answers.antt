@@ -34,7 +34,8 @@ returns-then-branch-clause-value c =
     (scope_read (parts_over (c.as_slice.ensures i) (rows_at c.args.outer.now.sources.now c.args.outer.now.levels.now)))
     (values_at c.args.outer.now.stores.now c.args.outer.now.levels.now) c.args.given.now (c.signals_of-signals.ensures i) (c.data_of-sets.ensures i)))
     (sym c.if-branch.true ∙ c.in_ok-any_set_lacks.ensures
-    ∙ (λ i. list_any (set_lacks (values_inside (c.as_slice-2.ensures i) (values_at c.args.outer.now.stores.now c.args.outer.now.levels.now))) (c.data_of-sets.ensures i)))
+    ∙ (λ i. list_any (set_lacks (values_inside (c.as_slice-2.ensures i) (values_at c.args.outer.now.stores.now c.args.outer.now.levels.now)))
+    (c.data_of-sets.ensures i)))
 
 pub returns-in-Ok-clause-value : goal.returns-in-Ok-clause-value
 returns-in-Ok-clause-value c =
@@ -44,9 +45,11 @@ returns-in-Ok-clause-value c =
     (scope_read (parts_over (c.as_slice.ensures i) (rows_at c.args.outer.now.sources.now c.args.outer.now.levels.now)))
     (values_at c.args.outer.now.stores.now c.args.outer.now.levels.now) c.args.given.now (c.signals_of-signals.ensures i) (c.data_of-sets.ensures i)))
     (sym c.if-branch.false ∙ c.in_ok-any_set_lacks.ensures
-    ∙ (λ i. list_any (set_lacks (values_inside (c.as_slice-2.ensures i) (values_at c.args.outer.now.stores.now c.args.outer.now.levels.now))) (c.data_of-sets.ensures i)))
+    ∙ (λ i. list_any (set_lacks (values_inside (c.as_slice-2.ensures i) (values_at c.args.outer.now.stores.now c.args.outer.now.levels.now)))
+    (c.data_of-sets.ensures i)))
     ∙ ap (option_map (read_as c.args.outer.now c.args.parts (object_here (out-Group c.args.group.now)) c.in_ok-own.own))
-    (sym (λ i. lists_of (values_inside (c.as_slice-2.ensures i) (values_at c.args.outer.now.stores.now c.args.outer.now.levels.now)) (map dataset_of c.args.outer.now.sources.now)
+    (sym (λ i. lists_of (values_inside (c.as_slice-2.ensures i) (values_at c.args.outer.now.stores.now c.args.outer.now.levels.now))
+    (map dataset_of c.args.outer.now.sources.now)
     (scope_read (parts_over (c.as_slice.ensures i) (rows_at c.args.outer.now.sources.now c.args.outer.now.levels.now))) (c.data_of-sets.ensures i))
     ∙ c.in-Ok.ensures.read
     ∙ (λ i. Some (scope_read (rows_inside c.args.outer.now.sources.now
@@ -62,10 +65,13 @@ returns-in-Err-clause-value c =
     (scope_read (parts_over (c.as_slice.ensures i) (rows_at c.args.outer.now.sources.now c.args.outer.now.levels.now)))
     (values_at c.args.outer.now.stores.now c.args.outer.now.levels.now) c.args.given.now (c.signals_of-signals.ensures i) (c.data_of-sets.ensures i)))
     (sym c.if-branch.false ∙ c.in_ok-any_set_lacks.ensures
-    ∙ (λ i. list_any (set_lacks (values_inside (c.as_slice-2.ensures i) (values_at c.args.outer.now.stores.now c.args.outer.now.levels.now))) (c.data_of-sets.ensures i))))
+    ∙ (λ i. list_any (set_lacks (values_inside (c.as_slice-2.ensures i) (values_at c.args.outer.now.stores.now c.args.outer.now.levels.now)))
+    (c.data_of-sets.ensures i))))
     (subst (λ given. Evaluates {X = Scope} (Err c.in-Err.error) given)
-    (λ i. lists_of (values_inside (c.as_slice-2.ensures i) (values_at c.args.outer.now.stores.now c.args.outer.now.levels.now)) (map dataset_of c.args.outer.now.sources.now)
-    (scope_read (parts_over (c.as_slice.ensures i) (rows_at c.args.outer.now.sources.now c.args.outer.now.levels.now))) (c.data_of-sets.ensures i)) c.in-Err.ensures.read)
+    (λ i. lists_of (values_inside (c.as_slice-2.ensures i) (values_at c.args.outer.now.stores.now c.args.outer.now.levels.now))
+    (map dataset_of c.args.outer.now.sources.now)
+    (scope_read (parts_over (c.as_slice.ensures i) (rows_at c.args.outer.now.sources.now c.args.outer.now.levels.now))) (c.data_of-sets.ensures i))
+    c.in-Err.ensures.read)
 
 pub returns-in-Ok-clause-folds : goal.returns-in-Ok-clause-folds
 returns-in-Ok-clause-folds c = λ products fit.

@@ -50,7 +50,8 @@ pub made_in-returns-in-Err-clause-stops : goal.made_in-returns-in-Err-clause-sto
 made_in-returns-in-Err-clause-stops t c =
     let names = c.args.names.now in
     λ in_facet in_grid.
-    mark_stops (map dataset_of names.sources.now) in_facet in_grid (names_at names.stores.now names.sources.now names.levels.now) c.args.marks.now c.loop-mark.mark-index c.mark-item.result
+    mark_stops (map dataset_of names.sources.now) in_facet in_grid
+    (names_at names.stores.now names.sources.now names.levels.now) c.args.marks.now c.loop-mark.mark-index c.mark-item.result
     c.in-Err.error c.loop-mark-test.true c.mark-item.is (c.in-Err.ensures.stops in_facet in_grid)
 
 -- ---- the copies of a group
@@ -100,7 +101,8 @@ made_of_group-loop-copy-preserved t c =
           c.in-Ok.ensures.seen c.loop-copy.invariant.seen;
       made =
           subst (All (IsCopyMade names.stores.now names.sources.now (levels_behind names.levels.now) m)) (sym c.in_ok-push-in-Ok.ensures.ok)
-          (All-push (IsCopyMade names.stores.now names.sources.now (levels_behind names.levels.now) m) c.loop-copy.made c.in-Ok.found c.loop-copy.invariant.made c.in-Ok.ensures.made);
+          (All-push (IsCopyMade names.stores.now names.sources.now (levels_behind names.levels.now) m)
+          c.loop-copy.made c.in-Ok.found c.loop-copy.invariant.made c.in-Ok.ensures.made);
     }
 
 pub made_of_group-returns-in-Err-clause-stops : goal.made_of_group-returns-in-Err-clause-stops
@@ -108,7 +110,8 @@ made_of_group-returns-in-Err-clause-stops t c =
     let names = c.args.names.now in
     let m = out-VgMark c.args.mark.now in
     λ in_facet in_grid.
-    one_copy_stops (map dataset_of names.sources.now) c.args.mark.now in_facet in_grid (names_at names.stores.now names.sources.now names.levels.now) c.requires.group
+    one_copy_stops (map dataset_of names.sources.now) c.args.mark.now in_facet in_grid
+    (names_at names.stores.now names.sources.now names.levels.now) c.requires.group
     (map made_seen c.loop-copy.made) (copy_seen c.in-Some.copy) (map copy_seen (into_iter_items c.next.new.self)) c.in-Err.error
     (ap (λ copies. map made_seen c.loop-copy.made ++ map copy_seen copies) (sym c.in-Some.ensures.steps.0) ∙ c.loop-copy.invariant.seen)
     (c.in-Err.ensures.stops (in_facet || is_some (facet_in m.from)) in_grid)
@@ -120,7 +123,8 @@ made_of_group-returns-clause-made t c =
     group_made names c.args.mark.now (roll-CopiesMade (record { copies = c.loop-copy.made; across = c.in_ok-copies.field-0.across }))
     (record { copies = c.loop-copy.made; across = c.in_ok-copies.field-0.across })
     (out-roll-CopiesMade (record { copies = c.loop-copy.made; across = c.in_ok-copies.field-0.across })) c.requires.group
-    (seen_end (copies_of (scope_read (rows_at names.sources.now names.levels.now)) (group_object 0 m)) c.loop-copy.made (into_iter_items c.loop-copy.copy-iterator)
+    (seen_end (copies_of (scope_read (rows_at names.sources.now names.levels.now)) (group_object 0 m))
+    c.loop-copy.made (into_iter_items c.loop-copy.copy-iterator)
     (none_left c.loop-copy.copy-iterator c.in-None.ensures.steps.0) c.loop-copy.invariant.seen)
     c.in_ok-copies.ensures.across c.loop-copy.invariant.made
 

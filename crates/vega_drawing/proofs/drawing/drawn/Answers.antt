@@ -42,8 +42,10 @@ returns g c =
     let lists = g.M.MarkItems.lists c.args.maker.now in
     let spec = c.args.g.now in
     let facts = c.args.facts.now in
-    let values : values_over c.args.stores.now c.as_slice-signals.result.now ≡ values_inside (out-CopyFacts facts).signals (values_of_stores c.args.stores.now) =
-    values_entered c.args.stores.now c.as_slice-signals.result.now [] (out-CopyFacts facts).signals (ap (map (λ l. l.now)) c.as_slice-signals.ensures ∙ c.in_ok-levels.ensures) in
+    let values : values_over c.args.stores.now c.as_slice-signals.result.now
+    ≡ values_inside (out-CopyFacts facts).signals (values_of_stores c.args.stores.now) =
+    values_entered c.args.stores.now c.as_slice-signals.result.now [] (out-CopyFacts facts).signals
+    (ap (map (λ l. l.now)) c.as_slice-signals.ensures ∙ c.in_ok-levels.ensures) in
     let scales : map scale_seen c.as_slice-here.result.now ≡ scales_on_top spec facts =
     ap (map scale_seen) c.as_slice-here.ensures ∙ c.in_ok-scales.ensures.value
     ∙ ap (and_outer []) (ap (map kept_seen) c.as_slice-mine.ensures ∙ c.in_ok-own.ensures.value

@@ -19,8 +19,9 @@ use Rattle.vega_drawing.specs.inner.Framed.{frame_seen, found_in_frame}
 use Rattle.vega_drawing.specs.inner.Kept.{scale_seen, axis_seen, kept_seen, IsKeptScale, AreKeptScales, AreKeptAxes}
 use Rattle.vega_drawing.specs.inner.Placed.{view_at, view_scaled, views_of_mark, AddsViews}
 use Rattle.vega_drawing.proofs.EnteredLemmas.{none_hidden}
-use Rattle.vega_drawing.proofs.GridLemmas.{marks_begin, facts_within, mark_here, marks_next, marks_stop, marks_end, mark_of_group, mark_of_none, adds_none, group_cells, plain_cells}
-use Rattle.vega_drawing.proofs.GridLemmas.{cells_begin, copy_here, spot_within, cells_next, cells_stop, cells_end, cells_count}
+use Rattle.vega_drawing.proofs.GridLemmas.{marks_begin, facts_within, mark_here, marks_next, marks_stop, marks_end, mark_of_group}
+use Rattle.vega_drawing.proofs.GridLemmas.{mark_of_none, adds_none, group_cells, plain_cells, cells_begin, copy_here, spot_within}
+use Rattle.vega_drawing.proofs.GridLemmas.{cells_next, cells_stop, cells_end, cells_count}
 use Rattle.vega_drawing.proofs.LayoutLemmas.{grid_ends, grid_stops}
 use Rattle.vega_drawing.proofs.SetLemmas.{within_frame}
 use Rattle.vega_drawing.proofs.ShownLemmas.{object_shown, shows_inside}

@@ -19,7 +19,8 @@ use Rattle.vega_drawing.specs.Scales.{and_outer, own_scales}
 use Rattle.vega_drawing.specs.inner.Drawn.{inside_seen, MayShow, copies_from, placed_from, drawn_group, drawn_framed, DrawsMore}
 use Rattle.vega_drawing.specs.inner.Framed.{frame_seen, found_in_frame}
 use Rattle.vega_drawing.specs.inner.Kept.{kept_seen, scale_seen, IsKeptScale, AreKeptScales}
-use Rattle.vega_drawing.proofs.DrawnLemmas.{stops_drawing, nothing_left, facts_within, next_shows, next_few, marks_fit, groups_fit, unit_fits, number_fits, next_drawn, next_stops, group_one, plain_one}
+use Rattle.vega_drawing.proofs.DrawnLemmas.{stops_drawing, nothing_left, facts_within, next_shows, next_few, marks_fit, groups_fit}
+use Rattle.vega_drawing.proofs.DrawnLemmas.{unit_fits, number_fits, next_drawn, next_stops, group_one, plain_one}
 use Rattle.vega_drawing.proofs.EnteredLemmas.{moved_frame, entered_frame, no_x, no_y, framed_at, behind_guides, group_numbered, none_hidden, scaled_with}
 use Rattle.vega_drawing.proofs.EnteredLemmas.{copy_entered, copies_begun, next_copy, copy_drawn, copy_ends, no_copies_left}
 use Rattle.vega_drawing.proofs.SetLemmas.{within_frame}
@@ -66,7 +67,8 @@ draw_all-returns-in-Err-clause-value g t c =
     next_stops _ _ _ _ _ _ _ _ c.args.marks.now c.loop-mark.mark-index c.mark-item.result c.args.found.now c.loop-mark.out c.loop-mark-test.true
     c.mark-item.is c.loop-mark.invariant c.index-found-at.result c.index-found-at.is
     c.in-Err.error c.draw_one.new.out (inside_seen c.args.out.now)
-    (drawn_in items (marks_from c.args.unit c.args.number c.args.marks.now) (found_in_frame lists c.args.frame.now 0 c.args.found.now) (frame_seen lists c.args.frame.now))
+    (drawn_in items (marks_from c.args.unit c.args.number c.args.marks.now)
+    (found_in_frame lists c.args.frame.now 0 c.args.found.now) (frame_seen lists c.args.frame.now))
     refl c.in-Err.ensures.value c.draw_one.new.out c.args.out.now
 
 pub draw_all-count_marks_of-next_unit-requires : goal.draw_all-count_marks_of-next_unit-requires
@@ -118,7 +120,8 @@ draw_all-returns-clause-kept g t c = c.loop-mark.invariant.kept
 
 pub draw_one-draw_group-requires : goal.draw_one-draw_group-requires
 draw_one-draw_group-requires g t c =
-    λ κs lives. (omega arith, (lives, (c.requires.sound, (c.requires.frame, (c.requires.marks, (c.requires.few, sym c.is_group.ensures ∙ c.if-is_group.true))))))
+    λ κs lives.
+    (omega arith, (lives, (c.requires.sound, (c.requires.frame, (c.requires.marks, (c.requires.few, sym c.is_group.ensures ∙ c.if-is_group.true))))))
 
 pub draw_one-returns-then-is_group-clause-value : goal.draw_one-returns-then-is_group-clause-value
 draw_one-returns-then-is_group-clause-value g t c =

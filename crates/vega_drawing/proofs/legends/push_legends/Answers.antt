@@ -18,6 +18,7 @@ loop-index-preserved c =
 pub returns-clause-value : goal.returns-clause-value
 returns-clause-value c =
     let shown = in_channels c.args.object (unlisted c.args.frame.now) in
-    all_enumerated shown c.legends_in-legends.result.now c.loop-index.index c.loop-index.out (c.args.out.now ++ flat_map shown (enumerate_from 0 c.legends_in-legends.result.now))
+    all_enumerated shown c.legends_in-legends.result.now c.loop-index.index c.loop-index.out
+    (c.args.out.now ++ flat_map shown (enumerate_from 0 c.legends_in-legends.result.now))
     c.loop-index-test.false c.loop-index.invariant.value
     ∙ ap (λ legends. c.args.out.now ++ flat_map shown (enumerate_from 0 legends)) c.legends_in-legends.ensures

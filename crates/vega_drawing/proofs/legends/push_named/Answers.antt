@@ -36,7 +36,8 @@ returns-in_ok-laid-in-Some-clause-value c =
 pub returns-in_ok-laid-in-Some-clause-kept : goal.returns-in_ok-laid-in-Some-clause-kept
 returns-in_ok-laid-in-Some-clause-kept c all =
     on_ok_weaker c.push.result
-    (λ e. subst (All IsLegendShown) (sym e) (All-push IsLegendShown c.args.out.now _ all (c.in_ok-laid-in-Some.ensures.sound, c.in_ok-shown-in-Some.ensures.shown)))
+    (λ e. subst (All IsLegendShown) (sym e)
+    (All-push IsLegendShown c.args.out.now _ all (c.in_ok-laid-in-Some.ensures.sound, c.in_ok-shown-in-Some.ensures.shown)))
     c.push.ensures.ok
 
 pub returns-in-None-clause-value : goal.returns-in-None-clause-value

@@ -13,4 +13,5 @@ loop-at-preserved c =
     let again : c.loop-at.at ≡ c.loop-at.at - 1 + 1 = omega (arith, positive) in
     one_source c.args.sources.now (c.loop-at.at - 1) c.index-sources-at.result c.loop-at.places c.put_place.new.places before c.index-sources-at.is
     (subst (λ i. ArePlacesFrom c.args.sources.now i c.loop-at.places) again c.loop-at.invariant)
-    (subst (λ (source : Named). IsPut c.loop-at.places source.name (Source (c.loop-at.at - 1)) c.put_place.new.places) (sym c.index-sources-at.is) c.in_ok-put_place.ensures)
+    (subst (λ (source : Named). IsPut c.loop-at.places source.name (Source (c.loop-at.at - 1)) c.put_place.new.places)
+    (sym c.index-sources-at.is) c.in_ok-put_place.ensures)

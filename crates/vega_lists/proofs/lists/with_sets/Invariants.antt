@@ -10,4 +10,5 @@ abbrev pub invariant-loop-set : goal.invariant-loop-set
 invariant-loop-set g l =
     let values = g.P.ParamReader.values l.params in
     let outer = g.O.ListReader.named l.outer in
-    ListsLeft values l.sources outer (lists_of values (map dataset_of l.sources) (scope_read (rows_inside l.sources outer l.fn.begun)) l.sets) (drop l.set-index l.sets) l.lists
+    ListsLeft values l.sources outer (lists_of values (map dataset_of l.sources) (scope_read (rows_inside l.sources outer l.fn.begun)) l.sets)
+    (drop l.set-index l.sets) l.lists

@@ -1,4 +1,4 @@
-use Rattle.vega_round_trip.proofs.SpecBack.{built_again}
+use Rattle.vega_model.proofs.SpecBack.{built_again}
 use Rattle.vega_model.proofs.ReadAgain.{unless_none}
 use Rattle.vega_model.proofs.writing.what_was_written_is_read.Goals as goal
 

@@ -12,7 +12,8 @@ use Rattle.vega_signals.proofs.extents.add_set.Goals as goal
 pub run-requires-clause-folds : goal.run-requires-clause-folds
 run-requires-clause-folds g c =
     subst (MayFold c.in_ok-rows.rows) (sym c.transforms_of.ensures)
-    (begun_may_fold c.args.sources.now c.requires.sources (g.O.ListReader.named c.args.outer.now) c.args.lists.now c.args.set.now c.in_ok-rows.rows c.requires.folds c.in_ok-rows.ensures.read)
+    (begun_may_fold c.args.sources.now c.requires.sources (g.O.ListReader.named c.args.outer.now) c.args.lists.now
+    c.args.set.now c.in_ok-rows.rows c.requires.folds c.in_ok-rows.ensures.read)
 
 pub returns-clause-scope : goal.returns-clause-scope
 returns-clause-scope g c =
@@ -26,4 +27,5 @@ returns-clause-scope g c =
 
 pub returns-clause-rows : goal.returns-clause-rows
 returns-clause-rows g c =
-    rows_of_put (g.O.ListReader.named c.args.outer.now) c.args.lists.now c.put_rows.new.lists c.args.set.now.name c.in_ok-left.left c.in_ok-put_rows.ensures c.in_ok-left.ensures.rows c.requires.lists
+    rows_of_put (g.O.ListReader.named c.args.outer.now) c.args.lists.now c.put_rows.new.lists c.args.set.now.name
+    c.in_ok-left.left c.in_ok-put_rows.ensures c.in_ok-left.ensures.rows c.requires.lists

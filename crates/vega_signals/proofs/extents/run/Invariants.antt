@@ -9,5 +9,6 @@ abbrev pub invariant-loop-transform : goal.invariant-loop-transform
 invariant-loop-transform g l =
     let values = g.P.ParamReader.values l.params in
     let scope = scope_by (g.O.ListReader.named l.outer) l.lists in
-    IsOnTheWay values scope (all_left values scope l.transforms (map datum_of l.fn.rows)) (l.fn.out ++ extents_in values scope l.transforms (map datum_of l.fn.rows))
+    IsOnTheWay values scope (all_left values scope l.transforms (map datum_of l.fn.rows))
+    (l.fn.out ++ extents_in values scope l.transforms (map datum_of l.fn.rows))
     (drop l.transform-index l.transforms) l.left l.out

@@ -8,19 +8,22 @@ use Rattle.vega_signals.proofs.lookups.looked_up.Goals as goal
 pub looked_up_over-requires-clause-other : goal.looked_up_over-requires-clause-other
 looked_up_over-requires-clause-other g c =
     subst AreRows
-    (sym (put_there (g.O.ListReader.named c.args.outer.now) c.args.lists.now c.as_str-name.result.now c.args.l.now.from c.as_str-name.ensures c.in-Some.other.now c.in-Some.ensures))
+    (sym (put_there (g.O.ListReader.named c.args.outer.now) c.args.lists.now c.as_str-name.result.now
+    c.args.l.now.from c.as_str-name.ensures c.in-Some.other.now c.in-Some.ensures))
     (c.requires.lists c.args.l.now.from)
 
 pub looked_up_outside-requires-clause-other : goal.looked_up_outside-requires-clause-other
 looked_up_outside-requires-clause-other g c =
     subst AreRows
-    (sym (found_outside (g.O.ListReader.named c.args.outer.now) c.args.lists.now c.as_str-name.result.now c.args.l.now.from c.as_str-name.ensures c.in-None.ensures))
+    (sym (found_outside (g.O.ListReader.named c.args.outer.now) c.args.lists.now
+    c.as_str-name.result.now c.args.l.now.from c.as_str-name.ensures c.in-None.ensures))
     (c.requires.lists c.args.l.now.from)
 
 pub returns-in-Some-clause-read : goal.returns-in-Some-clause-read
 returns-in-Some-clause-read g c =
     let outer = g.O.ListReader.named c.args.outer.now in
-    looked_up_there outer c.args.lists.now c.args.l.now.from (lookup_settings c.args.l.now) c.in-Some.other.now (map datum_of c.args.rows.now) c.looked_up_over.result
+    looked_up_there outer c.args.lists.now c.args.l.now.from (lookup_settings c.args.l.now)
+    c.in-Some.other.now (map datum_of c.args.rows.now) c.looked_up_over.result
     (put_there outer c.args.lists.now c.as_str-name.result.now c.args.l.now.from c.as_str-name.ensures c.in-Some.other.now c.in-Some.ensures)
     c.looked_up_over.ensures.read
 

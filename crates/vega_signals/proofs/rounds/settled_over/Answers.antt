@@ -6,6 +6,8 @@ use Rattle.vega_signals.proofs.rounds.settled_over.Goals as goal
 
 pub returns : goal.returns
 returns g c =
-    settled_ok (map dataset_of c.args.sources.now) (scope_read (g.O.ListReader.named c.args.lists.now)) (g.P.ParamReader.values c.args.outer.now) c.args.given.now
-    c.args.signals.now c.args.sets.now c.in_ok-first.first c.rounds_after-rounds.result c.settle.result c.in_ok-first.ensures c.rounds_after-rounds.ensures.count
+    settled_ok (map dataset_of c.args.sources.now) (scope_read (g.O.ListReader.named c.args.lists.now))
+    (g.P.ParamReader.values c.args.outer.now) c.args.given.now
+    c.args.signals.now c.args.sets.now c.in_ok-first.first c.rounds_after-rounds.result
+    c.settle.result c.in_ok-first.ensures c.rounds_after-rounds.ensures.count
     c.settle.ensures

@@ -8,6 +8,7 @@ returns-in-Err c = stops_all valued_here c.args.settled.now c.loop-entry.entry-i
 
 pub loop-entry-preserved : goal.loop-entry-preserved
 loop-entry-preserved c =
-    all_more valued_here c.args.settled.now c.loop-entry.entry-index _ c.loop-entry.out c.in-Ok.valued c.loop-entry-test.true c.entry-item.is c.loop-entry.invariant
+    all_more valued_here c.args.settled.now c.loop-entry.entry-index _ c.loop-entry.out
+    c.in-Ok.valued c.loop-entry-test.true c.entry-item.is c.loop-entry.invariant
     c.in-Ok.ensures
     ∙ ap Some (sym c.in_ok-push-in-Ok.ensures.ok)

@@ -15,7 +15,8 @@ judge_channel-returns t c =
     let all : Judging → Type 0 = λ j. OnOk c.judge_held.result (c.judge_held.new.judging ≡ j) in
     subst all (two_parts c.args.judging.now _ (λ tree. definition_faults tree c.args.code (out-Channel c.args.channel.now).definition)
     (λ tree. held_faults tree c.args.code (out-Channel c.args.channel.now).condition) c.in_ok-judge_definition.ensures
-    ∙ ap (after c.args.judging.now) (sym (channel_opens c.args.judging.now.tree.now c.args.code c.args.channel.now c.args.judging.now.trail))) c.judge_held.ensures
+    ∙ ap (after c.args.judging.now) (sym (channel_opens c.args.judging.now.tree.now c.args.code c.args.channel.now c.args.judging.now.trail)))
+    c.judge_held.ensures
 
 pub judge_conditions-returns-in-One : goal.judge_conditions-returns-in-One
 judge_conditions-returns-in-One t c =

@@ -27,6 +27,7 @@ returns c =
     let rows = c.args.self.now in
     let frame = c.args.frame.now in
     let same : rows_under rows.sources.now (made_at (top_of_rows rows) frame.path.now).levels ≡ rows_at rows.sources.now c.as_slice.result.now =
-    names_on_path rows.sources.now rows.level.now rows.made.now frame.path.now c.as_slice.result.now (ap levels_behind c.as_slice.ensures ∙ c.in_ok-levels.ensures) in
+    names_on_path rows.sources.now rows.level.now rows.made.now frame.path.now
+    c.as_slice.result.now (ap levels_behind c.as_slice.ensures ∙ c.in_ok-levels.ensures) in
     subst (λ seen. Evaluates c.items_on_levels.result (items_in_copy c.args.unit (plain_of (out-VgMark c.args.mark.now)) seen))
     (seen_by_path (lists_of_rows rows) frame (rows_at rows.sources.now c.as_slice.result.now) (ap scope_read same)) c.items_on_levels.ensures

@@ -1,4 +1,0 @@
-mod PlaceLemmas
-mod ReaderLemmas
-mod RowLemmas
-mod PlacedLemmas
