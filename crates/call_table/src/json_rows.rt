@@ -8,32 +8,32 @@ use text_kit::{OutOfMemory, Text};
 
 /// Why a line has no answer.
 #[derive(Clone, Copy, Debug)]
-pub(crate) enum Stop {
+pub(crate) enum CallStop {
     /// It isn't as it should be.
     Shape,
     /// Memory was refused.
     Memory,
 }
 
-impl From<OutOfMemory> for Stop {
-    fn from(_: OutOfMemory) -> Stop {
-        Stop::Memory
+impl From<OutOfMemory> for CallStop {
+    fn from(_: OutOfMemory) -> CallStop {
+        CallStop::Memory
     }
 }
 
 // The tree of a text.
-fn tree_of(alloc: Global, text: &str) -> Result<Json, Stop> {
-    json_exact::read(alloc, text.as_bytes()).map_err(|_| Stop::Shape)
+fn tree_of(alloc: Global, text: &str) -> Result<Json, CallStop> {
+    json_exact::read(alloc, text.as_bytes()).map_err(|_| CallStop::Shape)
 }
 
 // The rows of a tree of JSON.
-fn of_json(alloc: Global, how: &Json, data: &Json) -> Result<Json, Stop> {
+fn of_json(alloc: Global, how: &Json, data: &Json) -> Result<Json, CallStop> {
     let kinds = told::kinds(alloc, how)?;
     shown::read(alloc, data_rows::rows_of_json(alloc, data, &kinds))
 }
 
 // The rows of bytes of CSV.
-fn of_csv(alloc: Global, how: &Json, data: &Json) -> Result<Json, Stop> {
+fn of_csv(alloc: Global, how: &Json, data: &Json) -> Result<Json, CallStop> {
     let bytes = told::bytes(alloc, data)?;
     let kinds = told::kinds(alloc, how)?;
     shown::read(
@@ -43,13 +43,13 @@ fn of_csv(alloc: Global, how: &Json, data: &Json) -> Result<Json, Stop> {
 }
 
 // What one fold makes of rows.
-fn fold(alloc: Global, how: &Json, data: &Json) -> Result<Rows, Stop> {
+fn fold(alloc: Global, how: &Json, data: &Json) -> Result<Rows, CallStop> {
     let rows = told::rows(alloc, data)?;
     folded(alloc, &rows, &told::fold(alloc, how)?, 2)
 }
 
 // What two folds make of rows, one after the other.
-fn folds(alloc: Global, how: &Json, data: &Json) -> Result<Rows, Stop> {
+fn folds(alloc: Global, how: &Json, data: &Json) -> Result<Rows, CallStop> {
     let (first, second) = told::two(how)?;
     let first = told::fold(alloc, first)?;
     let second = told::fold(alloc, second)?;
@@ -57,7 +57,7 @@ fn folds(alloc: Global, how: &Json, data: &Json) -> Result<Rows, Stop> {
 }
 
 // What a lookup makes of the first list of rows in the second.
-fn lookup(alloc: Global, how: &Json, data: &Json) -> Result<Rows, Stop> {
+fn lookup(alloc: Global, how: &Json, data: &Json) -> Result<Rows, CallStop> {
     let (rows, other) = told::two(data)?;
     let how = told::lookup(alloc, how)?;
     looked_up(
@@ -69,18 +69,18 @@ fn lookup(alloc: Global, how: &Json, data: &Json) -> Result<Rows, Stop> {
 }
 
 // What a call that transforms rows answers.
-fn transformed(alloc: Global, call: &str, how: &Json, data: &Json) -> Result<Json, Stop> {
+fn transformed(alloc: Global, call: &str, how: &Json, data: &Json) -> Result<Json, CallStop> {
     let rows = match call {
         "fold" => fold(alloc, how, data)?,
         "folds" => folds(alloc, how, data)?,
         "lookup" => lookup(alloc, how, data)?,
-        _ => return Err(Stop::Shape),
+        _ => return Err(CallStop::Shape),
     };
     shown::keyed(alloc, &rows)
 }
 
 // What a call answers.
-fn answer_of(alloc: Global, call: &str, how: &Json, data: &Json) -> Result<Json, Stop> {
+fn answer_of(alloc: Global, call: &str, how: &Json, data: &Json) -> Result<Json, CallStop> {
     match call {
         "json" => of_json(alloc, how, data),
         "csv" => of_csv(alloc, how, data),
@@ -89,9 +89,9 @@ fn answer_of(alloc: Global, call: &str, how: &Json, data: &Json) -> Result<Json,
 }
 
 // What a call answers that is told a text.
-fn answer(alloc: Global, call: &str, told: &str) -> Result<Json, Stop> {
+fn answer(alloc: Global, call: &str, told: &str) -> Result<Json, CallStop> {
     let Some((how, data)) = told.split_once('\t') else {
-        return Err(Stop::Shape);
+        return Err(CallStop::Shape);
     };
     let how = tree_of(alloc, how)?;
     let data = tree_of(alloc, data)?;
@@ -102,7 +102,7 @@ fn answer(alloc: Global, call: &str, told: &str) -> Result<Json, Stop> {
 pub(crate) fn found(alloc: Global, call: &str, told: &str) -> Result<Text, OutOfMemory> {
     match answer(alloc, call, told) {
         Ok(tree) => json_exact::write(alloc, &tree),
-        Err(Stop::Shape) => Text::of(alloc, "no call"),
-        Err(Stop::Memory) => Err(OutOfMemory),
+        Err(CallStop::Shape) => Text::of(alloc, "no call"),
+        Err(CallStop::Memory) => Err(OutOfMemory),
     }
 }

@@ -1,5 +1,5 @@
 // Rows under keys.
-ghost use Rattle.std.specs.Prelude.{◌≡◌, ◌+◌, ◌<◌, ◌≤◌, IfOk, OnOk};
+ghost use Rattle.std.specs.Prelude.{◌+◌, ◌≤◌, IfOk, OnOk};
 ghost use Rattle.plain_rows.specs.Rows.{AreRows, keys_of};
 ghost use Rattle.call_table.specs.Numbered.{AreNumbered, BranchesBelow};
 

@@ -1,5 +1,5 @@
 // Answers as JSON.
-use crate::json_rows::Stop;
+use crate::json_rows::CallStop;
 use cell_value::{Cell, Keyed, Row, Rows};
 use data_rows::RowError;
 use fixed_num::Num;
@@ -8,16 +8,16 @@ use std::alloc::Global;
 use text_kit::{OutOfMemory, Seq, Text};
 
 /// Rows as they were read: a list of objects; of a bad row an object with its number and its field.
-pub(crate) fn read(alloc: Global, rows: Result<Seq<Row>, RowError>) -> Result<Json, Stop> {
+pub(crate) fn read(alloc: Global, rows: Result<Seq<Row>, RowError>) -> Result<Json, CallStop> {
     match rows {
         Ok(rows) => Ok(shown_rows(alloc, rows.as_slice())?),
         Err(RowError::Fault { row, field }) => Ok(bad(alloc, row, field)?),
-        Err(RowError::Memory) => Err(Stop::Memory),
+        Err(RowError::Memory) => Err(CallStop::Memory),
     }
 }
 
 /// Rows with their keys: a list of objects.
-pub(crate) fn keyed(alloc: Global, rows: &Rows) -> Result<Json, Stop> {
+pub(crate) fn keyed(alloc: Global, rows: &Rows) -> Result<Json, CallStop> {
     let mut shown = Seq::new(alloc);
     for row in rows.as_slice() {
         shown.push(shown_keyed(alloc, row)?)?;

@@ -3,7 +3,7 @@ ghost use Rattle.std.specs.Prelude.{IfOk};
 ghost use Rattle.plain_rows.specs.Rows.{AreRows};
 ghost use Rattle.call_table.specs.Numbered.{BranchesBelow};
 
-use crate::json_rows::Stop;
+use crate::json_rows::CallStop;
 use crate::keys;
 use cell_value::{Cell, Rows, SharedText};
 use data_rows::{ParseKind, rows_of_json};
@@ -13,9 +13,9 @@ use std::alloc::Global;
 use text_kit::{OutOfMemory, Seq, Text};
 
 /// The bytes of a text, in which `ÿ` stands for a byte that is never part of UTF-8.
-pub(crate) fn bytes(alloc: Global, data: &Json) -> Result<Vec<u8>, Stop> {
+pub(crate) fn bytes(alloc: Global, data: &Json) -> Result<Vec<u8>, CallStop> {
     let Json::Text(text) = data else {
-        return Err(Stop::Shape);
+        return Err(CallStop::Shape);
     };
     let mut bytes = Vec::new(alloc);
     for c in text.as_str().chars() {
@@ -35,9 +35,9 @@ fn push_char(bytes: &mut Vec<u8>, c: char) -> Result<(), OutOfMemory> {
 }
 
 /// The kinds of fields, an object of their names.
-pub(crate) fn kinds(alloc: Global, told: &Json) -> Result<Seq<(Text, ParseKind)>, Stop> {
+pub(crate) fn kinds(alloc: Global, told: &Json) -> Result<Seq<(Text, ParseKind)>, CallStop> {
     let Json::Object(members) = told else {
-        return Err(Stop::Shape);
+        return Err(CallStop::Shape);
     };
     let mut kinds = Seq::new(alloc);
     for member in members.as_slice() {
@@ -46,51 +46,51 @@ pub(crate) fn kinds(alloc: Global, told: &Json) -> Result<Seq<(Text, ParseKind)>
     Ok(kinds)
 }
 
-fn kind(told: &Json) -> Result<ParseKind, Stop> {
+fn kind(told: &Json) -> Result<ParseKind, CallStop> {
     let Json::Text(word) = told else {
-        return Err(Stop::Shape);
+        return Err(CallStop::Shape);
     };
     match word.as_str() {
         "number" => Ok(ParseKind::Number),
         "boolean" => Ok(ParseKind::Boolean),
         "string" => Ok(ParseKind::Text),
         "date" => Ok(ParseKind::Date),
-        _ => Err(Stop::Shape),
+        _ => Err(CallStop::Shape),
     }
 }
 
 /// Rows with the ids that count from 1.
-pub(crate) fn rows(alloc: Global, data: &Json) -> Result<Rows, Stop>
+pub(crate) fn rows(alloc: Global, data: &Json) -> Result<Rows, CallStop>
     ensures rows { IfOk result AreRows }
     ensures branches { IfOk result (BranchesBelow 2) }
 {
     match rows_of_json(alloc, data, &Seq::new(alloc)) {
         Ok(rows) => Ok(keys::keyed(alloc, rows, true)?),
-        Err(_) => Err(Stop::Shape),
+        Err(_) => Err(CallStop::Shape),
     }
 }
 
 /// The two values of a list.
-pub(crate) fn two(told: &Json) -> Result<(&Json, &Json), Stop> {
+pub(crate) fn two(told: &Json) -> Result<(&Json, &Json), CallStop> {
     let Json::List(items) = told else {
-        return Err(Stop::Shape);
+        return Err(CallStop::Shape);
     };
     match items.as_slice() {
         [first, second] => Ok((first, second)),
-        _ => Err(Stop::Shape),
+        _ => Err(CallStop::Shape),
     }
 }
 
-fn text(told: &Json, path: &str) -> Result<Text, Stop> {
+fn text(told: &Json, path: &str) -> Result<Text, CallStop> {
     match at_path(told, path) {
         Some(Json::Text(text)) => Ok(text.copy()?),
-        _ => Err(Stop::Shape),
+        _ => Err(CallStop::Shape),
     }
 }
 
-fn texts(alloc: Global, told: &Json, path: &str) -> Result<Seq<Text>, Stop> {
+fn texts(alloc: Global, told: &Json, path: &str) -> Result<Seq<Text>, CallStop> {
     let Some(Json::List(items)) = at_path(told, path) else {
-        return Err(Stop::Shape);
+        return Err(CallStop::Shape);
     };
     let mut texts = Seq::new(alloc);
     for item in items.as_slice() {
@@ -99,20 +99,20 @@ fn texts(alloc: Global, told: &Json, path: &str) -> Result<Seq<Text>, Stop> {
     Ok(texts)
 }
 
-fn cell(told: &Json, path: &str) -> Result<Cell, Stop> {
+fn cell(told: &Json, path: &str) -> Result<Cell, CallStop> {
     match at_path(told, path) {
         Some(Json::Null) => Ok(Cell::Null),
         Some(Json::Number(number)) => Ok(Cell::Number(*number)),
         Some(Json::Text(text)) => Ok(Cell::Text(text.copy()?)),
-        _ => Err(Stop::Shape),
+        _ => Err(CallStop::Shape),
     }
 }
 
-fn shared(alloc: Global, told: &Json, path: &str) -> Result<SharedText, Stop> {
+fn shared(alloc: Global, told: &Json, path: &str) -> Result<SharedText, CallStop> {
     Ok(SharedText::of_text(alloc, text(told, path)?)?)
 }
 
-fn shared_texts(alloc: Global, told: &Json, path: &str) -> Result<Seq<SharedText>, Stop> {
+fn shared_texts(alloc: Global, told: &Json, path: &str) -> Result<Seq<SharedText>, CallStop> {
     let mut shared = Seq::new(alloc);
     for text in texts(alloc, told, path)?.as_slice() {
         shared.push(SharedText::of(alloc, text.as_str())?)?;
@@ -121,7 +121,7 @@ fn shared_texts(alloc: Global, told: &Json, path: &str) -> Result<Seq<SharedText
 }
 
 /// What a fold is told.
-pub(crate) fn fold(alloc: Global, told: &Json) -> Result<FoldOf, Stop> {
+pub(crate) fn fold(alloc: Global, told: &Json) -> Result<FoldOf, CallStop> {
     Ok(FoldOf {
         fields: shared_texts(alloc, told, "/fields")?,
         out_key: shared(alloc, told, "/as/0")?,
@@ -130,7 +130,7 @@ pub(crate) fn fold(alloc: Global, told: &Json) -> Result<FoldOf, Stop> {
 }
 
 /// What a lookup is told.
-pub(crate) fn lookup(alloc: Global, told: &Json) -> Result<LookupOf, Stop> {
+pub(crate) fn lookup(alloc: Global, told: &Json) -> Result<LookupOf, CallStop> {
     Ok(LookupOf {
         key_here: text(told, "/here")?,
         key_there: text(told, "/there")?,

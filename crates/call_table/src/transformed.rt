@@ -1,15 +1,15 @@
 // Rows that are transformed.
-ghost use Rattle.std.specs.Prelude.{◌≡◌, ◌≤◌, ◌*◌, length, IfOk};
+ghost use Rattle.std.specs.Prelude.{◌≡◌, ◌*◌, length, IfOk};
 ghost use Rattle.plain_rows.specs.Rows.{AreRows};
 ghost use Rattle.call_table.specs.Numbered.{BranchesBelow};
 
-use crate::json_rows::Stop;
+use crate::json_rows::CallStop;
 use cell_value::Rows;
 use plain_rows::{FoldOf, LookupOf};
 use std::alloc::Global;
 
 /// What a fold makes of rows whose branches are below a number, where there is room for it.
-pub(crate) fn folded(alloc: Global, rows: &Rows, how: &FoldOf, most: u64) -> Result<Rows, Stop>
+pub(crate) fn folded(alloc: Global, rows: &Rows, how: &FoldOf, most: u64) -> Result<Rows, CallStop>
     requires rows { AreRows rows.now }
     requires branches { BranchesBelow most rows.now }
     ensures rows { IfOk result AreRows }
@@ -17,17 +17,17 @@ pub(crate) fn folded(alloc: Global, rows: &Rows, how: &FoldOf, most: u64) -> Res
 {
     let fields = how.fields.len();
     if fields > 1000 || most > 1000 || rows.len() > 1000 {
-        return Err(Stop::Shape);
+        return Err(CallStop::Shape);
     }
     Ok(plain_rows::fold(alloc, rows, how)?)
 }
 
 // How many branches are below twice so many fields.
-fn twice(fields: usize) -> Result<u64, Stop>
+fn twice(fields: usize) -> Result<u64, CallStop>
     ensures { IfOk result (λ n. n ≡ 2 * fields) }
 {
     if fields > 1000 {
-        return Err(Stop::Shape);
+        return Err(CallStop::Shape);
     }
     Ok(2 * fields as u64)
 }
@@ -38,7 +38,7 @@ pub(crate) fn folded_twice(
     rows: &Rows,
     first: &FoldOf,
     second: &FoldOf,
-) -> Result<Rows, Stop>
+) -> Result<Rows, CallStop>
     requires rows { AreRows rows.now }
     requires branches { BranchesBelow 2 rows.now }
 {
@@ -53,12 +53,12 @@ pub(crate) fn looked_up(
     rows: &Rows,
     other: &Rows,
     how: &LookupOf,
-) -> Result<Rows, Stop>
+) -> Result<Rows, CallStop>
     requires rows { AreRows rows.now }
     requires other { AreRows other.now }
 {
     if how.outs.len() != how.fields.len() {
-        return Err(Stop::Shape);
+        return Err(CallStop::Shape);
     }
     Ok(plain_rows::lookup(alloc, rows, other, how)?)
 }

@@ -16,16 +16,20 @@ found name pairs = option_map (λ (p : ℕ × List ℕ). p.0) (find (λ (p : ℕ
 found_in_table : (name : List ℕ) (table : List Case) → code_of table name ≡ found name (map numbered table)
 found_in_table name [] = refl
 found_in_table name (c ∷ table) =
-    elim (bytes_eq c.name.now name) as (λ b. option_map (λ (c : Case). c.code) (cond b (Some c) (find (λ (c : Case). bytes_eq c.name.now name) table)) ≡ option_map (λ (p : ℕ × List ℕ). p.0) (cond b (Some (numbered c)) (find (λ (p : ℕ × List ℕ). bytes_eq p.1 name) (map numbered table))))
+    elim (bytes_eq c.name.now name) as (λ b. option_map (λ (c : Case). c.code) (cond b (Some c) (find (λ (c : Case). bytes_eq c.name.now name) table))
+    ≡ option_map (λ (p : ℕ × List ℕ). p.0) (cond b (Some (numbered c)) (find (λ (p : ℕ × List ℕ). bytes_eq p.1 name) (map numbered table))))
     [ true ↦ refl | false ↦ found_in_table name table ]
 
 found_in_names : (name : List ℕ) (k : ℕ) (names : List (List ℕ)) → found name (enumerate_from k names) ≡ position_from (λ n. bytes_eq n name) k names
 found_in_names name k [] = refl
 found_in_names name k (n ∷ names) =
-    elim (bytes_eq n name) as (λ b. option_map (λ (p : ℕ × List ℕ). p.0) (cond b (Some (k, n)) (find (λ (p : ℕ × List ℕ). bytes_eq p.1 name) (enumerate_from (k + 1) names))) ≡ cond b (Some k) (position_from (λ n. bytes_eq n name) (k + 1) names))
+    elim (bytes_eq n name) as
+    (λ b. option_map (λ (p : ℕ × List ℕ). p.0) (cond b (Some (k, n)) (find (λ (p : ℕ × List ℕ). bytes_eq p.1 name) (enumerate_from (k + 1) names)))
+    ≡ cond b (Some k) (position_from (λ n. bytes_eq n name) (k + 1) names))
     [ true ↦ refl | false ↦ found_in_names name (k + 1) names ]
 
 -- where a table has the names in order, each with its index, the code of a name is its index
-pub code_of_index : (name : List ℕ) (table : List Case) (names : List (List ℕ)) → map (λ (c : Case). (c.code, c.name.now)) table ≡ enumerate_from 0 names → code_of table name ≡ index_of names name
+pub code_of_index : (name : List ℕ) (table : List Case) (names : List (List ℕ))
+    → map (λ (c : Case). (c.code, c.name.now)) table ≡ enumerate_from 0 names → code_of table name ≡ index_of names name
 code_of_index name table names e =
     found_in_table name table ∙ ap (found name) e ∙ found_in_names name 0 names ∙ sym (position_from-zero (λ n. bytes_eq n name) names)

@@ -1,5 +1,5 @@
 -- What each time unit is.
-use Rattle.std.specs.Prelude.{ℕ, List, [], ◌∷◌, ◌++◌, Option, Some, None, slice_get, option_map, codes, ◌≡◌, refl}
+use Rattle.std.specs.Prelude.{ℕ, List, [], ◌∷◌, ◌++◌, Option, Some, None, slice_get, codes, ◌≡◌, refl}
 use Rattle.std.specs.Option.{option_and_then}
 use Rattle.case_table.specs.declared.unit.PartOf.{PartOf}
 use Rattle.case_table.specs.declared.unit.PartOf.TheVariants as part

@@ -1,6 +1,6 @@
 //! What each time unit is.
 ghost use Rattle.std.specs.Prelude.{◌≡◌, map, option_map, slice_get};
-ghost use Rattle.case_table.specs.TimeUnits.{UnitRule, rule_of, unit_rule};
+ghost use Rattle.case_table.specs.TimeUnits.{rule_of, unit_rule};
 
 use crate::unit::{PartOf, Unit};
 

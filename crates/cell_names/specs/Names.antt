@@ -2,8 +2,8 @@
 -- the same with `_end`; those of a unit of time are `unit_f` and `unit_f_end`; that of an aggregate is `op_f`, and of a count `__count`; those of a stack are
 -- the name of what is stacked with `_start` and with `_end`. Without `maxbins` there are at most 6 bins for row, column and shape, else 10. Of an aggregate,
 -- bins and a unit of time in one definition the first of these acts, and names the cells. A definition without a field names none, but for a count.
-use Rattle.std.specs.Prelude.{◌≡◌, refl, ℕ, ◌*◌, ◌==◌, ◌||◌, ℤ, pos, Bool, true, false, Option, Some, None, List, [], ◌∷◌, ◌++◌, codes, slice_get, unwrap_or, is_some}
-use Rattle.std.specs.Prelude.{if◌then◌else◌}
+use Rattle.std.specs.Prelude.{◌≡◌, refl, ℕ, ◌*◌, ◌==◌, ◌||◌, ℤ, pos, Bool, true, false, Option, Some, None, List, [], ◌++◌, codes}
+use Rattle.std.specs.Prelude.{slice_get, unwrap_or, is_some, if◌then◌else◌}
 use Rattle.std.specs.Option.{option_map, option_map_or}
 use Rattle.fixed_num.specs.Number.{million}
 use Rattle.fixed_num.specs.Decimal.{spelling, size_spelling, fraction_spelling, fraction_digits}

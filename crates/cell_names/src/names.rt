@@ -1,11 +1,12 @@
 // The names of new cells.
-ghost use Rattle.std.specs.Prelude.{◌≡◌, ◌++◌, ◌*◌, [], pos, codes, map, slice_get, unwrap_or, IfOk};
+ghost use Rattle.std.specs.Prelude.{◌≡◌, ◌++◌, ◌*◌, [], pos, map, slice_get, unwrap_or, IfOk};
 ghost use Rattle.std.specs.Option.{option_map, option_copied};
 ghost use Rattle.fixed_num.specs.Number.{million};
 ghost use Rattle.fixed_num.specs.Decimal.{spelling};
 ghost use Rattle.case_table.specs.declared.case.Case.{Case as ACase};
 ghost use Rattle.case_table.specs.Names.{operations, time_units};
-ghost use Rattle.cell_names.specs.Names.{name_in, joined_name, end_name, most_bins, bin_settings, bin_words, bin_name, unit_name, op_name, bins_in, plain_name, name_of, has_end, end_of_field, stack_start, stack_end};
+ghost use Rattle.cell_names.specs.Names.{name_in, joined_name, end_name, most_bins, bin_settings, bin_words, bin_name, unit_name, op_name};
+ghost use Rattle.cell_names.specs.Names.{bins_in, plain_name, name_of, has_end, end_of_field, stack_start};
 ghost use Rattle.scale_infer.specs.Types.{has_bins};
 
 use case_table::{Case, OPERATIONS, TIME_UNITS};

@@ -3,7 +3,7 @@ use Rattle.std.proofs.Common.{◌≡◌, T, ℕ, List, [], ◌∷◌, sym, ap, s
 use Rattle.std.specs.Ordering.{nat_cmp}
 use Rattle.std.specs.Cmp.Lexicographic.{slice_cmp, nat_list_cmp_total}
 use Rattle.std.specs.List.{fold}
-use Rattle.std.specs.FinMap.{is_sorted, put, insert, empty, from_sorted}
+use Rattle.std.specs.FinMap.{is_sorted, put, insert, from_sorted}
 use Rattle.cell_value.specs.declared.cell.Cell.{Cell}
 use Rattle.cell_value.specs.Row.{Cells, row_of}
 use Rattle.cell_value.proofs.Place.{from_put, none_seen}

@@ -1,4 +1,4 @@
-ghost use Rattle.std.specs.Prelude.{◌≡◌, ◌<◌, ◌≤◌, None, length, IfOk, OnErr, is_err};
+ghost use Rattle.std.specs.Prelude.{◌≡◌, ◌<◌, ◌≤◌, None, length, IfOk, is_err};
 ghost use Rattle.chart_io.specs.Outside.{IsWithin};
 ghost use Rattle.chart_io.specs.Counts.{faults_after};
 ghost use Rattle.chart_io.specs.Dir.{folder_faults};

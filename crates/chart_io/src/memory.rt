@@ -1,5 +1,5 @@
-ghost use Rattle.std.specs.Prelude.{◌≡◌, [], ◌+◌, ◌<◌, ◌≤◌, Some, min, length, take, drop, IfOk, OnErr, is_err};
-ghost use Rattle.chart_io.specs.Outside.{Rose, file_of, IsGot, IsWithin, Kept, Moved};
+ghost use Rattle.std.specs.Prelude.{◌≡◌, ◌<◌, ◌≤◌, Some, min, length, IfOk, OnErr, is_err};
+ghost use Rattle.chart_io.specs.Outside.{file_of, IsGot, IsWithin, Moved};
 ghost use Rattle.chart_io.specs.Counts.{no_calls, next_fails, after_call};
 ghost use Rattle.chart_io.specs.Memory.{listed, got_of};
 

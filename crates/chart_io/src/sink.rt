@@ -1,5 +1,4 @@
-ghost use Rattle.std.specs.Prelude.{◌≡◌, [], ◌++◌, ◌+◌, ◌-◌, ◌<◌, ◌≤◌, ◌||◌, nat_le, Some, min, length, take, IfOk, OnErr, is_err};
-ghost use Rattle.chart_io.specs.Outside.{Rose, Appended, Kept};
+ghost use Rattle.std.specs.Prelude.{◌≡◌, [], ◌++◌, ◌-◌, ◌<◌, ◌≤◌, ◌||◌, nat_le, Some, min, length, take, IfOk, OnErr, is_err};
 ghost use Rattle.chart_io.specs.Counts.{no_calls, next_fails, after_call};
 
 use crate::counts::Calls;

@@ -1,5 +1,5 @@
-ghost use Rattle.std.specs.Prelude.{◌≡◌, ◌+◌, ◌<◌, ◌≤◌, length, take, IfOk, OnErr, is_err};
-ghost use Rattle.chart_io.specs.Outside.{Rose, Appended, Kept, Moved};
+ghost use Rattle.std.specs.Prelude.{◌≡◌, ◌<◌, ◌≤◌, length, take, IfOk, OnErr, is_err};
+ghost use Rattle.chart_io.specs.Outside.{Appended, Kept, Moved};
 ghost use Rattle.chart_io.specs.Counts.{faults_after};
 ghost use Rattle.chart_io.specs.Stream.{source_left, sink_held, source_faults, sink_faults};
 

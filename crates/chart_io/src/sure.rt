@@ -1,7 +1,6 @@
-ghost use Rattle.std.specs.Prelude.{◌≡◌, ◌+◌, ◌<◌, ◌≤◌, ℕ, List, Option, Some, None, Ok, min, length, take, drop, map, string_bytes, IfOk};
-ghost use Rattle.std.specs.Prelude.{IfSome, IsOk, OnErr};
+ghost use Rattle.std.specs.Prelude.{◌≡◌, ◌+◌, ◌<◌, ◌≤◌, ℕ, List, Option, Some, None, Ok, min, length, take, drop, IfOk, IsOk};
 ghost use Rattle.std.specs.Option.{option_map};
-ghost use Rattle.chart_io.specs.Outside.{Rose, Files, file_of, IsGot, IsWithin, Kept, Moved};
+ghost use Rattle.chart_io.specs.Outside.{Files, file_of, IsGot, IsWithin, Moved};
 ghost use Rattle.chart_io.specs.Memory.{listed, got_of};
 
 use crate::{Failed, Folder, Got, Source};

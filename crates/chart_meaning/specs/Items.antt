@@ -39,7 +39,7 @@ use Rattle.scene_tree.specs.declared.shape.Shape.TheVariants.{Circle}
 use Rattle.mark_shapes.specs.declared.looks.Look.{Look}
 use Rattle.mark_shapes.specs.declared.rules.Ends.{Ends}
 use Rattle.mark_shapes.specs.declared.runs.Pass.{Pass}
-use Rattle.mark_shapes.specs.declared.runs.Stop.{Stop}
+use Rattle.mark_shapes.specs.declared.runs.PathStop.{PathStop}
 use Rattle.mark_shapes.specs.declared.shown.Shown.{Shown}
 use Rattle.mark_shapes.specs.declared.shown.Shown.TheVariants.{Absent, Given}
 use Rattle.mark_shapes.specs.declared.spans.Span.{Span}
@@ -309,7 +309,7 @@ pass_along plot across row along = do
   far ← end_at plot across row along.far
   Some (pass_of near Absent far)
 
-abbrev pub stop_of : InPlot → MarkPlan → Datum → Option (Option Stop)
+abbrev pub stop_of : InPlot → MarkPlan → Datum → Option (Option PathStop)
 stop_of plot m row = do
   x ← pass_along plot true row.cell m.across
   y ← pass_along plot false row.cell m.down

@@ -41,7 +41,7 @@ pub data Domain : Type 0 where
   OfNumbers : ℤ → ℤ → Domain
 
 -- Where a panel of a facet stands in its grid: whether no panel is below it, and whether it is in the first column.
-pub record Spot : Type 0 where
+pub record GridSpot : Type 0 where
   -- the number of the facet's view
   pub facet : ℕ
   pub is_last_row : Bool
@@ -59,7 +59,7 @@ pub record Copy : Type 0 where
   -- the headers of these facets, the inner before the outer
   pub headers : List Header
   -- where the panels round it stand
-  pub spots : List Spot
+  pub spots : List GridSpot
   -- what the scales scale that belong to it or to a copy round it, each with the number of the scale
   pub domains : List (ℕ × Domain)
 
@@ -145,7 +145,7 @@ abbrev pub columns_for : GridColumns → List (List Cell) → ℕ → ℕ
 columns_for asked fields count = max (columns_asked asked fields count) 1
 
 -- the spot of the panel of an index in a facet's grid of so many panels in so many columns
-abbrev pub spot_at : ℕ → ℕ → ℕ → ℕ → Spot
+abbrev pub spot_at : ℕ → ℕ → ℕ → ℕ → GridSpot
 spot_at facet width count index = record {
   facet = facet;
   is_last_row = not (nat_lt (index + width) count);
@@ -171,7 +171,7 @@ abbrev pub parts_of : List (List ℕ) → List Cell → (ℕ → List Datum) →
 parts_of names key rows unit = part_of names key (rows unit)
 
 -- the copy in the panel of these cells, which stands at this spot
-abbrev pub copy_with : FacetPlan → Copy → Spot → List Cell → Copy
+abbrev pub copy_with : FacetPlan → Copy → GridSpot → List Cell → Copy
 copy_with f outer spot key = record outer {
   rows = parts_of (names_of f) key outer.rows;
   begun = parts_of (names_of f) key outer.begun;

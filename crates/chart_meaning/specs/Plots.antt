@@ -23,20 +23,20 @@ use Rattle.chart_plan.specs.declared.selections.DragPlan.{DragPlan}
 use Rattle.chart_plan.specs.declared.selections.SelectionPlan.{SelectionPlan}
 use Rattle.chart_plan.specs.Selections.{place_word}
 use Rattle.chart_meaning.specs.Items.{InPlot, unit_items}
-use Rattle.chart_meaning.specs.Parts.{Copy, Spot, spot_at}
+use Rattle.chart_meaning.specs.Parts.{Copy, GridSpot, spot_at}
 use Rattle.chart_meaning.specs.Scales.{scale_in, size_in}
 
 -- ---- axes
 
 -- whether a panel is at the edge for axes of a channel: of x below, of y in the first column
-abbrev pub is_at_edge : ℕ → Spot → Bool
+abbrev pub is_at_edge : ℕ → GridSpot → Bool
 is_at_edge channel spot = if channel == Y then spot.is_first_column else spot.is_last_row
 
 abbrev pub is_among : List ℕ → ℕ → Bool
 is_among numbers n = list_any (λ m. m == n) numbers
 
 -- whether the facet of a spot isn't one of these, or the spot is at its edge
-abbrev pub stands_at : ℕ → List ℕ → Spot → Bool
+abbrev pub stands_at : ℕ → List ℕ → GridSpot → Bool
 stands_at channel edges spot = not (is_among edges spot.facet) || is_at_edge channel spot
 
 -- the channel of the scale of a number

@@ -2,7 +2,7 @@
 use Rattle.std.specs.Prelude.{ℕ, is_none, List, Result, Ok, Err, if◌then◌else◌, codes}
 use Rattle.fixed_num.specs.Steps.{◌>>=◌}
 use Rattle.json_exact.specs.declared.json.Json.{Json}
-use Rattle.json_exact.specs.declared.spec_error.SpecKind.TheVariants.{Wrong}
+use Rattle.spec_schema.specs.declared.spec_error.SpecKind.TheVariants.{Wrong}
 use Rattle.chart_io.specs.Outside.{Files}
 use Rattle.vega_spec.specs.declared.spec.VgSpec.{VgSpec}
 use Rattle.vega_writing.specs.Spec.{tree_of}

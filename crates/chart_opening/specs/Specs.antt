@@ -2,7 +2,7 @@
 use Rattle.std.specs.Prelude.{ℕ, Bool, ◌&&◌, Option, Some, None, List, [], Result, Ok, Err, if◌then◌else◌}
 use Rattle.fixed_num.specs.Steps.{◌>>=◌}
 use Rattle.json_exact.specs.declared.json.Json.{Json}
-use Rattle.json_exact.specs.declared.spec_error.SpecKind.TheVariants.{Unsupported}
+use Rattle.spec_schema.specs.declared.spec_error.SpecKind.TheVariants.{Unsupported}
 use Rattle.chart_io.specs.Outside.{Files}
 use Rattle.vega_spec.specs.declared.spec.VgSpec.{VgSpec}
 use Rattle.vega_model.specs.Reading.{Refused, read_of}

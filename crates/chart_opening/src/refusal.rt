@@ -4,7 +4,7 @@ ghost use Rattle.chart_opening.specs.declared.refusal.OpenStop.TheVariants as ou
 ghost use Rattle.chart_opening.specs.declared.refusal.StepStop.TheVariants as stop;
 ghost use Rattle.chart_opening.specs.inner.Stops.{open_stop};
 
-use json_exact::SpecKind;
+use spec_schema::SpecKind;
 use std::alloc::{AllocError, AllocFailed};
 use text_kit::{OutOfMemory, Text};
 

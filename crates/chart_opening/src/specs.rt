@@ -1,6 +1,6 @@
 //! Which Vega specification a tree says.
 ghost use Rattle.std.specs.Prelude.{◌≡◌, is_none, Ok, Err, IfOk, codes};
-ghost use Rattle.json_exact.specs.declared.spec_error.SpecKind.TheVariants.{Wrong};
+ghost use Rattle.spec_schema.specs.declared.spec_error.SpecKind.TheVariants.{Wrong};
 ghost use Rattle.vega_writing.specs.Spec.{tree_of};
 ghost use Rattle.vega_model.specs.Faults.{first_fault_of};
 ghost use Rattle.vega_model.specs.Reading.{read_of};
@@ -14,8 +14,9 @@ ghost use Rattle.chart_opening.specs.inner.Stops.{Gives};
 use crate::refusal::{Refusal, StepStop};
 use crate::schemas::is_vega;
 use first_form::{bars_of, first_form};
-use json_exact::{Json, SpecError, SpecKind};
+use json_exact::Json;
 use selection_rules::keeps_selections;
+use spec_schema::{SpecError, SpecKind};
 use std::alloc::Global;
 use text_kit::{OutOfMemory, Text};
 use vega_assemble::assemble;

@@ -13,7 +13,7 @@ use Rattle.fixed_num.proofs.Steps.{bind_ok}
 use Rattle.json_exact.specs.declared.json.Json.{Json, out-Json}
 use Rattle.json_exact.specs.declared.json.Json.TheVariants as json
 use Rattle.json_exact.specs.declared.json.Member.{Member}
-use Rattle.json_exact.specs.declared.spec_error.SpecKind.TheVariants.{Wrong}
+use Rattle.spec_schema.specs.declared.spec_error.SpecKind.TheVariants.{Wrong}
 use Rattle.json_exact.specs.Inside.{text_in, members_in}
 use Rattle.json_exact.specs.Path.{member_value}
 use Rattle.json_exact.specs.Reading.{Reads}

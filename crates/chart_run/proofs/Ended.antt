@@ -1,23 +1,21 @@
 -- What an end of a run says of its status, of what refuses it, and of what is wanted.
-use Rattle.std.proofs.Common.{◌≡◌, ◌≤◌, ◌<◌, ◌-◌, ◌⊎◌, ◌↔◌, ℕ, suc, true, false, Option, Some, None, List, length, Result, Ok, Err, IfSome, OnOk}
-use Rattle.std.proofs.Common.{refl, sym, subst, inl, inr, ap, ◌∙◌, arith}
-use Rattle.std.specs.Prelude.{IsSomeAnd}
+use Rattle.std.proofs.Common.{◌≡◌, ◌≤◌, ◌<◌, ◌⊎◌, ◌↔◌, ℕ, suc, true, Option, Some, None, List, length, Result, Ok, Err, IfSome, OnOk, refl}
+use Rattle.std.proofs.Common.{sym, subst, inl, inr, ap, ◌∙◌, arith}
 use Rattle.std.specs.Result.{result_err}
-use Rattle.chart_io.specs.Outside.{Files, Kept, Appended, AppendedPrefix}
+use Rattle.chart_io.specs.Outside.{Files, Appended}
 use Rattle.param_flow.specs.Script.{most_script_bytes}
 use Rattle.play_script.specs.Played.{IsPastSize}
 use Rattle.chart_opening.specs.declared.opened.Opened.{Opened}
 use Rattle.chart_opening.specs.declared.refusal.Refusal.{Refusal}
 use Rattle.chart_opening.specs.declared.refusal.Refusal.TheVariants as refusal
-use Rattle.chart_opening.specs.Texts.{Reading}
 use Rattle.chart_opening.specs.inner.Reading.{the_reading}
 use Rattle.chart_run.specs.declared.stop.RunStop.{RunStop}
 use Rattle.chart_run.specs.declared.stop.RunStop.TheVariants as stop
 use Rattle.chart_run.specs.Words.{Ask, Render, Play, Compile, reads_script}
 use Rattle.chart_run.specs.Refusals.{refusal_status, opened_for, IsRefused}
 use Rattle.chart_run.specs.Wanted.{IsAccepted, IsAnswered, IsRepliedTo, MayFail, script_for}
-use Rattle.chart_run.specs.Ends.{End, Done, Words, Refused, ReadFault, WriteFault, NoMemory, LongScript, end_status, IsEnd, Told, AsksScript}
-use Rattle.chart_run.specs.inner.Stops.{end_of, stop_end, IsTold, IsCutOff}
+use Rattle.chart_run.specs.Ends.{End, Done, Words, Refused, ReadFault, WriteFault, NoMemory, LongScript, end_status, IsEnd, Told}
+use Rattle.chart_run.specs.inner.Stops.{end_of, IsTold, IsCutOff}
 use Rattle.chart_run.specs.inner.Runs.{IsTexted, IsRepliedSo}
 
 -- the status comes wherever the refusal holds, unless reading failed or memory was refused

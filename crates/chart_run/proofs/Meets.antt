@@ -1,10 +1,7 @@
 -- What an engine that is opened means, of what files give.
 use Rattle.std.proofs.Common.{◌≡◌, ℕ, Option, Some, None, List, Result, Ok, Err, IfSome, refl, sym, ap, subst, ◌∙◌}
-use Rattle.std.specs.Result.{result_map_both}
-use Rattle.text_kit.specs.Answer.{GivesAs}
 use Rattle.fixed_num.specs.Steps.{◌>>=◌}
 use Rattle.chart_io.specs.Outside.{Files}
-use Rattle.cell_value.specs.State.{state_of}
 use Rattle.scene_tree.specs.Outcome.{Outcome, Drawn, Overflow, Panels, outcome_map}
 use Rattle.vega_meaning.specs.declared.open.OpenError.{OpenError}
 use Rattle.vega_meaning.specs.Answers.{Draws}
@@ -26,7 +23,7 @@ use Rattle.chart_opening.proofs.JsonLemmas.{right}
 use Rattle.chart_run.specs.declared.stop.RunStop.{RunStop}
 use Rattle.chart_run.specs.declared.stop.RunStop.TheVariants as stop
 use Rattle.chart_run.proofs.OpenedLemmas.{refused_is}
-use Rattle.chart_run.specs.inner.Stops.{Meets, meant, meant_of, refusal_of, stop_at}
+use Rattle.chart_run.specs.inner.Stops.{Meets, meant, meant_of, stop_at}
 
 -- an engine was opened: its meaning is that of what is opened
 module _ (opened : Opened) where

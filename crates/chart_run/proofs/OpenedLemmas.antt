@@ -1,17 +1,11 @@
 -- What is opened and drawn, taken apart.
-use Rattle.std.proofs.Common.{◌≡◌, ℕ, Bool, true, false, Option, Some, None, List, Result, Ok, Err, refl, sym, ap, subst, ◌∙◌}
-use Rattle.std.specs.Result.{result_map_both}
-use Rattle.std.specs.Prelude.{if◌then◌else◌}
-use Rattle.fixed_num.specs.Steps.{◌>>=◌}
+use Rattle.std.proofs.Common.{◌≡◌, ℕ, List, Result, Ok, Err, refl, sym, ap, ◌∙◌}
 use Rattle.fixed_num.proofs.Steps.{bind_ok}
-use Rattle.json_exact.specs.declared.json.Json.{Json}
 use Rattle.chart_io.specs.Outside.{Files}
-use Rattle.cell_value.specs.declared.state.ChartState.{ChartState}
 use Rattle.cell_value.specs.State.{state_of}
 use Rattle.scene_tree.specs.Outcome.{Outcome, Drawn, Overflow, Panels}
-use Rattle.vega_spec.specs.declared.spec.VgSpec.{VgSpec}
 use Rattle.vega_meaning.specs.Charts.{vega_chart_of}
-use Rattle.play_script.specs.Meaning.{Meaning, chart_in}
+use Rattle.play_script.specs.Meaning.{Meaning}
 use Rattle.chart_opening.specs.declared.opened.Opened.{Opened}
 use Rattle.chart_opening.specs.declared.refusal.Refusal.{Refusal}
 use Rattle.chart_opening.specs.Charts.{if_chart, drawn_of, drawn_by}

@@ -1,5 +1,5 @@
 -- What holds by the program's reading of JSON holds by every right one.
-use Rattle.std.proofs.Common.{◌≡◌, subst}
+use Rattle.std.proofs.Common.{subst}
 use Rattle.chart_opening.specs.Texts.{Reading, ReadsJson}
 use Rattle.chart_opening.specs.inner.Reading.{the_reading}
 use Rattle.chart_opening.proofs.JsonLemmas.{right, agree}

@@ -1,6 +1,6 @@
 -- What was appended where a script was cut off: the replies to the lines that ended.
-use Rattle.std.proofs.Common.{◌≡◌, ◌≤◌, ℕ, Bool, true, false, Option, Some, None, List, [], ◌++◌, length, take, Result, Ok, Err, IfSome}
-use Rattle.std.proofs.Common.{refl, sym, ap, subst, append-nil}
+use Rattle.std.proofs.Common.{◌≡◌, ℕ, Bool, true, false, Option, Some, None, List, [], ◌++◌, take, Result, Ok, Err, IfSome, refl, sym, ap}
+use Rattle.std.proofs.Common.{subst, append-nil}
 use Rattle.std.proofs.lemmas.List.{take_all}
 use Rattle.chart_io.specs.Outside.{Files, Appended}
 use Rattle.cell_value.specs.State.{state_of}

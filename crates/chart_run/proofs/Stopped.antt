@@ -1,6 +1,6 @@
 -- How runs end: where opening files stops them, and where playing, printing or compiling does.
-use Rattle.std.proofs.Common.{◌≡◌, ◌≤◌, ◌⊎◌, ◌↔◌, ℕ, true, false, Option, Some, None, List, [], length, Result, Ok, Err, IfSome, IfErr, IsErrOf}
-use Rattle.std.proofs.Common.{refl, ap, inl, inr}
+use Rattle.std.proofs.Common.{◌≡◌, ◌↔◌, ℕ, true, false, Option, Some, None, List, Result, Ok, Err, IfSome, IfErr, IsErrOf, refl, ap, inl}
+use Rattle.std.proofs.Common.{inr}
 use Rattle.std.specs.Result.{result_err}
 use Rattle.chart_io.specs.Outside.{Files, Kept}
 use Rattle.play_script.specs.Played.{IsPastSize}
@@ -12,10 +12,10 @@ use Rattle.chart_opening.specs.declared.refusal.OpenStop.TheVariants as opening
 use Rattle.chart_opening.specs.inner.Reading.{the_reading}
 use Rattle.chart_run.specs.declared.stop.RunStop.{RunStop}
 use Rattle.chart_run.specs.declared.stop.RunStop.TheVariants as stop
-use Rattle.chart_run.specs.Words.{Ask, Render, Play, Compile, reads_script}
-use Rattle.chart_run.specs.Refusals.{IsRefused, opened_for}
+use Rattle.chart_run.specs.Words.{Ask, Play, reads_script}
+use Rattle.chart_run.specs.Refusals.{opened_for}
 use Rattle.chart_run.specs.Wanted.{IsAccepted}
-use Rattle.chart_run.specs.Ends.{End, Done, IsEnd, Told, AsksScript, IsReadWhole}
+use Rattle.chart_run.specs.Ends.{IsEnd, IsReadWhole}
 use Rattle.chart_run.specs.inner.Stops.{stop_end, end_of, stop_at, handed, IsOpenStop, IsPrintStop, IsOpenOrPrintStop}
 
 -- where a cause refuses the files that are told, it is the refusal of what is asked for

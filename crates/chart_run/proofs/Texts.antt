@@ -1,24 +1,22 @@
 -- The text that is wanted over accepted files, and what printing, playing and compiling over them append.
-use Rattle.std.proofs.Common.{◌≡◌, ◌≤◌, ◌+◌, ℕ, Option, Some, None, List, [], ◌∷◌, ◌++◌, length, length-append, Result, Ok, Err, IfSome}
-use Rattle.std.proofs.Common.{OnOk, refl, sym, subst, ap, ◌∙◌, arith}
+use Rattle.std.proofs.Common.{◌≡◌, ◌+◌, ℕ, Option, Some, None, List, [], ◌∷◌, ◌++◌, length, length-append, Result, Ok, Err, IfSome, OnOk}
+use Rattle.std.proofs.Common.{refl, sym, subst, ap, ◌∙◌, arith}
 use Rattle.chart_io.specs.Outside.{Files, Kept, Appended, AppendedPrefix}
-use Rattle.cell_value.specs.State.{State, state_of}
+use Rattle.cell_value.specs.State.{state_of}
 use Rattle.scene_tree.specs.Outcome.{Outcome, Drawn, IsDrawn}
 use Rattle.vega_meaning.specs.Charts.{vega_chart_of}
 use Rattle.vega_meaning.specs.Semantics.{vega_semantics, IsVegaOutput}
 use Rattle.param_flow.specs.Script.{lines_of}
 use Rattle.play_script.specs.Meaning.{Meaning, chart_in, IsReplyIn}
-use Rattle.play_script.specs.Played.{Sinks, output_alone, HasTaken, IsPlayed}
+use Rattle.play_script.specs.Played.{output_alone, HasTaken, IsPlayed}
 use Rattle.play_script.specs.declared.errors.PlayError.{PlayError}
 use Rattle.play_script.proofs.Output.{has_output}
 use Rattle.play_script.proofs.Vega.{played_begins, as_vega}
 use Rattle.chart_opening.specs.declared.opened.Opened.{Opened}
-use Rattle.chart_opening.specs.declared.refusal.Refusal.{Refusal}
 use Rattle.chart_opening.specs.Charts.{drawn_by}
 use Rattle.chart_opening.specs.Compiled.{compiled_by}
 use Rattle.chart_opening.specs.inner.Reading.{the_reading}
-use Rattle.chart_run.specs.Words.{Ask, Render, Play, Compile}
-use Rattle.chart_run.specs.Refusals.{opened_for}
+use Rattle.chart_run.specs.Words.{Render, Play, Compile}
 use Rattle.chart_run.specs.Wanted.{IsAccepted, IsOutputFrom, IsWanted, vega_text}
 use Rattle.chart_run.specs.Ends.{IsReadWhole}
 use Rattle.chart_run.specs.inner.Stops.{handed, meant, meant_of}

@@ -1,6 +1,6 @@
 -- How a run ends: its status, its line on the notes, and what that says of words, files and script.
 use Rattle.std.specs.Prelude.{◌≡◌, ◌⊎◌, ◌≤◌, ℕ, true, Option, Some, None, IfSome, IsSomeAnd, List, [], ◌∷◌, ◌++◌, length, codes}
-use Rattle.chart_io.specs.Outside.{Rose, Files, Kept, Appended, AppendedPrefix}
+use Rattle.chart_io.specs.Outside.{Rose, Files, Appended, AppendedPrefix}
 use Rattle.param_flow.specs.Script.{most_script_bytes}
 use Rattle.play_script.specs.Played.{IsPastSize}
 use Rattle.chart_opening.specs.declared.refusal.Refusal.{Refusal}

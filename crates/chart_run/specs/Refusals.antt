@@ -1,8 +1,8 @@
 -- Why files are refused: the status of each cause, and its line on the notes.
 use Rattle.std.specs.Prelude.{◌≡◌, refl, ℕ, Option, Some, None, List, [], ◌++◌, codes, Result, Err}
 use Rattle.std.specs.Fmt.{decimal}
-use Rattle.json_exact.specs.declared.spec_error.SpecKind.{SpecKind}
-use Rattle.json_exact.specs.declared.spec_error.SpecKind.TheVariants.{Unsupported, Missing, Wrong}
+use Rattle.spec_schema.specs.declared.spec_error.SpecKind.{SpecKind}
+use Rattle.spec_schema.specs.declared.spec_error.SpecKind.TheVariants.{Unsupported, Missing, Wrong}
 use Rattle.json_exact.specs.Writing.{quoted}
 use Rattle.chart_io.specs.Outside.{Files}
 use Rattle.chart_opening.specs.declared.opened.Opened.{Opened}

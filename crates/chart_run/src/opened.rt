@@ -1,5 +1,5 @@
 //! A file's chart, opened and drawn.
-ghost use Rattle.std.specs.Prelude.{◌≡◌, ◌≤◌, IfErr, IfSome, IsErrOf};
+ghost use Rattle.std.specs.Prelude.{◌≤◌, IfErr, IfSome, IsErrOf};
 ghost use Rattle.chart_io.specs.Outside.{Rose, Kept};
 ghost use Rattle.cell_value.specs.State.{state_of};
 ghost use Rattle.vega_copies.specs.Tested.{KeepsRules};

@@ -1,5 +1,5 @@
 //! `play`: a script is played over a file's chart.
-ghost use Rattle.std.specs.Prelude.{◌≡◌, ◌≤◌, ◌↔◌, Some, ℕ, List, IfErr, IfSome, IsErrOf, Err};
+ghost use Rattle.std.specs.Prelude.{◌≡◌, ◌≤◌, ◌↔◌, Some, ℕ, List, IfSome, IsErrOf, Err};
 ghost use Rattle.std.specs.Result.{result_err};
 ghost use Rattle.chart_io.specs.Outside.{Rose, Kept};
 ghost use Rattle.play_script.specs.declared.errors.PlayError.TheVariants as error;

@@ -7,7 +7,8 @@ ghost use Rattle.chart_run.specs.Refusals.{kind_name, refusal_status, refusal_te
 ghost use Rattle.chart_run.specs.inner.Stops.{stop_at};
 
 use chart_opening::{OpenStop, Refusal};
-use json_exact::{Json, SpecKind};
+use json_exact::Json;
+use spec_schema::SpecKind;
 use std::alloc::{AllocError, AllocFailed, Global};
 use text_kit::{OutOfMemory, Text};
 

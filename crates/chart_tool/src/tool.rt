@@ -1,12 +1,12 @@
 //! The top call: what the program does with its words.
-ghost use Rattle.std.specs.Prelude.{◌≡◌, ◌≤◌, ◌↔◌, ◌⊎◌, ◌∷◌, [], ◌++◌, Some, None, List, ℕ, IfSome, Err};
+ghost use Rattle.std.specs.Prelude.{◌≡◌, ◌≤◌, ◌↔◌, ◌⊎◌, None, List, ℕ, IfSome, Err};
 ghost use Rattle.std.specs.Result.{result_err};
 ghost use Rattle.chart_io.specs.Outside.{Rose, Kept};
 ghost use Rattle.play_script.specs.Played.{HasTaken, IsPastSize};
 ghost use Rattle.chart_opening.specs.declared.refusal.Refusal.{Refusal as Cause};
 ghost use Rattle.chart_opening.specs.Texts.{Reading, ReadsJson};
 ghost use Rattle.chart_run.specs.Words.{asked_in};
-ghost use Rattle.chart_run.specs.Refusals.{refusal_status, refusal_text, IsRefused};
+ghost use Rattle.chart_run.specs.Refusals.{refusal_status, IsRefused};
 ghost use Rattle.chart_run.specs.Wanted.{IsAccepted, IsAnswered, MayFail, script_for};
 ghost use Rattle.chart_run.specs.Ends.{End, Refused, NoMemory, end_status, end_note, IsEnd, IsNoted, Told, AsksScript};
 ghost use Rattle.chart_run.specs.inner.Stops.{IsTold};

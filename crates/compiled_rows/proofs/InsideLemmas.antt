@@ -1,11 +1,11 @@
 -- Why no object inside a compiled specification adds a signal or a data set.
-use Rattle.std.proofs.Common.{◌≡◌, ℕ, suc, ◌+◌, None, List, [], ◌∷◌, map, sym, ap, ◌∙◌, subst}
+use Rattle.std.proofs.Common.{◌≡◌, ℕ, suc, ◌+◌, List, [], ◌∷◌, map, sym, ap, ◌∙◌, subst}
 use Rattle.vega_spec.specs.declared.marks.MarkType.{MarkType}
 use Rattle.vega_spec.specs.declared.marks.MarkType.TheVariants as type
 use Rattle.vega_spec.specs.declared.spec.Group.{Group, fold-roll-Group, out-roll-Group, roll-Group}
 use Rattle.vega_spec.specs.declared.spec.VgMark.{VgMark, VgMark-F, fold-VgMark, fold-roll-VgMark}
-use Rattle.vega_copies.specs.Outlines.{Before, Marks, Opened, count_groups, count_marks, group_here, in_a_row, mark_here, mark_of_type, numbered, object_here, opened}
-use Rattle.vega_copies.specs.Outlines.{NoMarks as Nothing, AMark as Mark, AGroup as Inner}
+use Rattle.vega_copies.specs.Outlines.{Before, Marks, Opened, count_groups, count_marks, group_here, in_a_row, mark_here, mark_of_type}
+use Rattle.vega_copies.specs.Outlines.{numbered, object_here, opened, NoMarks as Nothing, AMark as Mark, AGroup as Inner}
 use Rattle.vega_assemble.specs.Assembled.{held_at_top, made}
 use Rattle.vega_assemble.specs.Made.{AGroup, AMark, Made, MadeMark, MadeObject, NoMarks, group_of, group_parts, mark_parts, mark_rolled, no_parts, parts_of}
 use Rattle.vega_assemble.specs.Made.{rolled}

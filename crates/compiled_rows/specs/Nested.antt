@@ -6,7 +6,7 @@ use Rattle.chart_plan.specs.declared.grids.FacetPlan.{FacetPlan}
 use Rattle.chart_plan.specs.declared.grids.GridPlan.{GridPlan}
 use Rattle.chart_plan.specs.declared.plan.Plan.{Plan}
 use Rattle.chart_plan.specs.Shown.{is_among}
-use Rattle.chart_meaning.specs.Parts.{Copy, Spot, copy_with, names_of}
+use Rattle.chart_meaning.specs.Parts.{Copy, GridSpot, copy_with, names_of}
 use Rattle.vega_assemble.specs.Facets.{is_inside, is_deeper}
 use Rattle.vega_assemble.specs.Views.{facet_of}
 use Rattle.compiled_rows.specs.Panels.{names_behind}
@@ -14,7 +14,7 @@ use Rattle.compiled_rows.specs.Parts.{scope_in, AreCovered}
 
 -- It wants the fields of both facets, and of those further in, together.
 abbrev pub PanelsStayCovered : Type 0
-PanelsStayCovered = (stem : List ℕ) (p : Plan) (grid inner : GridPlan) (f g : FacetPlan) (place : ℕ) (copy : Copy) (spot : Spot) (key : List Cell)
+PanelsStayCovered = (stem : List ℕ) (p : Plan) (grid inner : GridPlan) (f g : FacetPlan) (place : ℕ) (copy : Copy) (spot : GridSpot) (key : List Cell)
     (outer : Scope) (names : List (List ℕ))
     → slice_get p.grids place ≡ Some inner → inner.facet ≡ Some g → is_inside grid f inner g ≡ true → is_deeper grid.number inner ≡ true
     → All (λ unit. is_among f.units unit ≡ true) g.units

@@ -21,7 +21,7 @@ use Rattle.chart_plan.specs.declared.grids.GridPlan.{GridPlan}
 use Rattle.chart_plan.specs.declared.plan.Plan.{Plan}
 use Rattle.chart_plan.specs.declared.scales.ScalePlan.{ScalePlan}
 use Rattle.chart_plan.specs.Shown.{is_among}
-use Rattle.chart_meaning.specs.Parts.{Copy, Spot, copy_with, names_of, cells_below, occurs_in}
+use Rattle.chart_meaning.specs.Parts.{Copy, GridSpot, copy_with, names_of, cells_below, occurs_in}
 use Rattle.vega_assemble.specs.Facets.{facet_over, grids_inside, is_inside, is_deeper, scales_inside}
 use Rattle.vega_assemble.specs.Keys.{by_name}
 use Rattle.vega_assemble.specs.Lists.{lists_of_scale}
@@ -46,7 +46,7 @@ ListsAreParted = (names : List (List ℕ)) (f : FacetPlan) (key : List Cell) (ou
 
 -- So the rows of a unit below a facet are in a copy those of the panel, where those round the copy are those round the panel;
 abbrev pub UnitsAreParted : Type 0
-UnitsAreParted = (stem : List ℕ) (p : Plan) (grid : GridPlan) (f : FacetPlan) (copy : Copy) (spot : Spot) (key : List Cell) (outer : Scope) (unit : ℕ)
+UnitsAreParted = (stem : List ℕ) (p : Plan) (grid : GridPlan) (f : FacetPlan) (copy : Copy) (spot : GridSpot) (key : List Cell) (outer : Scope) (unit : ℕ)
     → is_among f.units unit ≡ true → outer (unit_name stem unit) ≡ copy.rows unit
     → scope_in (facet_of stem p grid f) key outer (unit_name stem unit) ≡ (copy_with f copy spot key).rows unit
 

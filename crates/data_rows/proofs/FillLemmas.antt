@@ -1,5 +1,5 @@
 -- Rows filled in the order of their names are those of the columns in turn.
-use Rattle.std.proofs.Common.{◌≡◌, ℕ, suc, ◌+◌, Bool, true, false, ◌&&◌, Option, Some, None, Ok, Err, List, [], ◌∷◌, ◌++◌, length, map}
+use Rattle.std.proofs.Common.{◌≡◌, ℕ, suc, Bool, true, false, ◌&&◌, Option, Some, None, Ok, Err, List, [], ◌∷◌, ◌++◌, length, map}
 use Rattle.std.proofs.Common.{slice_get, nat_eq, refl, sym, ap, ◌∙◌, add-one, append_assoc, arith, if◌then◌else◌}
 use Rattle.std.specs.Prelude.{fold, find, zip, unwrap_or}
 use Rattle.std.proofs.lemmas.List.{length-append}

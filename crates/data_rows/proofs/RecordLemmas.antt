@@ -1,7 +1,6 @@
 -- The records that a reader has left, as it reads one.
-use Rattle.std.proofs.Common.{◌≡◌, ◌≢◌, ℕ, zero, suc, ◌+◌, ◌<◌, ◌≤◌, ◌⊎◌, inl, inr, Bool, true, false, cond, ◌&&◌, Option, Some, None}
-use Rattle.std.proofs.Common.{IsSome, List, [], ◌∷◌, ◌++◌, length, Bor, IsUtf8, refl, sym, ap, subst, ◌∙◌, arith, add-one, rules}
-use Rattle.std.proofs.Common.{if◌then◌else◌}
+use Rattle.std.proofs.Common.{◌≡◌, ℕ, zero, suc, ◌+◌, ◌<◌, ◌≤◌, ◌⊎◌, inl, inr, Bool, true, false, ◌&&◌, Option, Some, None, IsSome, List}
+use Rattle.std.proofs.Common.{[], ◌∷◌, ◌++◌, length, Bor, refl, sym, ap, subst, ◌∙◌, arith, add-one, if◌then◌else◌}
 use Rattle.std.specs.List.{list_all}
 use Rattle.std.specs.Str.{is_utf8}
 use Rattle.std.proofs.lemmas.Str.{is_utf8-from_IsUtf8, IsUtf8-from_is_utf8}
@@ -9,7 +8,7 @@ use Rattle.std.proofs.lemmas.Bool.{cases_Bool}
 use Rattle.csv.specs.Machine.{Read, next_record, ends_at_end, is_end, step, fields_after, field_after}
 use Rattle.csv.specs.Records.{AllText}
 use Rattle.csv.specs.Reading.{Reached, ReadRecord, ReadsNext, NextIs, TookRecord, ExplainsRead, records_from, records_next, default_config}
-use Rattle.csv.specs.Reading.{source_of, pending_of, took_first, is_flexible}
+use Rattle.csv.specs.Reading.{pending_of, took_first, is_flexible}
 use Rattle.csv.specs.declared.parser.Config.{Config}
 use Rattle.csv.specs.declared.parser.State.{State}
 use Rattle.csv.specs.declared.parser.State.TheVariants as st
@@ -17,7 +16,7 @@ use Rattle.csv.proofs.ReadFacts.{rows-more, rows-end}
 use Rattle.data_rows.specs.inner.Records.{BytesReader, bytes_left, records_in, left_of, IsReading, Found, IsNoText, cause_of}
 use Rattle.csv.specs.declared.error.ErrorKind.{ErrorKind}
 use Rattle.csv.specs.declared.error.ErrorKind.TheVariants as kind
-use Rattle.data_rows.specs.declared.records.RecordError.TheVariants.{NoText, Memory}
+use Rattle.data_rows.specs.declared.records.RecordError.TheVariants.{NoText}
 
 either : (b : Bool) (q r : Read) (o : Option Read) → (if b then Some q else o) ≡ Some r → (q ≡ r) ⊎ (o ≡ Some r)
 either true q r o e = inl cc

@@ -1,5 +1,5 @@
 -- As what fields are parsed.
-use Rattle.std.specs.Prelude.{◌≡◌, refl, ℕ, not, ◌||◌, ℤ, pos, Option, Some, None, Result, Ok, Err, true, false, List, [], ◌∷◌, map, codes, if◌then◌else◌}
+use Rattle.std.specs.Prelude.{◌≡◌, refl, ℕ, not, ◌||◌, ℤ, pos, Option, Some, None, Ok, Err, true, false, List, [], ◌∷◌, map, codes, if◌then◌else◌}
 use Rattle.std.specs.Str.{bytes_eq}
 use Rattle.std.specs.Map.{update_all}
 use Rattle.fixed_num.specs.Number.{rounded, floor_quotient}

@@ -1,7 +1,6 @@
 // Rows that are given as JSON.
-ghost use Rattle.std.specs.Prelude.{◌≡◌, [], ◌∷◌, codes, find, IfOk, ℕ, List, option_copied, length, map};
+ghost use Rattle.std.specs.Prelude.{◌≡◌, [], ◌∷◌, codes, IfOk, List, option_copied, length, map};
 ghost use Rattle.json_exact.specs.declared.json.Json.{out-Json};
-ghost use Rattle.cell_value.specs.Row.{row_of};
 ghost use Rattle.data_rows.specs.Outcome.{GivesRows, all_rows, numbered};
 ghost use Rattle.data_rows.specs.JsonRows.{cell_in, is_huge, cells_of, fields_in, row_of_json, bad_field, parsed_fields, json_row, rows_of_json};
 ghost use Rattle.data_rows.specs.Parse.{parsed_as};

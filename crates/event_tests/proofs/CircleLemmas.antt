@@ -1,11 +1,10 @@
 -- What is asked of the circle and of its row.
-use Rattle.std.proofs.Common.{◌≡◌, ℕ, Bool, true, false, cond, Option, Some, None, List, [], ◌∷◌, refl, sym, subst, arith}
+use Rattle.std.proofs.Common.{◌≡◌, ℕ, Bool, true, false, cond, Some, None, List, [], ◌∷◌, refl, sym, subst, arith}
 use Rattle.std.proofs.lemmas.Int.{ints}
 use Rattle.std.specs.Prelude.{is_some, IsSome}
 use Rattle.std.specs.Option.{option_map}
 use Rattle.std.specs.List.{All}
 use Rattle.std.proofs.lemmas.List.Elements.{All-nil, All-cons}
-use Rattle.cell_value.specs.declared.cell.Cell.{Cell}
 use Rattle.cell_value.specs.declared.cell.Cell.TheVariants.{Flag}
 use Rattle.cell_value.specs.declared.state.Key.{Key}
 use Rattle.cell_value.specs.Datum.{Datum}
@@ -16,9 +15,8 @@ use Rattle.scene_tree.specs.declared.scene.Scene.{Scene}
 use Rattle.scene_tree.specs.declared.scene.Panel.{Panel}
 use Rattle.param_flow.specs.UnitRows.{cell_in_unit, has_key}
 use Rattle.selection_events.specs.declared.hits.Hit.{Hit}
-use Rattle.selection_events.specs.Hits.{marked}
 use Rattle.vega_selections.specs.declared.selections.VgSelection.{VgSelection}
-use Rattle.vega_events.specs.Premises.{IsRowOf, ItemIsOfRow, ItemsAreOfRows, IsTold, FieldsAreTold}
+use Rattle.vega_events.specs.Premises.{ItemIsOfRow, ItemsAreOfRows, FieldsAreTold}
 use Rattle.event_tests.specs.OneCircle.{the_key, the_row, the_circle, the_panel, the_scene, the_scales}
 
 by_key : (b : Bool) → is_some (option_map (λ (row : Datum). row.cell []) (cond b (Some the_row) None)) ≡ true

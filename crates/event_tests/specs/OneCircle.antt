@@ -1,5 +1,5 @@
 -- A picture of one circle in one panel, and the row of which it is.
-use Rattle.std.specs.Prelude.{ℕ, ◌*◌, ℤ, pos, true, Some, None, List, [], ◌∷◌, codes}
+use Rattle.std.specs.Prelude.{ℕ, ◌*◌, ℤ, pos, true, Some, None, [], ◌∷◌, codes}
 use Rattle.fixed_num.specs.Number.{million}
 use Rattle.cell_value.specs.declared.cell.Cell.TheVariants.{Flag}
 use Rattle.cell_value.specs.declared.state.Key.{Key}

@@ -1,5 +1,5 @@
 -- Why each name leads to the first store that has it, and what stores read of rows.
-use Rattle.std.proofs.Common.{◌≡◌, ℕ, ◌+◌, ◌<◌, ◌≤◌, Bool, true, false, cond, ◌&&◌, List, [], ◌∷◌, map, Option, Some, None, length, drop, get_or}
+use Rattle.std.proofs.Common.{◌≡◌, ℕ, ◌+◌, ◌<◌, Bool, true, false, cond, ◌&&◌, List, [], ◌∷◌, map, Option, Some, None, length, drop, get_or}
 use Rattle.std.proofs.Common.{refl, sym, ap, ap₂, ◌∙◌, subst, arith}
 use Rattle.std.specs.Prelude.{String, find, slice_get}
 use Rattle.std.specs.Option.{option_map_or}
@@ -23,7 +23,8 @@ use Rattle.cell_value.specs.Cell.{same_cells}
 use Rattle.cell_value.specs.Datum.{CellAt}
 use Rattle.cell_value.specs.Row.{Cells, cell_of}
 use Rattle.expr_eval.specs.Answers.{RisesBy}
-use Rattle.expr_eval.specs.Stores.{names_of, fields_of_tuples, fields_in, fields_of, agrees, has_cell, lies_in, holds_in, holds, store_named, StoresReadTheirFields}
+use Rattle.expr_eval.specs.Stores.{names_of, fields_of_tuples, fields_in, fields_of, agrees, has_cell, lies_in, holds_in, holds}
+use Rattle.expr_eval.specs.Stores.{store_named, StoresReadTheirFields}
 use Rattle.expr_eval.specs.inner.Stores.{place_under, LeadsTo, named_cells, agrees_with}
 
 -- ---- names
@@ -102,7 +103,8 @@ tests_alike P Q [] h = refl
 tests_alike P Q (x ∷ xs) h =
     ap₂ (λ a b. a && b) (All-head (λ y. P y ≡ Q y) x xs h) (tests_alike P Q xs (All-tail (λ y. P y ≡ Q y) x xs h))
 
-agree_alike : (a b : CellAt) (fields : List (List ℕ)) → All (λ field. a field ≡ b field) fields → (tuple : Cells) → agrees fields a tuple ≡ agrees fields b tuple
+agree_alike : (a b : CellAt) (fields : List (List ℕ)) → All (λ field. a field ≡ b field) fields
+    → (tuple : Cells) → agrees fields a tuple ≡ agrees fields b tuple
 agree_alike a b fields same tuple =
     tests_alike (λ name. same_cells (a name) (cell_of tuple name)) (λ name. same_cells (b name) (cell_of tuple name)) fields
     (All-weaker (λ field. a field ≡ b field) (λ name. same_cells (a name) (cell_of tuple name) ≡ same_cells (b name) (cell_of tuple name))

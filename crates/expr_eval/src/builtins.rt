@@ -4,8 +4,7 @@ ghost use Rattle.std.specs.Int.{int_min, int_max};
 ghost use Rattle.fixed_num.specs.Number.{million, floored};
 ghost use Rattle.expr_eval.specs.Numbers.{is_number, is_text, is_flag};
 ghost use Rattle.expr_eval.specs.Builtins.{test_of, is_valid, as_number, as_text, as_date, one_number, of_number, size, ceiling, floor};
-ghost use Rattle.expr_eval.specs.Builtins.{nearest, square_root, part_in, number_at, instant_in, instant, date_in, least_cell, greatest_cell};
-ghost use Rattle.expr_eval.specs.Builtins.{three_numbers, clamped, space, within, flag_of_within};
+ghost use Rattle.expr_eval.specs.Builtins.{nearest, square_root, part_in, date_in, three_numbers, clamped, within, flag_of_within};
 ghost use Rattle.expr_eval.specs.Answers.{Evaluates};
 
 use crate::EvalError;

@@ -1,8 +1,7 @@
 // The kinds of cells, what cells of a kind hold, and the numbers that cells stand for.
-ghost use Rattle.std.specs.Prelude.{◌≡◌, ◌*◌, ◌<◌, pos};
-ghost use Rattle.std.specs.Option.{option_copied};
+ghost use Rattle.std.specs.Prelude.{◌≡◌, ◌*◌, pos};
 ghost use Rattle.fixed_num.specs.Number.{million};
-ghost use Rattle.expr_eval.specs.Numbers.{is_text, is_pair, the_number, the_text, the_pair, cell_number, number_in_text, number_or_null};
+ghost use Rattle.expr_eval.specs.Numbers.{is_text, is_pair, the_number, the_pair, cell_number, number_in_text, number_or_null};
 
 use cell_value::Cell;
 use fixed_num::Num;

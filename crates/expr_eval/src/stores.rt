@@ -6,7 +6,8 @@ ghost use Rattle.fixed_num.specs.Ranges.{is_within};
 ghost use Rattle.cell_value.specs.Cell.{same_cells};
 ghost use Rattle.cell_value.specs.Row.{cell_of as cell_under};
 ghost use Rattle.expr_eval.specs.Answers.{RisesBy};
-ghost use Rattle.expr_eval.specs.Stores.{names_of, fields_of_tuples, fields_of, agrees as agrees_in, number_for, has_cell, lies_in, holds_in, holds, count_of, ends_along, store_named};
+ghost use Rattle.expr_eval.specs.Stores.{names_of, fields_of_tuples, fields_of, agrees as agrees_in, number_for, has_cell, lies_in};
+ghost use Rattle.expr_eval.specs.Stores.{holds_in, holds, count_of, ends_along, store_named};
 ghost use Rattle.expr_eval.specs.inner.Stores.{place_under, FindsStores, named_cells, agrees_with};
 
 use crate::{EvalError, ParamReader, RowReader};

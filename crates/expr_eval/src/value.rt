@@ -1,5 +1,5 @@
 // The value of an expression.
-ghost use Rattle.std.specs.Prelude.{◌≡◌, ◌≢◌, ◌+◌, map, sum, sum_by};
+ghost use Rattle.std.specs.Prelude.{◌≢◌, ◌+◌, map, sum, sum_by};
 ghost use Rattle.fixed_num.specs.Ranges.{all_found};
 ghost use Rattle.expr_eval.specs.Operations.{binary_of};
 ghost use Rattle.expr_eval.specs.Table.{called, chosen, code_of_if, lazy_choice, of_values};
@@ -19,8 +19,8 @@ use std::sync::ledger::Ledger;
 use text_kit::Seq;
 
 /// The value of an expression over a row and the parameters of a chart. `Overflow` comes exactly where a result that is
-/// needed is out of range, or a parameter that is needed has no value. It counts one step at most for each mention of a field, and for each selection test as many as
-/// the store has fields.
+/// needed is out of range, or a parameter that is needed has no value.
+/// It counts one step at most for each mention of a field, and for each selection test as many as the store has fields.
 #[cycle(value)]
 pub fn eval<R: RowReader, P: ParamReader, L: Ledger>(
     alloc: Global,

@@ -1,5 +1,5 @@
 -- Texts that are JSON numbers.
-use Rattle.std.specs.Prelude.{ℕ, List, [], ◌∷◌, Option, Some, None, Result, Ok, Err}
+use Rattle.std.specs.Prelude.{ℕ, List, [], ◌∷◌, Option, Some, None, Ok, Err}
 use Rattle.fixed_num.specs.JsonNumber.{Parts}
 use Rattle.fixed_num.specs.Front.{Read, parts_at}
 

@@ -1,8 +1,8 @@
 //! The tokens at the front of others.
-ghost use Rattle.std.specs.Prelude.{◌≡◌, ◌∷◌, [], ◌↔◌, drop, IsTrue, MatchOption};
+ghost use Rattle.std.specs.Prelude.{◌≡◌, ◌∷◌, [], drop, MatchOption};
 ghost use Rattle.text_kit.specs.Answer.{GivesAs};
 ghost use Rattle.expr_syntax.specs.inner.Scanner.{cause};
-ghost use Rattle.expr_syntax.specs.inner.Parser.{is, starts, after, after_word, name_at, quoted_at, starts_data, operator_of, operator_at};
+ghost use Rattle.expr_syntax.specs.inner.Parser.{is, starts, after, after_word, name_at, quoted_at, operator_of};
 
 use crate::errors::ExprError;
 use crate::expr::BinOp;

@@ -1,6 +1,6 @@
 //! The tokens of a text.
 
-ghost use Rattle.std.specs.Prelude.{◌≡◌, List, IfOk, IsErrOf, take, drop, length, true, false, slice_index};
+ghost use Rattle.std.specs.Prelude.{◌≡◌, List, IfOk, IsErrOf, drop, true, false, slice_index};
 ghost use Rattle.std.specs.List.{prefix_len};
 ghost use Rattle.text_kit.specs.Answer.{GivesAs};
 ghost use Rattle.expr_syntax.specs.declared.errors.ExprError.TheVariants.{Shape};

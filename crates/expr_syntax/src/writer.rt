@@ -1,5 +1,5 @@
 //! The text of a tree.
-ghost use Rattle.std.specs.Prelude.{◌≡◌, ◌∷◌, [], ◌++◌, List, ℕ, IfOk, OnOk, codes, map, option_map, slice_get};
+ghost use Rattle.std.specs.Prelude.{◌≡◌, ◌∷◌, [], ◌++◌, List, ℕ, IfOk, OnOk, codes, option_map, slice_get};
 ghost use Rattle.expr_syntax.specs.declared.expr.Expr.{Expr as Tree};
 ghost use Rattle.expr_syntax.specs.declared.token.Token.TheVariants as token;
 ghost use Rattle.expr_syntax.specs.declared.token.Mark.TheVariants as mark;

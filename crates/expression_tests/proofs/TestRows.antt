@@ -1,5 +1,5 @@
 -- Three rows whose keys rise.
-use Rattle.std.proofs.Common.{◌≡◌, ◌≤◌, ℕ, ◌^◌, List, [], ◌∷◌, inl, lit<, lit≤, subst, sym, arith}
+use Rattle.std.proofs.Common.{◌≡◌, ◌≤◌, ℕ, ◌^◌, [], ◌∷◌, inl, lit<, lit≤, subst, sym, arith}
 use Rattle.std.proofs.lemmas.List.Kept.{AllPairs-cons}
 use Rattle.std.proofs.lemmas.List.Elements.{All-cons, All-nil}
 use Rattle.cell_value.specs.declared.state.Key.{Key}

@@ -74,42 +74,42 @@ fn three_rows(alloc: Global) -> Result<Rows, OutOfMemory>
 }
 
 // Why a line has no answer.
-enum Stop {
+enum TestStop {
     Shape,
     Overflow,
     Memory,
 }
 
-impl From<OutOfMemory> for Stop {
-    fn from(_: OutOfMemory) -> Stop {
-        Stop::Memory
+impl From<OutOfMemory> for TestStop {
+    fn from(_: OutOfMemory) -> TestStop {
+        TestStop::Memory
     }
 }
 
-impl From<EvalError> for Stop {
-    fn from(e: EvalError) -> Stop {
+impl From<EvalError> for TestStop {
+    fn from(e: EvalError) -> TestStop {
         match e {
-            EvalError::Overflow => Stop::Overflow,
-            EvalError::Memory => Stop::Memory,
+            EvalError::Overflow => TestStop::Overflow,
+            EvalError::Memory => TestStop::Memory,
         }
     }
 }
 
-impl From<ExprError> for Stop {
-    fn from(e: ExprError) -> Stop {
+impl From<ExprError> for TestStop {
+    fn from(e: ExprError) -> TestStop {
         match e {
-            ExprError::Shape => Stop::Shape,
-            ExprError::Memory => Stop::Memory,
+            ExprError::Shape => TestStop::Shape,
+            ExprError::Memory => TestStop::Memory,
         }
     }
 }
 
-fn expression(alloc: Global, text: &str) -> Result<Expr, Stop> {
+fn expression(alloc: Global, text: &str) -> Result<Expr, TestStop> {
     Ok(read(alloc, text)?)
 }
 
 // A time unit of a field, in words: its name, the field, and the names of the start and the end.
-fn time_of(alloc: Global, words: &str) -> Result<TimeOf, Stop> {
+fn time_of(alloc: Global, words: &str) -> Result<TimeOf, TestStop> {
     let mut words = words.split(' ');
     let (Some(name), Some(field), Some(out), Some(out_end)) = (
         words.next(),
@@ -117,10 +117,10 @@ fn time_of(alloc: Global, words: &str) -> Result<TimeOf, Stop> {
         words.next(),
         words.next(),
     ) else {
-        return Err(Stop::Shape);
+        return Err(TestStop::Shape);
     };
     let Some(unit) = time_unit_of(name) else {
-        return Err(Stop::Shape);
+        return Err(TestStop::Shape);
     };
     Ok(TimeOf {
         field: Text::of(alloc, field)?,
@@ -131,7 +131,7 @@ fn time_of(alloc: Global, words: &str) -> Result<TimeOf, Stop> {
 }
 
 // The rows with a time unit of a field.
-fn in_units(alloc: Global, rows: &Rows, words: &str) -> Result<Rows, Stop>
+fn in_units(alloc: Global, rows: &Rows, words: &str) -> Result<Rows, TestStop>
     requires { AreRows rows.now }
     ensures { IfOk result AreRows }
 {
@@ -140,7 +140,7 @@ fn in_units(alloc: Global, rows: &Rows, words: &str) -> Result<Rows, Stop>
 }
 
 // The rows after one step.
-fn stepped(alloc: Global, rows: &Rows, step: &str) -> Result<Rows, Stop>
+fn stepped(alloc: Global, rows: &Rows, step: &str) -> Result<Rows, TestStop>
     requires { AreRows rows.now }
     ensures { IfOk result AreRows }
 {
@@ -159,7 +159,7 @@ fn stepped(alloc: Global, rows: &Rows, step: &str) -> Result<Rows, Stop>
     }
 }
 
-fn answered(alloc: Global, steps: &str) -> Result<Rows, Stop> {
+fn answered(alloc: Global, steps: &str) -> Result<Rows, TestStop> {
     let mut rows = three_rows(alloc)?;
     for step in steps.split("; ") {
         rows = stepped(alloc, &rows, step)?;
@@ -176,12 +176,12 @@ fn ids(alloc: Global, rows: &[Keyed]) -> Result<Text, OutOfMemory> {
     Ok(out)
 }
 
-fn word_of(alloc: Global, answer: Result<Rows, Stop>) -> Result<Text, OutOfMemory> {
+fn word_of(alloc: Global, answer: Result<Rows, TestStop>) -> Result<Text, OutOfMemory> {
     match answer {
         Ok(rows) => ids(alloc, rows.as_slice()),
-        Err(Stop::Shape) => Text::of(alloc, " unread"),
-        Err(Stop::Overflow) => Text::of(alloc, " overflow"),
-        Err(Stop::Memory) => Err(OutOfMemory),
+        Err(TestStop::Shape) => Text::of(alloc, " unread"),
+        Err(TestStop::Overflow) => Text::of(alloc, " overflow"),
+        Err(TestStop::Memory) => Err(OutOfMemory),
     }
 }
 

@@ -1,5 +1,5 @@
 // Numbers written as decimals.
-ghost use Rattle.std.specs.Prelude.{◌≡◌, ◌+◌, ◌<◌, ◌≤◌, ◌^◌, ◌++◌, ◌∷◌, [], length, take};
+ghost use Rattle.std.specs.Prelude.{◌≡◌, ◌+◌, ◌<◌, ◌≤◌, ◌++◌, length, take};
 ghost use Rattle.fixed_num.specs.Number.{limit, million};
 ghost use Rattle.fixed_num.specs.Decimal.{fraction_spelling, size_spelling, spelling};
 

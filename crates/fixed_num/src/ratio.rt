@@ -1,8 +1,7 @@
 // Products of two numbers over a third, in words of 128 bits.
-ghost use Rattle.std.specs.Prelude.{◌≡◌, ◌≢◌, ◌+◌, ◌*◌, ◌/◌, ◌%◌, ◌<◌, ◌≤◌, ◌≤ℤ◌, ℤ, pos, neg_ℤ, ◌+ℤ◌, ◌*ℤ◌, Option, Some, None, Bool, ◌↔◌};
-ghost use Rattle.std.specs.Prelude.{IfSome, IfNone, unsigned_abs};
+ghost use Rattle.std.specs.Prelude.{◌≡◌, ◌+◌, ◌*◌, ◌/◌, ◌%◌, ◌<◌, ◌≤◌, ℤ, ◌*ℤ◌, Option, Some, None, IfSome, IfNone, unsigned_abs};
 ghost use Rattle.std.specs.Option.{SomeIff};
-ghost use Rattle.fixed_num.specs.Number.{limit, IsNumber, signed, rounded, rounded_ratio};
+ghost use Rattle.fixed_num.specs.Number.{limit, signed, rounded, rounded_ratio};
 
 /// Twice the greatest count: what is farther from zero than this leads from no number to a number.
 const REACH: u128 = 2_000_000_000_000_000_000_000;

@@ -6,7 +6,7 @@ use Rattle.std.specs.List.{filter_map}
 use Rattle.std.specs.Option.{option_map, option_map_or, option_and_then, unwrap_or}
 use Rattle.std.specs.Str.{bytes_eq}
 use Rattle.std.proofs.lemmas.Slice.Eq.{bytes_eq-Decides}
-use Rattle.fixed_num.specs.Ranges.{◌>>=◌, all_found}
+use Rattle.fixed_num.specs.Ranges.{all_found}
 use Rattle.json_exact.specs.declared.json.Json.{Json, out-Json, roll-Json, roll-out-Json}
 use Rattle.json_exact.specs.declared.json.Json.TheVariants.{rolls-Object}
 use Rattle.json_exact.specs.declared.json.Json.TheVariants as json

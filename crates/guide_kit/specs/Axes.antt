@@ -1,5 +1,6 @@
 -- Axes.
-use Rattle.std.specs.Prelude.{◌≡◌, refl, ℕ, ◌+◌, min, max, Bool, true, false, not, if◌then◌else◌, List, [], ◌∷◌, ◌++◌, map, codes, ℤ, pos, neg_ℤ, Option, Some, None, unwrap_or}
+use Rattle.std.specs.Prelude.{◌≡◌, refl, ℕ, ◌+◌, min, max, Bool, true, false, not, if◌then◌else◌, List, [], ◌∷◌, ◌++◌, map, codes, ℤ, pos}
+use Rattle.std.specs.Prelude.{neg_ℤ, Option, Some, None, unwrap_or}
 use Rattle.unicode_width.proofs.Computing.{unicode_width}
 use Rattle.std.specs.Option.{option_map, option_map_or, is_some}
 use Rattle.fixed_num.specs.Number.{rounded, floor_quotient}
@@ -14,7 +15,7 @@ use Rattle.scale_kit.specs.declared.scale.Scale.{Scale}
 use Rattle.guide_text.specs.Widths.{columns_of, width_of, greatest_size}
 use Rattle.guide_kit.specs.declared.axes.AxisOf.{AxisOf}
 use Rattle.guide_kit.specs.declared.axes.Guide.{Guide}
-use Rattle.guide_kit.specs.declared.frames.Frame.{Frame}
+use Rattle.guide_kit.specs.declared.frames.AxisFrame.{AxisFrame}
 use Rattle.guide_kit.specs.declared.frames.Side.{Side}
 use Rattle.guide_kit.specs.declared.frames.Side.TheVariants.{Bottom, Top, Left, Right}
 use Rattle.guide_kit.specs.declared.ticks.Tick.{Tick}
@@ -33,66 +34,66 @@ abbrev pub labels_of : List Tick → List (List ℕ)
 labels_of = map (λ (tick : Tick). tick.label)
 
 -- how far labels reach: as high as a line is, or where they are turned or the axis runs along y as wide as the widest of them
-abbrev pub label_reach : Frame → Bool → List Tick → ℕ
+abbrev pub label_reach : AxisFrame → Bool → List Tick → ℕ
 label_reach f turned ticks = if f.plan.along_x then (if turned then widest 6 (labels_of ticks) else 10) else widest 6 (labels_of ticks)
 
 -- how far the parts of an axis extend that it has: ticks 5 pixels, labels 2 and their reach, a title 15
 abbrev pub tick_extent : AxisOf → ℕ
 tick_extent a = if a.ticks then 5 else 0
 
-abbrev pub label_extent : AxisOf → Frame → List Tick → ℕ
+abbrev pub label_extent : AxisOf → AxisFrame → List Tick → ℕ
 label_extent a f ticks = if a.labels then (2 + label_reach f (are_turned f a.turned) ticks) else 0
 
 abbrev pub title_extent : AxisOf → ℕ
 title_extent a = if is_some a.title then 15 else 0
 
 -- how far an axis extends outward, in whole pixels, cut to 10^11
-abbrev pub extent_of : AxisOf → Frame → List Tick → ℕ
+abbrev pub extent_of : AxisOf → AxisFrame → List Tick → ℕ
 extent_of a f ticks = min (tick_extent a + label_extent a f ticks + title_extent a) greatest_size
 
 -- the line of the grid at a tick
-abbrev pub grid_line : Frame → Tick → Item
+abbrev pub grid_line : AxisFrame → Tick → Item
 grid_line f tick = line_between f.plan.along_x grid_color tick.place (pos 0) tick.place f.depth
 
 -- the line of an axis
-abbrev pub axis_line : Frame → Item
+abbrev pub axis_line : AxisFrame → Item
 axis_line f = line_between f.plan.along_x line_color (pos 0) f.edge f.size f.edge
 
 -- the line of a tick, 5 pixels outward, from its lesser end to the greater
-abbrev pub tick_line : Frame → Tick → Item
+abbrev pub tick_line : AxisFrame → Tick → Item
 tick_line f tick =
     if f.plan.far then line_between f.plan.along_x line_color tick.place f.edge tick.place (outward f 5)
     else line_between f.plan.along_x line_color tick.place (outward f 5) tick.place f.edge
 
 -- the label of a tick, by whether labels are turned and whether there are ticks
-abbrev pub tick_label : Frame → Bool → Bool → Tick → Item
+abbrev pub tick_label : AxisFrame → Bool → Bool → Tick → Item
 tick_label f turned ticks tick =
     words_along f.plan.along_x (label_style turned (label_anchor f turned))
     (label_along f turned tick.place) (outward f (label_distance f turned ticks)) tick.label
 
 -- the title of an axis of this extent; it is turned where the axis runs along y
-abbrev pub axis_title : Frame → ℕ → List ℕ → Item
+abbrev pub axis_title : AxisFrame → ℕ → List ℕ → Item
 axis_title f extent text =
     words_along f.plan.along_x (title_style (not f.plan.along_x) Middle) (half f.size) (outward f (title_distance f extent)) text
 
 -- the parts of an axis that it has
-abbrev pub grid_part : AxisOf → Frame → List Tick → List Item
+abbrev pub grid_part : AxisOf → AxisFrame → List Tick → List Item
 grid_part a f ticks = if a.grid then map (grid_line f) ticks else []
 
-abbrev pub line_part : AxisOf → Frame → List Item
+abbrev pub line_part : AxisOf → AxisFrame → List Item
 line_part a f = if a.line then axis_line f ∷ [] else []
 
-abbrev pub tick_part : AxisOf → Frame → List Tick → List Item
+abbrev pub tick_part : AxisOf → AxisFrame → List Tick → List Item
 tick_part a f ticks = if a.ticks then map (tick_line f) ticks else []
 
-abbrev pub label_part : AxisOf → Frame → List Tick → List Item
+abbrev pub label_part : AxisOf → AxisFrame → List Tick → List Item
 label_part a f ticks = if a.labels then map (tick_label f (are_turned f a.turned) a.ticks) ticks else []
 
-abbrev pub title_part : AxisOf → Frame → ℕ → List Item
+abbrev pub title_part : AxisOf → AxisFrame → ℕ → List Item
 title_part a f extent = option_map_or (λ text. axis_title f extent text ∷ []) a.title []
 
 -- an axis with these ticks: its grid; its line, ticks, labels and title; and its extent
-abbrev pub axis_with : AxisOf → Frame → List Tick → Guide
+abbrev pub axis_with : AxisOf → AxisFrame → List Tick → Guide
 axis_with a f ticks = record {
   grid = grid_part a f ticks;
   items = line_part a f ++ tick_part a f ticks ++ label_part a f ticks ++ title_part a f (extent_of a f ticks);
@@ -117,7 +118,7 @@ axis_of a s width height offset =
 -- ---- worked examples
 
 -- the sides of a plot of 40 by 80 pixels, and a tick at 20 with the label 7
-abbrev at_side : Side → Frame
+abbrev at_side : Side → AxisFrame
 at_side side = frame_of side (pixels 40) (pixels 80) (pos 0)
 
 abbrev a_tick : Tick
@@ -179,7 +180,7 @@ the_grid_at_a_tick : ((grid_line (at_side Bottom) a_tick).shape ≡ Line (pixels
 the_grid_at_a_tick = (refl, refl)
 
 -- an axis outside another goes outward
-abbrev outside : Side → Frame
+abbrev outside : Side → AxisFrame
 outside side = frame_of side (pixels 40) (pixels 80) (pixels 28)
 
 outside_another : ((axis_line (outside Left)).shape ≡ Line (below_zero 28) (pos 0) (below_zero 28) (pixels 80))

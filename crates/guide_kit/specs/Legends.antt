@@ -12,7 +12,7 @@ use Rattle.guide_text.specs.declared.labels.Shows.{Shows}
 use Rattle.guide_text.specs.Labels.{label_of}
 use Rattle.guide_text.specs.Widths.{columns_of, width_of, greatest_size}
 use Rattle.guide_kit.specs.declared.entries.Entry.{Entry}
-use Rattle.guide_kit.specs.declared.entries.Rows.{Rows}
+use Rattle.guide_kit.specs.declared.entries.LegendRows.{LegendRows}
 use Rattle.guide_kit.specs.declared.legends.LegendOf.{LegendOf}
 use Rattle.guide_kit.specs.declared.legends.Block.{Block}
 use Rattle.scene_tree.specs.declared.shape.Shape.TheVariants.{Rect}
@@ -28,7 +28,7 @@ use Rattle.guide_kit.specs.Ticks.{cells_shown, shows_of}
 
 -- the rows of a legend in pixels: how high each is, how far its centre is below its top, and where its sign has its centre and its label
 -- begins; in a size legend they are larger
-abbrev pub rows_of : SignKind → Rows
+abbrev pub rows_of : SignKind → LegendRows
 rows_of kind.Color = record { height = 14; centre = 7; sign = 6; label = 16 }
 rows_of kind.Opacity = record { height = 14; centre = 7; sign = 6; label = 16 }
 rows_of kind.Size = record { height = 22; centre = 11; sign = 11; label = 26 }
@@ -56,14 +56,14 @@ abbrev pub title_height : Option (List ℕ) → ℕ
 title_height title = if is_some title then 15 else 0
 
 -- the centre of an entry by its number, in pixels below the top
-abbrev pub centre_of : Rows → ℕ → ℕ → ℤ
+abbrev pub centre_of : LegendRows → ℕ → ℕ → ℤ
 centre_of rows top number = pixels (min (top + number * rows.height + rows.centre) farthest)
 
 -- the sign of an entry with its number, if it can be drawn, and the label
-abbrev pub sign_item : List ℕ → Rows → ℕ → ℕ × Entry → Option Item
+abbrev pub sign_item : List ℕ → LegendRows → ℕ → ℕ × Entry → Option Item
 sign_item color rows top entry = option_map (sign_at color (pixels rows.sign) (centre_of rows top entry.0)) entry.1.sign
 
-abbrev pub label_item : Rows → ℕ → ℕ × Entry → Item
+abbrev pub label_item : LegendRows → ℕ → ℕ × Entry → Item
 label_item rows top entry =
     words_at (label_style false Start) (pixels rows.label) (plus (centre_of rows top entry.0) (pixels 3)) entry.1.label
 
@@ -76,19 +76,19 @@ abbrev pub labels_in : List Entry → List (List ℕ)
 labels_in = map (λ (entry : Entry). entry.label)
 
 -- how wide the entries are: as far as the widest label goes; nothing without entries
-abbrev pub entries_width : Rows → List Entry → ℕ
+abbrev pub entries_width : LegendRows → List Entry → ℕ
 entries_width rows [] = 0
 entries_width rows (entry ∷ entries) = rows.label + widest 6 (labels_in (entry ∷ entries))
 
 -- the width and the height of a legend in whole pixels, cut to 10^11
-abbrev pub block_width : Option (List ℕ) → Rows → List Entry → ℕ
+abbrev pub block_width : Option (List ℕ) → LegendRows → List Entry → ℕ
 block_width title rows entries = min (max (option_map_or (width_of 7) title 0) (entries_width rows entries)) greatest_size
 
-abbrev pub block_height : Option (List ℕ) → Rows → List Entry → ℕ
+abbrev pub block_height : Option (List ℕ) → LegendRows → List Entry → ℕ
 block_height title rows entries = min (title_height title + length entries * rows.height) greatest_size
 
 -- a legend with these entries: its title, then all signs, then all labels
-abbrev pub block_with : LegendOf → Rows → List Entry → Block
+abbrev pub block_with : LegendOf → LegendRows → List Entry → Block
 block_with l rows entries =
     let top = title_height l.title in
     record {

@@ -4,13 +4,14 @@ ghost use Rattle.guide_text.specs.Widths.{greatest_size};
 ghost use Rattle.scale_kit.specs.Scale.{IsScale};
 ghost use Rattle.guide_kit.specs.Answers.{Draws};
 ghost use Rattle.guide_kit.specs.Ticks.{count_for};
-ghost use Rattle.guide_kit.specs.Axes.{tick_extent, label_extent, title_extent, extent_of, grid_part, line_part, tick_part, label_part, title_part, axis_with, axis_ticks, axis_of};
+ghost use Rattle.guide_kit.specs.Axes.{tick_extent, label_extent, title_extent, extent_of, grid_part, line_part, tick_part, label_part};
+ghost use Rattle.guide_kit.specs.Axes.{title_part, axis_with, axis_ticks, axis_of};
 
 use crate::axis_parts::{
     axis_line, axis_title, grid_lines, label_reach, push_tick_labels, push_tick_lines,
 };
 use crate::errors::GuideError;
-use crate::frames::{Frame, Side, frame_of};
+use crate::frames::{AxisFrame, Side, frame_of};
 use crate::measures::pixels;
 use crate::ticks::{Tick, cells_shown, count_for, shows_of, ticks_of};
 use cell_value::Cell;
@@ -64,7 +65,7 @@ fn tick_extent(axis: &AxisOf) -> u64
 }
 
 // How many pixels its labels extend.
-fn label_extent(axis: &AxisOf, frame: &Frame, ticks: &[Tick]) -> u64
+fn label_extent(axis: &AxisOf, frame: &AxisFrame, ticks: &[Tick]) -> u64
     ensures value { result ≡ label_extent axis.now frame.now ticks.now }
     ensures bound { result ≤ 2 + greatest_size }
 {
@@ -83,7 +84,7 @@ fn title_extent(axis: &AxisOf) -> u64
 }
 
 // How many pixels an axis extends outward.
-fn extent_of(axis: &AxisOf, frame: &Frame, ticks: &[Tick]) -> u64
+fn extent_of(axis: &AxisOf, frame: &AxisFrame, ticks: &[Tick]) -> u64
     ensures value { result ≡ extent_of axis.now frame.now ticks.now }
     ensures bound { result ≤ greatest_size }
 {
@@ -95,7 +96,7 @@ fn extent_of(axis: &AxisOf, frame: &Frame, ticks: &[Tick]) -> u64
 fn grid_part(
     alloc: Global,
     axis: &AxisOf,
-    frame: &Frame,
+    frame: &AxisFrame,
     ticks: &[Tick],
 ) -> Result<Seq<Item>, OutOfMemory>
     ensures { IfOk result (λ items. items ≡ grid_part axis.now frame.now ticks.now) }
@@ -111,7 +112,7 @@ fn grid_part(
 fn push_line(
     alloc: Global,
     axis: &AxisOf,
-    frame: &Frame,
+    frame: &AxisFrame,
     items: &mut Seq<Item>,
 ) -> Result<(), OutOfMemory>
     ensures { OnOk result (items.new ≡ items.old ++ line_part axis.now frame.now) }
@@ -127,7 +128,7 @@ fn push_line(
 fn push_ticks(
     alloc: Global,
     axis: &AxisOf,
-    frame: &Frame,
+    frame: &AxisFrame,
     ticks: &[Tick],
     items: &mut Seq<Item>,
 ) -> Result<(), OutOfMemory>
@@ -144,7 +145,7 @@ fn push_ticks(
 fn push_labels(
     alloc: Global,
     axis: &AxisOf,
-    frame: &Frame,
+    frame: &AxisFrame,
     ticks: &[Tick],
     items: &mut Seq<Item>,
 ) -> Result<(), OutOfMemory>
@@ -162,7 +163,7 @@ fn push_labels(
 fn push_title(
     alloc: Global,
     axis: &AxisOf,
-    frame: &Frame,
+    frame: &AxisFrame,
     extent: u64,
     items: &mut Seq<Item>,
 ) -> Result<(), OutOfMemory>
@@ -179,7 +180,7 @@ fn push_title(
 fn axis_with(
     alloc: Global,
     axis: &AxisOf,
-    frame: &Frame,
+    frame: &AxisFrame,
     ticks: &[Tick],
 ) -> Result<Guide, OutOfMemory>
     ensures { IfOk result (λ guide. guide ≡ axis_with axis.now frame.now ticks.now) }

@@ -3,7 +3,7 @@ ghost use Rattle.std.specs.Prelude.{◌≡◌, ◌++◌, ◌≤◌, map, IfOk, O
 ghost use Rattle.guide_text.specs.Widths.{greatest_size};
 ghost use Rattle.guide_kit.specs.Axes.{widest, labels_of, label_reach, grid_line, axis_line, tick_line, tick_label, axis_title};
 
-use crate::frames::Frame;
+use crate::frames::AxisFrame;
 use crate::items::{LABEL_COLUMN, label_style, line_between, title_style, words_along};
 use crate::measures::{half, pixels};
 use crate::ticks::Tick;
@@ -25,7 +25,7 @@ fn widest_label(ticks: &[Tick]) -> u64
 }
 
 /// How many pixels labels reach outward.
-pub fn label_reach(frame: &Frame, turned: bool, ticks: &[Tick]) -> u64
+pub fn label_reach(frame: &AxisFrame, turned: bool, ticks: &[Tick]) -> u64
     ensures value { result ≡ label_reach frame.now turned ticks.now }
     ensures bound { result ≤ greatest_size }
 {
@@ -37,7 +37,7 @@ pub fn label_reach(frame: &Frame, turned: bool, ticks: &[Tick]) -> u64
 }
 
 // The line of the grid at a tick.
-fn grid_line(alloc: Global, frame: &Frame, tick: &Tick) -> Result<Item, OutOfMemory>
+fn grid_line(alloc: Global, frame: &AxisFrame, tick: &Tick) -> Result<Item, OutOfMemory>
     ensures { IfOk result (λ item. item ≡ grid_line frame.now tick.now) }
 {
     let along_x = frame.plan.along_x;
@@ -46,7 +46,7 @@ fn grid_line(alloc: Global, frame: &Frame, tick: &Tick) -> Result<Item, OutOfMem
 }
 
 /// The line of an axis.
-pub fn axis_line(alloc: Global, frame: &Frame) -> Result<Item, OutOfMemory>
+pub fn axis_line(alloc: Global, frame: &AxisFrame) -> Result<Item, OutOfMemory>
     ensures { IfOk result (λ item. item ≡ axis_line frame.now) }
 {
     let along_x = frame.plan.along_x;
@@ -55,7 +55,7 @@ pub fn axis_line(alloc: Global, frame: &Frame) -> Result<Item, OutOfMemory>
 }
 
 // The line of a tick.
-fn tick_line(alloc: Global, frame: &Frame, tick: &Tick) -> Result<Item, OutOfMemory>
+fn tick_line(alloc: Global, frame: &AxisFrame, tick: &Tick) -> Result<Item, OutOfMemory>
     ensures { IfOk result (λ item. item ≡ tick_line frame.now tick.now) }
 {
     let along_x = frame.plan.along_x;
@@ -71,7 +71,7 @@ fn tick_line(alloc: Global, frame: &Frame, tick: &Tick) -> Result<Item, OutOfMem
 // The label of a tick.
 fn tick_label(
     alloc: Global,
-    frame: &Frame,
+    frame: &AxisFrame,
     turned: bool,
     ticks: bool,
     tick: &Tick,
@@ -94,7 +94,7 @@ fn tick_label(
 /// The title of an axis of this extent in pixels.
 pub fn axis_title(
     alloc: Global,
-    frame: &Frame,
+    frame: &AxisFrame,
     extent: u64,
     text: &Text,
 ) -> Result<Item, OutOfMemory>
@@ -114,7 +114,11 @@ pub fn axis_title(
 }
 
 /// The lines of the grid at ticks.
-pub fn grid_lines(alloc: Global, frame: &Frame, ticks: &[Tick]) -> Result<Seq<Item>, OutOfMemory>
+pub fn grid_lines(
+    alloc: Global,
+    frame: &AxisFrame,
+    ticks: &[Tick],
+) -> Result<Seq<Item>, OutOfMemory>
     ensures { IfOk result (λ items. items ≡ map (grid_line frame.now) ticks.now) }
 {
     let mut items = Seq::with_capacity(alloc, ticks.len())?;
@@ -127,7 +131,7 @@ pub fn grid_lines(alloc: Global, frame: &Frame, ticks: &[Tick]) -> Result<Seq<It
 /// Adds the lines of ticks.
 pub fn push_tick_lines(
     alloc: Global,
-    frame: &Frame,
+    frame: &AxisFrame,
     ticks: &[Tick],
     items: &mut Seq<Item>,
 ) -> Result<(), OutOfMemory>
@@ -142,7 +146,7 @@ pub fn push_tick_lines(
 /// Adds the labels of ticks, which may be turned and stand beyond the ticks' lines.
 pub fn push_tick_labels(
     alloc: Global,
-    frame: &Frame,
+    frame: &AxisFrame,
     turned: bool,
     beyond: bool,
     ticks: &[Tick],

@@ -40,7 +40,7 @@ pub struct Entry {
 
 /// The rows of a legend, in pixels.
 #[derive(Clone, Copy, Debug)]
-pub struct Rows {
+pub struct LegendRows {
     /// How high each is.
     pub height: u8,
     /// How far its centre is below its top.
@@ -52,17 +52,17 @@ pub struct Rows {
 }
 
 /// The rows of a legend with signs of a kind.
-pub fn rows_of(kind: SignKind) -> Rows
+pub fn rows_of(kind: SignKind) -> LegendRows
     ensures { result ≡ rows_of kind }
 {
     match kind {
-        SignKind::Size => Rows {
+        SignKind::Size => LegendRows {
             height: 22,
             centre: 11,
             sign: 11,
             label: 26,
         },
-        SignKind::Color | SignKind::Opacity | SignKind::Shape => Rows {
+        SignKind::Color | SignKind::Opacity | SignKind::Shape => LegendRows {
             height: 14,
             centre: 7,
             sign: 6,
@@ -144,7 +144,7 @@ pub fn entries_of(
 }
 
 // The centre of an entry by its number.
-fn centre_of(rows: &Rows, top: u8, number: usize) -> Num
+fn centre_of(rows: &LegendRows, top: u8, number: usize) -> Num
     ensures { result ≡ centre_of rows.now top number }
 {
     let above = u128::from(top) + u128::from(number as u64) * u128::from(rows.height);
@@ -155,7 +155,7 @@ fn centre_of(rows: &Rows, top: u8, number: usize) -> Num
 fn push_sign(
     alloc: Global,
     color: &str,
-    rows: &Rows,
+    rows: &LegendRows,
     top: u8,
     number: usize,
     entry: &Entry,
@@ -175,7 +175,7 @@ fn push_sign(
 // The label of an entry by its number.
 fn label_item(
     alloc: Global,
-    rows: &Rows,
+    rows: &LegendRows,
     top: u8,
     number: usize,
     entry: &Entry,
@@ -197,7 +197,7 @@ fn label_item(
 pub fn push_signs(
     alloc: Global,
     color: &str,
-    rows: &Rows,
+    rows: &LegendRows,
     top: u8,
     entries: &[Entry],
     items: &mut Seq<Item>,
@@ -213,7 +213,7 @@ pub fn push_signs(
 /// Adds the labels of entries below a top.
 pub fn push_labels(
     alloc: Global,
-    rows: &Rows,
+    rows: &LegendRows,
     top: u8,
     entries: &[Entry],
     items: &mut Seq<Item>,
@@ -239,7 +239,7 @@ fn widest_label(entries: &[Entry]) -> u64
 }
 
 /// How wide entries are, in pixels.
-pub fn entries_width(rows: &Rows, entries: &[Entry]) -> u64
+pub fn entries_width(rows: &LegendRows, entries: &[Entry]) -> u64
     ensures value { result ≡ entries_width rows.now entries.now }
     ensures bound { result ≤ 255 + greatest_size }
 {

@@ -1,7 +1,8 @@
 // Where the parts of an axis stand, by its side.
 ghost use Rattle.std.specs.Prelude.{◌≡◌, ◌≤◌, pos, if◌then◌else◌};
 ghost use Rattle.guide_kit.specs.Measures.{farthest, plus, minus};
-ghost use Rattle.guide_kit.specs.Sides.{plan_of, frame_for, frame_of, outward, are_turned, label_beyond, label_anchor, label_distance, label_along, title_distance};
+ghost use Rattle.guide_kit.specs.Sides.{plan_of, frame_for, frame_of, outward, are_turned, label_beyond, label_anchor, label_distance};
+ghost use Rattle.guide_kit.specs.Sides.{label_along, title_distance};
 
 use crate::measures::{minus, pixels, plus};
 use fixed_num::Num;
@@ -37,7 +38,7 @@ pub struct Plan {
 
 /// An axis at a plot.
 #[derive(Clone, Copy, Debug)]
-pub struct Frame {
+pub struct AxisFrame {
     /// What its side is like.
     pub plan: Plan,
     /// How long it is, in pixels.
@@ -92,11 +93,11 @@ fn edge_of(far: bool, depth: Num, offset: Num) -> Num
 }
 
 // An axis at a plot of this size, moved outward by an offset.
-fn frame_for(plan: Plan, width: Num, height: Num, offset: Num) -> Frame
+fn frame_for(plan: Plan, width: Num, height: Num, offset: Num) -> AxisFrame
     ensures { result ≡ frame_for plan width height offset }
 {
     let depth = chosen(plan.along_x, height, width);
-    Frame {
+    AxisFrame {
         plan,
         size: chosen(plan.along_x, width, height),
         depth,
@@ -105,13 +106,13 @@ fn frame_for(plan: Plan, width: Num, height: Num, offset: Num) -> Frame
 }
 
 /// An axis at a side of a plot of this size, moved outward by an offset.
-pub fn frame_of(side: Side, width: Num, height: Num, offset: Num) -> Frame
+pub fn frame_of(side: Side, width: Num, height: Num, offset: Num) -> AxisFrame
     ensures { result ≡ frame_of side width height offset }
 {
     frame_for(plan_of(side), width, height, offset)
 }
 
-impl Frame {
+impl AxisFrame {
     /// The place so many pixels outward from the line.
     pub fn outward(&self, n: u64) -> Num
         requires { n ≤ farthest }

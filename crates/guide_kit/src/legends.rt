@@ -6,7 +6,9 @@ ghost use Rattle.guide_kit.specs.Answers.{Draws};
 ghost use Rattle.guide_kit.specs.Signs.{sign_kind_of};
 ghost use Rattle.guide_kit.specs.Legends.{title_height, title_items, block_width, block_height, block_with, legend_with, legend_of};
 
-use crate::entries::{Entry, Rows, entries_of, entries_width, push_labels, push_signs, rows_of};
+use crate::entries::{
+    Entry, LegendRows, entries_of, entries_width, push_labels, push_signs, rows_of,
+};
 use crate::errors::GuideError;
 use crate::items::{TITLE_COLUMN, title_style, words_at};
 use crate::measures::pixels;
@@ -66,7 +68,7 @@ fn push_title(alloc: Global, title: &Option<Text>, items: &mut Seq<Item>) -> Res
 }
 
 // The width of a legend.
-fn block_width(title: &Option<Text>, rows: &Rows, entries: &[Entry]) -> u64
+fn block_width(title: &Option<Text>, rows: &LegendRows, entries: &[Entry]) -> u64
     ensures value { result ≡ block_width title.now rows.now entries.now }
     ensures bound { result ≤ greatest_size }
 {
@@ -78,7 +80,7 @@ fn block_width(title: &Option<Text>, rows: &Rows, entries: &[Entry]) -> u64
 }
 
 // The height of a legend.
-fn block_height(title: &Option<Text>, rows: &Rows, entries: &[Entry]) -> u64
+fn block_height(title: &Option<Text>, rows: &LegendRows, entries: &[Entry]) -> u64
     ensures value { result ≡ block_height title.now rows.now entries.now }
     ensures bound { result ≤ greatest_size }
 {
@@ -90,7 +92,7 @@ fn block_height(title: &Option<Text>, rows: &Rows, entries: &[Entry]) -> u64
 fn block_with(
     alloc: Global,
     legend: &LegendOf,
-    rows: &Rows,
+    rows: &LegendRows,
     entries: &[Entry],
 ) -> Result<Block, OutOfMemory>
     ensures { IfOk result (λ block. block ≡ block_with legend.now rows.now entries.now) }

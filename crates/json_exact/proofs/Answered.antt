@@ -1,5 +1,5 @@
 -- The answers of a reader from its first call to its last.
-use Rattle.std.proofs.Common.{◌≡◌, ℕ, List, [], ◌∷◌, Result, Ok, Err, Option, Some, None, refl, ap, subst, ◌∙◌}
+use Rattle.std.proofs.Common.{◌≡◌, ℕ, List, [], ◌∷◌, Result, Ok, Option, Some, None, refl, ap, subst, ◌∙◌}
 use Rattle.fixed_num.specs.Steps.{◌>>=◌}
 use Rattle.json_exact.specs.declared.json.Json.{Json}
 use Rattle.json_exact.specs.declared.value_reader.ValueReader.{ValueReader}

@@ -15,7 +15,7 @@ use Rattle.fixed_num.proofs.DigitLemmas.{number_append}
 use Rattle.json_exact.specs.declared.json.Json.{Json, out-Json, out-roll-Json}
 use Rattle.json_exact.specs.declared.json.Json.TheOpen as level
 use Rattle.json_exact.specs.declared.json.Json.TheVariants as json
-use Rattle.json_exact.specs.declared.json.Json.TheVariants.{rolls-List, rolls-Object}
+use Rattle.json_exact.specs.declared.json.Json.TheVariants.{rolls-List}
 use Rattle.json_exact.specs.Path.{words_of, tilde_escape, joined, name_of, is_index, item_of, child_of, led_by, at_path}
 use Rattle.fixed_num.specs.Front.{first}
 use Rattle.json_exact.proofs.Front.{next, take-rest}

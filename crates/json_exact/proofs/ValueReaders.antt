@@ -5,8 +5,8 @@ use Rattle.std.specs.Prelude.{◌==◌, if◌then◌else◌}
 use Rattle.text_kit.specs.Answer.{IsFault}
 use Rattle.fixed_num.specs.Front.{Read, first, stop}
 use Rattle.fixed_num.specs.Steps.{◌>>=◌}
-use Rattle.json_exact.specs.declared.error.Stop.{Stop}
-use Rattle.json_exact.specs.declared.error.Stop.TheVariants as stops
+use Rattle.json_exact.specs.declared.error.ReadStop.{ReadStop}
+use Rattle.json_exact.specs.declared.error.ReadStop.TheVariants as stops
 use Rattle.json_exact.specs.declared.json.Json.{Json, out-Json, out-roll-Json}
 use Rattle.json_exact.specs.declared.json.Json.TheOpen as level
 use Rattle.json_exact.specs.declared.json.Json.TheVariants as json
@@ -208,10 +208,10 @@ module _ (size : ℕ) where
   fault_next stage.Items (suc most) left rest e = ap (placed size) (item_ahead most rest) ∙ item_fault most left (item_then rest) e
 
   -- a fault comes
-  pub fault_is : (at : Stage) (most left place : ℕ) (rest : List ℕ) (error : Stop) → error ≡ stops.Fault left
+  pub fault_is : (at : Stage) (most left place : ℕ) (rest : List ℕ) (error : ReadStop) → error ≡ stops.Fault left
       → IsFault (cause error) (step_at at most rest) → place ≡ size - left → placed size (left_ahead at most rest) ≡ Err place
   fault_is at most left place rest error is given same =
-      let e : step_at at most rest ≡ Err left = subst (λ (s : Stop). IsFault (cause s) (step_at at most rest)) is given in
+      let e : step_at at most rest ≡ Err left = subst (λ (s : ReadStop). IsFault (cause s) (step_at at most rest)) is given in
       fault_next at most left rest e ∙ ap Err (sym same)
 
 -- ---- the beginning
@@ -301,7 +301,8 @@ module _ (bytes front inside rest : List ℕ) (size : ℕ) (same : size ≡ leng
       ∙ ap (λ b. sequence_at 93 (item_at 127) b >>= ends) (ap (drop 1) (sym is) ∙ sym drops)
 
   -- a list without items
-  pub end_ahead : (most : ℕ) (last : List ℕ) → first rest ≡ 93 → last ≡ skip_white (drop 1 rest) → AreValuesOf bytes (placed size (left_ahead stage.End most last))
+  pub end_ahead : (most : ℕ) (last : List ℕ) → first rest ≡ 93 → last ≡ skip_white (drop 1 rest)
+      → AreValuesOf bytes (placed size (left_ahead stage.End most last))
   end_ahead most last closes e =
       let empty : sequence_at 93 (item_at 127) inside ≡ Ok ([], drop 1 (skip_white inside)) =
       empty_sequence 93 (item_at 127) inside (ap first (sym skips) ∙ closes) in

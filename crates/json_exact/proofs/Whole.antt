@@ -2,8 +2,8 @@
 use Rattle.std.proofs.Common.{◌≡◌, ℕ, List, Ok, Err, refl, sym, ap, subst, ◌∙◌, zero, suc, ◌+◌, ◌-◌, ◌<◌, ◌≤◌, [], ◌∷◌, ◌++◌, length, take}
 use Rattle.std.proofs.Common.{append_assoc, arith}
 use Rattle.text_kit.specs.Answer.{IsFault}
-use Rattle.json_exact.specs.declared.error.Stop.{Stop}
-use Rattle.json_exact.specs.declared.error.Stop.TheVariants as stops
+use Rattle.json_exact.specs.declared.error.ReadStop.{ReadStop}
+use Rattle.json_exact.specs.declared.error.ReadStop.TheVariants as stops
 use Rattle.json_exact.specs.declared.json.Json.{Json}
 use Rattle.json_exact.specs.Reading.{Reads, Begins, FaultsAt}
 use Rattle.fixed_num.specs.Front.{first}
@@ -23,9 +23,9 @@ is_fault bytes k given tree reads =
     absurd cc
 
 -- how many bytes were left at the fault that was answered
-pub fault_of : (bytes : List ℕ) (error : Stop) (left : ℕ) → error ≡ stops.Fault left → IsFault (cause error) (text_at bytes)
+pub fault_of : (bytes : List ℕ) (error : ReadStop) (left : ℕ) → error ≡ stops.Fault left → IsFault (cause error) (text_at bytes)
     → text_at bytes ≡ Err left
-fault_of bytes error left e given = subst (λ (s : Stop). IsFault (cause s) (text_at bytes)) e given
+fault_of bytes error left e given = subst (λ (s : ReadStop). IsFault (cause s) (text_at bytes)) e given
 
 -- ---- the place of a fault
 

@@ -1,13 +1,13 @@
 //! The characters of a text, each read from the front of the bytes.
 
-ghost use Rattle.std.specs.Prelude.{◌≡◌, ◌+◌, ◌*◌, ◌<◌, ◌≤◌, IfOk, IsTrue, length};
+ghost use Rattle.std.specs.Prelude.{◌≡◌, ◌+◌, ◌*◌, ◌<◌, ◌≤◌, IfOk, IsTrue};
 ghost use Rattle.std.specs.Char.{is_ascii_hexdigit};
 ghost use Rattle.text_kit.specs.Answer.{GivesAs};
 ghost use Rattle.json_exact.specs.Reading.{hex_value, short_escape, IsHigh};
 ghost use Rattle.json_exact.specs.inner.Reader.{cause, hex_at, hex_pair_at, low_at, after_high_at, long_at, escape_at, tail_at, three_at};
 ghost use Rattle.json_exact.specs.inner.Reader.{four_at, plain_at, char_at};
 
-use crate::error::{Stop, fault_at};
+use crate::error::{ReadStop, fault_at};
 use crate::words::{after_first, after_word, first_of};
 
 /// What a digit to the base sixteen stands for.
@@ -27,7 +27,7 @@ fn hex_value(digit: u8) -> u32
 
 #[tactic(auto, unfolding(crate::specs::inner::Reader::hex_at))]
 /// The digit to the base sixteen at the front, from `low` to `high`, and the bytes after it.
-fn hex_of(low: u32, high: u32, bytes: &[u8]) -> Result<(u32, &[u8]), Stop>
+fn hex_of(low: u32, high: u32, bytes: &[u8]) -> Result<(u32, &[u8]), ReadStop>
     ensures gives { GivesAs (λ x. (x.0, x.1.now)) cause result (hex_at low high bytes.now) }
     ensures low { IfOk result (λ x. low ≤ x.0) }
     ensures high { IfOk result (λ x. x.0 ≤ high) }
@@ -47,7 +47,7 @@ fn hex_of(low: u32, high: u32, bytes: &[u8]) -> Result<(u32, &[u8]), Stop>
 
 #[tactic(auto, unfolding(crate::specs::inner::Reader::hex_pair_at))]
 /// The number with two more digits at its end, and the bytes after them.
-fn hex_pair_of(n: u32, bytes: &[u8]) -> Result<(u32, &[u8]), Stop>
+fn hex_pair_of(n: u32, bytes: &[u8]) -> Result<(u32, &[u8]), ReadStop>
     requires { n < 256 }
     ensures gives { GivesAs (λ x. (x.0, x.1.now)) cause result (hex_pair_at n bytes.now) }
     ensures low { IfOk result (λ x. n * 256 ≤ x.0) }
@@ -60,7 +60,7 @@ fn hex_pair_of(n: u32, bytes: &[u8]) -> Result<(u32, &[u8]), Stop>
 
 #[tactic(auto, unfolding(crate::specs::inner::Reader::low_at))]
 /// The second half of a pair of surrogates, and the bytes after it.
-fn low_of(bytes: &[u8]) -> Result<(u32, &[u8]), Stop>
+fn low_of(bytes: &[u8]) -> Result<(u32, &[u8]), ReadStop>
     ensures gives { GivesAs (λ x. (x.0, x.1.now)) cause result (low_at bytes.now) }
     ensures low { IfOk result (λ x. 0xDC00 ≤ x.0) }
     ensures high { IfOk result (λ x. x.0 < 0xE000) }
@@ -72,7 +72,7 @@ fn low_of(bytes: &[u8]) -> Result<(u32, &[u8]), Stop>
 
 #[tactic(auto, unfolding(crate::specs::inner::Reader::after_high_at))]
 /// The character of a pair of surrogates, after its first half, and the bytes after it.
-fn after_high(high: u32, bytes: &[u8]) -> Result<(u32, &[u8]), Stop>
+fn after_high(high: u32, bytes: &[u8]) -> Result<(u32, &[u8]), ReadStop>
     requires { IsHigh high }
     ensures { GivesAs (λ x. (x.0, x.1.now)) cause result (after_high_at high bytes.now) }
 {
@@ -83,7 +83,7 @@ fn after_high(high: u32, bytes: &[u8]) -> Result<(u32, &[u8]), Stop>
 
 #[tactic(auto, unfolding(crate::specs::inner::Reader::long_at))]
 /// The character of an escape by number, after its `u`, and the bytes after it.
-fn long_of(bytes: &[u8]) -> Result<(u32, &[u8]), Stop>
+fn long_of(bytes: &[u8]) -> Result<(u32, &[u8]), ReadStop>
     ensures { GivesAs (λ x. (x.0, x.1.now)) cause result (long_at bytes.now) }
 {
     let (a, rest) = hex_of(0, 15, bytes)?;
@@ -115,7 +115,7 @@ fn short_escape(letter: u8) -> Option<u32>
 
 #[tactic(auto, unfolding(crate::specs::inner::Reader::escape_at))]
 /// The character of an escape, after its `\`, and the bytes after it.
-fn escape_of(bytes: &[u8]) -> Result<(u32, &[u8]), Stop>
+fn escape_of(bytes: &[u8]) -> Result<(u32, &[u8]), ReadStop>
     ensures { GivesAs (λ x. (x.0, x.1.now)) cause result (escape_at bytes.now) }
 {
     if first_of(bytes) == b'u' {
@@ -129,7 +129,7 @@ fn escape_of(bytes: &[u8]) -> Result<(u32, &[u8]), Stop>
 
 #[tactic(auto, unfolding(crate::specs::inner::Reader::tail_at))]
 /// The number with one more byte of a character at its end, from `low` to `high`, and the bytes after it.
-fn tail_of(low: u8, high: u8, n: u32, bytes: &[u8]) -> Result<(u32, &[u8]), Stop>
+fn tail_of(low: u8, high: u8, n: u32, bytes: &[u8]) -> Result<(u32, &[u8]), ReadStop>
     requires few { n < 65536 }
     requires low { 128 ≤ low }
     requires high { high < 192 }
@@ -146,7 +146,7 @@ fn tail_of(low: u8, high: u8, n: u32, bytes: &[u8]) -> Result<(u32, &[u8]), Stop
 
 #[tactic(auto, unfolding(crate::specs::inner::Reader::three_at))]
 /// The rest of a character of three bytes, by its first byte, and the bytes after it.
-fn three_of(b: u8, bytes: &[u8]) -> Result<(u32, &[u8]), Stop>
+fn three_of(b: u8, bytes: &[u8]) -> Result<(u32, &[u8]), ReadStop>
     requires low { 224 ≤ b }
     requires high { b < 240 }
     ensures { GivesAs (λ x. (x.0, x.1.now)) cause result (three_at b bytes.now) }
@@ -159,7 +159,7 @@ fn three_of(b: u8, bytes: &[u8]) -> Result<(u32, &[u8]), Stop>
 
 #[tactic(auto, unfolding(crate::specs::inner::Reader::four_at))]
 /// The rest of a character of four bytes, by its first byte, and the bytes after it.
-fn four_of(b: u8, bytes: &[u8]) -> Result<(u32, &[u8]), Stop>
+fn four_of(b: u8, bytes: &[u8]) -> Result<(u32, &[u8]), ReadStop>
     requires low { 240 ≤ b }
     requires high { b < 245 }
     ensures { GivesAs (λ x. (x.0, x.1.now)) cause result (four_at b bytes.now) }
@@ -173,7 +173,7 @@ fn four_of(b: u8, bytes: &[u8]) -> Result<(u32, &[u8]), Stop>
 
 #[tactic(auto, unfolding(crate::specs::inner::Reader::plain_at))]
 /// The character that stands for itself, by its first byte, and the bytes after it.
-fn plain_of(b: u8, bytes: &[u8]) -> Result<(u32, &[u8]), Stop>
+fn plain_of(b: u8, bytes: &[u8]) -> Result<(u32, &[u8]), ReadStop>
     ensures { GivesAs (λ x. (x.0, x.1.now)) cause result (plain_at b bytes.now) }
 {
     if b < 32 || b == b'"' {
@@ -196,7 +196,7 @@ fn plain_of(b: u8, bytes: &[u8]) -> Result<(u32, &[u8]), Stop>
 
 #[tactic(auto, unfolding(crate::specs::inner::Reader::char_at))]
 /// The character at the front, and the bytes after it.
-pub fn char_of(bytes: &[u8]) -> Result<(u32, &[u8]), Stop>
+pub fn char_of(bytes: &[u8]) -> Result<(u32, &[u8]), ReadStop>
     ensures { GivesAs (λ x. (x.0, x.1.now)) cause result (char_at bytes.now) }
 {
     let b = first_of(bytes);

@@ -1,5 +1,5 @@
 ghost use Rattle.std.specs.Prelude.{◌≡◌, length};
-ghost use Rattle.json_exact.specs.declared.error.Stop.TheVariants.{Memory, Fault};
+ghost use Rattle.json_exact.specs.declared.error.ReadStop.TheVariants.{Memory, Fault};
 
 use std::alloc::{AllocError, AllocFailed};
 use text_kit::OutOfMemory;
@@ -18,7 +18,7 @@ pub enum JsonError {
 
 /// Why reading stopped.
 #[derive(Clone, Copy, Debug)]
-pub enum Stop {
+pub enum ReadStop {
     /// The next byte fits nothing, or there is none.
     Fault {
         /// How many bytes were left.
@@ -29,32 +29,32 @@ pub enum Stop {
 }
 
 /// A fault at the front of the bytes.
-pub fn fault_at(bytes: &[u8]) -> Stop
+pub fn fault_at(bytes: &[u8]) -> ReadStop
     ensures { result ≡ Fault (length bytes.now) }
 {
-    Stop::Fault { left: bytes.len() }
+    ReadStop::Fault { left: bytes.len() }
 }
 
-impl From<OutOfMemory> for Stop {
+impl From<OutOfMemory> for ReadStop {
     ghost from_gives = { λ _ e. e ≡ Memory };
 
-    fn from(_: OutOfMemory) -> Stop {
-        Stop::Memory
+    fn from(_: OutOfMemory) -> ReadStop {
+        ReadStop::Memory
     }
 }
 
-impl From<AllocError> for Stop {
+impl From<AllocError> for ReadStop {
     ghost from_gives = { λ _ e. e ≡ Memory };
 
-    fn from(_: AllocError) -> Stop {
-        Stop::Memory
+    fn from(_: AllocError) -> ReadStop {
+        ReadStop::Memory
     }
 }
 
-impl<T: Drop> From<AllocFailed<T>> for Stop {
+impl<T: Drop> From<AllocFailed<T>> for ReadStop {
     ghost from_gives = { λ _ e. e ≡ Memory };
 
-    fn from(_: AllocFailed<T>) -> Stop {
-        Stop::Memory
+    fn from(_: AllocFailed<T>) -> ReadStop {
+        ReadStop::Memory
     }
 }

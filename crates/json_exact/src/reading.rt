@@ -5,7 +5,7 @@ ghost use Rattle.json_exact.specs.inner.Reader.{cause, text_at};
 ghost use Rattle.json_exact.specs.declared.json.Json.{Json as Tree};
 ghost use Rattle.json_exact.specs.declared.error.JsonError.TheVariants.{Fault, Memory};
 
-use crate::error::{JsonError, Stop, fault_at};
+use crate::error::{JsonError, ReadStop, fault_at};
 use crate::json::Json;
 use crate::values::padded_of;
 use std::alloc::Global;
@@ -15,7 +15,7 @@ pub const DEEPEST: u32 = 128;
 
 /// The tree that all of the bytes spell.
 #[tactic(auto, unfolding(crate::specs::inner::Reader::text_at))]
-pub fn text_of(alloc: Global, bytes: &[u8]) -> Result<Json, Stop>
+pub fn text_of(alloc: Global, bytes: &[u8]) -> Result<Json, ReadStop>
     ensures { GivesAs (λ tree. tree) cause result (text_at bytes.now) }
 {
     let (tree, rest) = padded_of(alloc, DEEPEST, bytes)?;
@@ -38,8 +38,8 @@ pub fn read(alloc: Global, bytes: &[u8]) -> Result<Json, JsonError>
 {
     match text_of(alloc, bytes) {
         Ok(tree) => Ok(tree),
-        Err(Stop::Memory) => Err(JsonError::Memory),
-        Err(Stop::Fault { left }) => Err(JsonError::Fault {
+        Err(ReadStop::Memory) => Err(JsonError::Memory),
+        Err(ReadStop::Fault { left }) => Err(JsonError::Fault {
             at: bytes.len().saturating_sub(left) as u64,
         }),
     }

@@ -7,7 +7,7 @@ ghost use Rattle.json_exact.specs.Values.{AreValuesOf, AnswersAreTheValues, IsNe
 ghost use Rattle.json_exact.specs.inner.Reader.{cause};
 ghost use Rattle.json_exact.specs.inner.Ahead.{item_then, step_at};
 
-use crate::error::{JsonError, Stop, fault_at};
+use crate::error::{JsonError, ReadStop, fault_at};
 use crate::json::Json;
 use crate::reading::{DEEPEST, text_of};
 use crate::values::padded_of;
@@ -38,7 +38,7 @@ pub struct ValueReader<'a> {
 }
 
 // The item of a list at the front, and what follows it.
-fn item_of(alloc: Global, bytes: &[u8]) -> Result<(Json, Stage, &[u8]), Stop>
+fn item_of(alloc: Global, bytes: &[u8]) -> Result<(Json, Stage, &[u8]), ReadStop>
     ensures { GivesAs (λ x. (x.0, x.1, x.2.now)) cause result (item_then bytes.now) }
 {
     let (item, rest) = padded_of(alloc, DEEPEST - 1, bytes)?;
@@ -55,7 +55,7 @@ fn next_of(
     stage: Stage,
     most: usize,
     rest: &[u8],
-) -> Result<Option<(Json, Stage, &[u8])>, Stop>
+) -> Result<Option<(Json, Stage, &[u8])>, ReadStop>
     ensures { GivesAs (option_map (λ x. (x.0, x.1, x.2.now))) cause result (step_at stage most rest.now) }
 {
     match stage {
@@ -116,8 +116,8 @@ impl<'a> ValueReader<'a> {
                     rest,
                 },
             ))),
-            Err(Stop::Memory) => Err(JsonError::Memory),
-            Err(Stop::Fault { left }) => Err(JsonError::Fault {
+            Err(ReadStop::Memory) => Err(JsonError::Memory),
+            Err(ReadStop::Fault { left }) => Err(JsonError::Fault {
                 at: self.size.saturating_sub(left) as u64,
             }),
         }

@@ -3,7 +3,7 @@
 ghost use Rattle.text_kit.specs.Answer.{GivesAs};
 ghost use Rattle.json_exact.specs.inner.Reader.{cause, padded_at, value_at, flat_at, list_at, object_at, member_at, sequence_at};
 
-use crate::error::{Stop, fault_at};
+use crate::error::{ReadStop, fault_at};
 use crate::json::{Json, Member};
 use crate::names::Members;
 use crate::numbers::number_of;
@@ -14,7 +14,7 @@ use text_kit::{Seq, Text};
 
 /// The value at the front, in which at most `level` lists and objects stand in one another, and the bytes after it.
 #[cycle(values)]
-fn value_of(alloc: Global, level: u32, bytes: &[u8]) -> Result<(Json, &[u8]), Stop>
+fn value_of(alloc: Global, level: u32, bytes: &[u8]) -> Result<(Json, &[u8]), ReadStop>
     ensures { GivesAs (λ x. (x.0, x.1.now)) cause result (value_at level bytes.now) }
 {
     match first_of(bytes) {
@@ -27,7 +27,7 @@ fn value_of(alloc: Global, level: u32, bytes: &[u8]) -> Result<(Json, &[u8]), St
 
 /// The value at the front that is neither a list nor an object, and the bytes after it.
 #[tactic(auto, unfolding(crate::specs::inner::Reader::flat_at))]
-fn flat_of(alloc: Global, bytes: &[u8]) -> Result<(Json, &[u8]), Stop>
+fn flat_of(alloc: Global, bytes: &[u8]) -> Result<(Json, &[u8]), ReadStop>
     ensures { GivesAs (λ x. (x.0, x.1.now)) cause result (flat_at bytes.now) }
 {
     match first_of(bytes) {
@@ -53,7 +53,7 @@ fn flat_of(alloc: Global, bytes: &[u8]) -> Result<(Json, &[u8]), Stop>
 
 /// The same with white space on both sides.
 #[cycle(values)]
-pub fn padded_of(alloc: Global, level: u32, bytes: &[u8]) -> Result<(Json, &[u8]), Stop>
+pub fn padded_of(alloc: Global, level: u32, bytes: &[u8]) -> Result<(Json, &[u8]), ReadStop>
     ensures { GivesAs (λ x. (x.0, x.1.now)) cause result (padded_at (value_at level) bytes.now) }
 {
     match value_of(alloc, level, skip_white(bytes)) {
@@ -65,7 +65,7 @@ pub fn padded_of(alloc: Global, level: u32, bytes: &[u8]) -> Result<(Json, &[u8]
 /// The list whose opening bracket stands before the bytes, and the bytes after it.
 #[cycle(values)]
 #[tactic(auto, unfolding(crate::specs::inner::Reader::list_at))]
-fn list_of(alloc: Global, level: u32, bytes: &[u8]) -> Result<(Json, &[u8]), Stop>
+fn list_of(alloc: Global, level: u32, bytes: &[u8]) -> Result<(Json, &[u8]), ReadStop>
     ensures { GivesAs (λ x. (x.0, x.1.now)) cause result (list_at (value_at level) bytes.now) }
 {
     match items_of(alloc, level, bytes) {
@@ -76,7 +76,7 @@ fn list_of(alloc: Global, level: u32, bytes: &[u8]) -> Result<(Json, &[u8]), Sto
 
 /// The items up to the closing bracket, and the bytes after it.
 #[cycle(values)]
-fn items_of(alloc: Global, level: u32, bytes: &[u8]) -> Result<(Seq<Json>, &[u8]), Stop>
+fn items_of(alloc: Global, level: u32, bytes: &[u8]) -> Result<(Seq<Json>, &[u8]), ReadStop>
     ensures { GivesAs (λ x. (x.0, x.1.now)) cause result (sequence_at 93 (λ done. padded_at (value_at level)) bytes.now) }
 {
     let mut rest = skip_white(bytes);
@@ -105,7 +105,7 @@ fn member_of<'a>(
     level: u32,
     members: &Members,
     bytes: &'a [u8],
-) -> Result<(Member, &'a [u8]), Stop>
+) -> Result<(Member, &'a [u8]), ReadStop>
     ensures { GivesAs (λ x. (x.0, x.1.now)) cause result (member_at (value_at level) members.now.members bytes.now) }
 {
     let (name, rest) = name_of(alloc, members, skip_white(bytes))?;
@@ -120,7 +120,7 @@ fn member_of<'a>(
 /// The object whose opening brace stands before the bytes, and the bytes after it.
 #[cycle(values)]
 #[tactic(auto, unfolding(crate::specs::inner::Reader::object_at))]
-fn object_of(alloc: Global, level: u32, bytes: &[u8]) -> Result<(Json, &[u8]), Stop>
+fn object_of(alloc: Global, level: u32, bytes: &[u8]) -> Result<(Json, &[u8]), ReadStop>
     ensures { GivesAs (λ x. (x.0, x.1.now)) cause result (object_at (value_at level) bytes.now) }
 {
     let (members, rest) = members_of(alloc, level, bytes)?;
@@ -129,7 +129,7 @@ fn object_of(alloc: Global, level: u32, bytes: &[u8]) -> Result<(Json, &[u8]), S
 
 /// The members up to the closing brace, and the bytes after it.
 #[cycle(values)]
-fn members_of(alloc: Global, level: u32, bytes: &[u8]) -> Result<(Seq<Member>, &[u8]), Stop>
+fn members_of(alloc: Global, level: u32, bytes: &[u8]) -> Result<(Seq<Member>, &[u8]), ReadStop>
     ensures { GivesAs (λ x. (x.0, x.1.now)) cause result (sequence_at 125 (member_at (value_at level)) bytes.now) }
 {
     let mut rest = skip_white(bytes);

@@ -6,7 +6,7 @@ ghost use Rattle.json_exact.specs.Reading.{is_white};
 ghost use Rattle.fixed_num.specs.Front.{first};
 ghost use Rattle.json_exact.specs.inner.Reader.{cause, skip_white, after_word};
 
-use crate::error::{Stop, fault_at};
+use crate::error::{ReadStop, fault_at};
 
 /// The first byte, 0 where there is none.
 pub fn first_of(bytes: &[u8]) -> u8
@@ -48,7 +48,7 @@ pub fn skip_white(bytes: &[u8]) -> &[u8]
 }
 
 /// The bytes after the word that stands at the front.
-pub fn after_word<'a>(bytes: &'a [u8], word: &[u8]) -> Result<&'a [u8], Stop>
+pub fn after_word<'a>(bytes: &'a [u8], word: &[u8]) -> Result<&'a [u8], ReadStop>
     ensures { GivesAs (λ x. x.now) cause result (after_word word.now bytes.now) }
 {
     let mut rest = bytes;

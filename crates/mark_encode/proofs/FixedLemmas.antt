@@ -10,7 +10,6 @@ use Rattle.cell_value.specs.Datum.{CellAt}
 use Rattle.expr_syntax.specs.declared.expr.Expr.{Expr}
 use Rattle.expr_eval.specs.Values.{Values}
 use Rattle.expr_eval.specs.Value.{truth_of}
-use Rattle.scene_tree.specs.declared.shape.Shape.{Shape}
 use Rattle.mark_shapes.specs.declared.shown.Shown.{Shown}
 use Rattle.mark_shapes.specs.declared.shown.Shown.TheVariants.{Absent}
 use Rattle.mark_shapes.specs.declared.texts.TextStyle.{TextStyle}

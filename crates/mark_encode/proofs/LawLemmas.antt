@@ -1,7 +1,6 @@
 -- Why the items of a mark are those of its rows in turn, and come part by part.
 use Rattle.std.proofs.Common.{◌≡◌, ℕ, false, ℤ, Option, Some, None, List, [], ◌∷◌, ◌++◌, map, refl, sym, ap, ◌∙◌, append_assoc}
 use Rattle.std.specs.Option.{option_map, option_to_list}
-use Rattle.std.specs.List.{filter_map}
 use Rattle.fixed_num.specs.Ranges.{◌>>=◌, all_found}
 use Rattle.cell_value.specs.Datum.{Datum}
 use Rattle.expr_eval.specs.Values.{Values}

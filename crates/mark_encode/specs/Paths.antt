@@ -19,7 +19,7 @@ use Rattle.vega_spec.specs.declared.marks.MarkType.{MarkType}
 use Rattle.vega_spec.specs.declared.marks.MarkType.TheVariants as mark
 use Rattle.mark_shapes.specs.declared.looks.Look.{Look}
 use Rattle.mark_shapes.specs.declared.runs.Pass.{Pass}
-use Rattle.mark_shapes.specs.declared.runs.Stop.{Stop}
+use Rattle.mark_shapes.specs.declared.runs.PathStop.{PathStop}
 use Rattle.mark_shapes.specs.Runs.{points_of}
 use Rattle.mark_shapes.specs.Paths.{pass_of, path_item, path_look, stop_at}
 use Rattle.mark_encode.specs.declared.channels.ChannelName.{ChannelName}
@@ -50,14 +50,14 @@ pass_for along values cells = do
   Some (pass_of n m f)
 
 -- where a path passes for a row; it has a gap where the row lacks a place
-abbrev pub stop_for : PathValues → Values → CellAt → Option (Option Stop)
+abbrev pub stop_for : PathValues → Values → CellAt → Option (Option PathStop)
 stop_for path values cells = do
   x ← pass_for path.across values cells
   y ← pass_for path.down values cells
   Some (stop_at x y)
 
 -- the stops of a path, one for each row
-abbrev pub stops_for : PathValues → Values → List Datum → Option (List (Option Stop))
+abbrev pub stops_for : PathValues → Values → List Datum → Option (List (Option PathStop))
 stops_for path values rows = all_found (map (λ (row : Datum). stop_for path values row.cell) rows)
 
 -- how a path is painted by its first row

@@ -20,7 +20,7 @@ use crate::prepared::{FarNumbers, Numbers, far_numbers_of, no_far_numbers, numbe
 use crate::scales::IndexedSet;
 use cell_value::{Keyed, TextPool};
 use expr_eval::{EvalError, ParamReader};
-use mark_shapes::{Look, Pass, Stop, pass_of, path_item, path_look, points_of, stop_at};
+use mark_shapes::{Look, Pass, PathStop, pass_of, path_item, path_look, points_of, stop_at};
 use scene_tree::Item;
 use std::alloc::Global;
 use text_kit::{OutOfMemory, Seq};
@@ -135,7 +135,7 @@ fn stop_for<P: ParamReader>(
     path: &PathChannels,
     row: &Keyed,
     params: &P,
-) -> Result<Option<Stop>, EvalError>
+) -> Result<Option<PathStop>, EvalError>
     requires { row.now.key.id ≤ greatest_id }
     ensures { Evaluates result (stop_for (path_values path.now) (P.values params.now) (cell_at row.now)) }
 {
@@ -150,7 +150,7 @@ fn stops_for<P: ParamReader>(
     path: &PathChannels,
     rows: &[&Keyed],
     params: &P,
-) -> Result<Seq<Option<Stop>>, EvalError>
+) -> Result<Seq<Option<PathStop>>, EvalError>
     requires { HaveIds rows.now }
     ensures { Evaluates result (stops_for (path_values path.now) (P.values params.now) (data_of rows.now)) }
 {

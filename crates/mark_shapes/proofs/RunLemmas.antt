@@ -5,7 +5,7 @@ use Rattle.std.proofs.Math.Seq.{drop-cons}
 use Rattle.std.proofs.lemmas.List.{append-nil, drop_all}
 use Rattle.std.proofs.lemmas.Result.{on_ok_weaker}
 use Rattle.scene_tree.specs.declared.shape.Point.{Point}
-use Rattle.mark_shapes.specs.declared.runs.Stop.{Stop}
+use Rattle.mark_shapes.specs.declared.runs.PathStop.{PathStop}
 use Rattle.mark_shapes.specs.Runs.{begun_with, parts, has_any, run_points, points_of}
 use Rattle.mark_shapes.specs.inner.Begun.{ahead, points_behind, GoOn}
 
@@ -26,29 +26,29 @@ module _ {X : Type 0} where
   grown run x (p ∷ ps) = ap (λ q. q ∷ ps) (sym (append_assoc run (x ∷ []) p))
 
 module _ (closed : Bool) where
-  abbrev of_runs : List (List Stop) → List Point
+  abbrev of_runs : List (List PathStop) → List Point
   of_runs ps = flat_map (run_points closed) (filter has_any ps)
 
-  none_begun : (stops : List (Option Stop)) → points_behind closed [] stops ≡ points_of closed stops
+  none_begun : (stops : List (Option PathStop)) → points_behind closed [] stops ≡ points_of closed stops
   none_begun stops = ap of_runs (parts_alone stops)
 
-  first_run : (run : List Stop) (ps : List (List Stop)) → of_runs (run ∷ ps) ≡ of_runs (run ∷ []) ++ of_runs ps
+  first_run : (run : List PathStop) (ps : List (List PathStop)) → of_runs (run ∷ ps) ≡ of_runs (run ∷ []) ++ of_runs ps
   first_run [] ps = refl
   first_run (s ∷ run) ps = ap (λ points. points ++ of_runs ps) (sym (append-nil (run_points closed (s ∷ run))))
 
   -- with no run begun, all points are behind
-  pub begins : (points : List Point) (run : List Stop) (stops : List (Option Stop)) → points ≡ [] → run ≡ []
+  pub begins : (points : List Point) (run : List PathStop) (stops : List (Option PathStop)) → points ≡ [] → run ≡ []
       → points ++ points_behind closed run stops ≡ points_of closed stops
   begins points run stops none fresh =
       ap (λ l. l ++ points_behind closed run stops) none ∙ ap (λ r. points_behind closed r stops) fresh ∙ none_begun stops
 
   -- a stop goes to the run
-  one_stop : (points : List Point) (run longer : List Stop) (s : Stop) → longer ≡ run ++ s ∷ [] → GoOn closed points run (Some s) points longer
+  one_stop : (points : List Point) (run longer : List PathStop) (s : PathStop) → longer ≡ run ++ s ∷ [] → GoOn closed points run (Some s) points longer
   one_stop points run longer s is stops =
       ap (λ r. points ++ points_behind closed r stops) is ∙ ap (λ ps. points ++ of_runs ps) (sym (grown run s (parts stops)))
 
   -- a gap ends the run
-  one_gap : (points more : List Point) (run after : List Stop) → more ≡ points ++ points_behind closed run [] → after ≡ []
+  one_gap : (points more : List Point) (run after : List PathStop) → more ≡ points ++ points_behind closed run [] → after ≡ []
       → GoOn closed points run None more after
   one_gap points more run after adds none stops =
       ap (λ r. more ++ points_behind closed r stops) none
@@ -58,34 +58,34 @@ module _ (closed : Bool) where
       ∙ ap (λ l. points ++ l) (sym (first_run (run ++ []) (parts stops)))
 
   -- the same, of calls that answered
-  pub goes_on : {T E : Type 0} (r : Result T E) (points : List Point) (run longer : List Stop) (s : Stop) → OnOk r (longer ≡ run ++ s ∷ [])
+  pub goes_on : {T E : Type 0} (r : Result T E) (points : List Point) (run longer : List PathStop) (s : PathStop) → OnOk r (longer ≡ run ++ s ∷ [])
       → OnOk r (GoOn closed points run (Some s) points longer)
   goes_on r points run longer s = on_ok_weaker r (one_stop points run longer s)
 
-  pub ends_run : {T E : Type 0} (r : Result T E) (points more : List Point) (run after : List Stop)
+  pub ends_run : {T E : Type 0} (r : Result T E) (points more : List Point) (run after : List PathStop)
       → OnOk r (more ≡ points ++ points_behind closed run []) → OnOk r (after ≡ []) → OnOk r (GoOn closed points run None more after)
   ends_run (Ok x) points more run after adds none = one_gap points more run after adds none
   ends_run (Err e) points more run after adds none = tt
 
   -- the end of a run without a stop adds nothing
-  pub ends_empty : (points : List Point) (run : List Stop) → run ≡ [] → points ≡ points ++ points_behind closed run []
+  pub ends_empty : (points : List Point) (run : List PathStop) → run ≡ [] → points ≡ points ++ points_behind closed run []
   ends_empty points run none =
       sym (append-nil points) ∙ ap (λ r. points ++ points_behind closed r []) (sym none)
 
-  alone : (run : List Stop) → (run ≡ [] → ⊥) → points_behind closed run [] ≡ run_points closed run
+  alone : (run : List PathStop) → (run ≡ [] → ⊥) → points_behind closed run [] ≡ run_points closed run
   alone [] some = absurd (some refl)
   alone (s ∷ run) some =
       append-nil (run_points closed (s ∷ (run ++ []))) ∙ ap (run_points closed) (append-nil (s ∷ run))
 
   -- the end of another adds its points
-  pub ends_full : (points more : List Point) (run seen : List Stop) → (run ≡ [] → ⊥) → seen ≡ run
+  pub ends_full : (points more : List Point) (run seen : List PathStop) → (run ≡ [] → ⊥) → seen ≡ run
       → more ≡ points ++ run_points closed seen → more ≡ points ++ points_behind closed run []
   ends_full points more run seen some same adds =
       adds ∙ ap (λ r. points ++ run_points closed r) same ∙ ap (λ l. points ++ l) (sym (alone run some))
 
-  module _ (stops : List (Option Stop)) (i : ℕ) (whole points more : List Point) (run : List Stop) where
+  module _ (stops : List (Option PathStop)) (i : ℕ) (whole points more : List Point) (run : List PathStop) where
     -- one stop or gap more
-    pub one_passed : (d : Option Stop) (after : List Stop) → i < length stops → d ≡ get_or stops i d
+    pub one_passed : (d : Option PathStop) (after : List PathStop) → i < length stops → d ≡ get_or stops i d
         → points ++ points_behind closed run (drop i stops) ≡ whole → GoOn closed points run d more after
         → more ++ points_behind closed after (drop (i + 1) stops) ≡ whole
     one_passed d after within is before passed =

@@ -7,7 +7,7 @@ use Rattle.scene_tree.specs.declared.shape.Point.{Point}
 use Rattle.scene_tree.specs.declared.shape.Shape.TheVariants.{Path}
 use Rattle.mark_shapes.specs.declared.looks.Look.{Look}
 use Rattle.mark_shapes.specs.declared.runs.Pass.{Pass}
-use Rattle.mark_shapes.specs.declared.runs.Stop.{Stop}
+use Rattle.mark_shapes.specs.declared.runs.PathStop.{PathStop}
 use Rattle.mark_shapes.specs.declared.shown.Shown.{Shown}
 use Rattle.mark_shapes.specs.declared.shown.Shown.TheVariants.{Absent, Lacking, Given}
 use Rattle.mark_shapes.specs.Shown.{or_default}
@@ -23,7 +23,7 @@ pass_of near middle far = do
   Some (record { there = there; back = back })
 
 -- where a path passes by its passes along x and y, if it has both
-abbrev pub stop_at : Option Pass → Option Pass → Option Stop
+abbrev pub stop_at : Option Pass → Option Pass → Option PathStop
 stop_at across down = do
   x ← across
   y ← down

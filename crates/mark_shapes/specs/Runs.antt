@@ -3,7 +3,7 @@ use Rattle.std.specs.Prelude.{◌≡◌, refl, ℕ, Bool, true, false, ◌*◌, 
 use Rattle.fixed_num.specs.Number.{million}
 use Rattle.scene_tree.specs.declared.shape.Point.{Point}
 use Rattle.scene_tree.specs.declared.shape.Point.TheVariants.{Move, Line, Close}
-use Rattle.mark_shapes.specs.declared.runs.Stop.{Stop}
+use Rattle.mark_shapes.specs.declared.runs.PathStop.{PathStop}
 
 -- an element put before the first of some lists
 abbrev pub begun_with : {X : Type 0} → X → List (List X) → List (List X)
@@ -25,31 +25,31 @@ abbrev pub runs : {X : Type 0} → List (Option X) → List (List X)
 runs xs = filter has_any (parts xs)
 
 -- the steps of a path to a stop, on the way there and on the way back
-abbrev pub move_there : Stop → Point
+abbrev pub move_there : PathStop → Point
 move_there s = Move s.across.there s.down.there
 
-abbrev pub line_there : Stop → Point
+abbrev pub line_there : PathStop → Point
 line_there s = Line s.across.there s.down.there
 
-abbrev pub line_back : Stop → Point
+abbrev pub line_back : PathStop → Point
 line_back s = Line s.across.back s.down.back
 
 -- the way there over a run: to its first stop, and along a line to each other
-abbrev pub way_there : List Stop → List Point
+abbrev pub way_there : List PathStop → List Point
 way_there [] = []
 way_there (first ∷ others) = move_there first ∷ map line_there others
 
 -- the way back over a run: along a line to each stop, from the last to the first, and to where it began
-abbrev pub way_back : List Stop → List Point
+abbrev pub way_back : List PathStop → List Point
 way_back run = map line_back (reverse run) ++ Close ∷ []
 
 -- the points of a run; where the path is closed, it comes back
-abbrev pub run_points : Bool → List Stop → List Point
+abbrev pub run_points : Bool → List PathStop → List Point
 run_points false run = way_there run
 run_points true run = way_there run ++ way_back run
 
 -- the points of a path over stops: those of its runs, one after the other
-abbrev pub points_of : Bool → List (Option Stop) → List Point
+abbrev pub points_of : Bool → List (Option PathStop) → List Point
 points_of closed stops = flat_map (run_points closed) (runs stops)
 
 -- The rules at work.
@@ -64,10 +64,10 @@ no_runs : (runs {X = ℕ} (None ∷ None ∷ []) ≡ []) × (runs {X = ℕ} [] �
 no_runs = (refl, refl)
 
 -- a stop that is the same there and back, and one with a way back at a height of its own
-abbrev at_spot : ℕ → ℕ → Stop
+abbrev at_spot : ℕ → ℕ → PathStop
 at_spot x y = record { across = record { there = pos x; back = pos x }; down = record { there = pos y; back = pos y } }
 
-abbrev over : ℕ → ℕ → ℕ → Stop
+abbrev over : ℕ → ℕ → ℕ → PathStop
 over x y base = record { across = record { there = pos x; back = pos x }; down = record { there = pos y; back = pos base } }
 
 -- a line with a gap: M0,200 L66.666667,100 M200,0

@@ -22,7 +22,7 @@ pub use paths::{pass_of, path_item, path_look, stop_at};
 pub use places::place_of;
 pub use rects::rect_over;
 pub use rules::{Ends, ends_of, line_between};
-pub use runs::{Pass, Stop, points_of};
+pub use runs::{Pass, PathStop, points_of};
 pub use shown::{Shown, or_default, shown_color, shown_number, shown_shared};
 pub use spans::{Span, span_of};
 pub use symbols::{Symbol, radius_of, side_shown, symbol_about, symbol_of};

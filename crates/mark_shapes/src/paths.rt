@@ -4,7 +4,7 @@ ghost use Rattle.mark_shapes.specs.Paths.{pass_of, stop_at, given_or_absent, pat
 
 use crate::looks::{Look, look_of};
 use crate::places::place_of;
-use crate::runs::{Pass, Stop};
+use crate::runs::{Pass, PathStop};
 use crate::shown::{Shown, or_default};
 use cell_value::SharedText;
 use fixed_num::Num;
@@ -21,10 +21,10 @@ pub fn pass_of(near: Shown<Num>, middle: Shown<Num>, far: Shown<Num>) -> Option<
 }
 
 /// Where a path passes, if it has a pass along x and one along y.
-pub fn stop_at(across: Option<Pass>, down: Option<Pass>) -> Option<Stop>
+pub fn stop_at(across: Option<Pass>, down: Option<Pass>) -> Option<PathStop>
     ensures { result ≡ stop_at across down }
 {
-    Some(Stop {
+    Some(PathStop {
         across: across?,
         down: down?,
     })

@@ -19,7 +19,7 @@ pub struct Pass {
 
 /// Where a path passes for a row.
 #[derive(Clone, Copy, Debug)]
-pub struct Stop {
+pub struct PathStop {
     /// Along x.
     pub across: Pass,
     /// Along y.
@@ -27,28 +27,28 @@ pub struct Stop {
 }
 
 // The step of a path that moves to a stop on the way there.
-fn move_there(stop: &Stop) -> Point
+fn move_there(stop: &PathStop) -> Point
     ensures { result ≡ move_there stop.now }
 {
     Point::Move(stop.across.there, stop.down.there)
 }
 
 // The step of a path that draws to a stop on the way there.
-fn line_there(stop: &Stop) -> Point
+fn line_there(stop: &PathStop) -> Point
     ensures { result ≡ line_there stop.now }
 {
     Point::Line(stop.across.there, stop.down.there)
 }
 
 // The step of a path that draws to a stop on the way back.
-fn line_back(stop: &Stop) -> Point
+fn line_back(stop: &PathStop) -> Point
     ensures { result ≡ line_back stop.now }
 {
     Point::Line(stop.across.back, stop.down.back)
 }
 
 // Adds the way there over a run.
-fn push_way_there(points: &mut Seq<Point>, run: &[Stop]) -> Result<(), OutOfMemory>
+fn push_way_there(points: &mut Seq<Point>, run: &[PathStop]) -> Result<(), OutOfMemory>
     ensures { OnOk result (points.new ≡ points.old ++ way_there run.now) }
 {
     let [first, others @ ..] = run else {
@@ -62,14 +62,18 @@ fn push_way_there(points: &mut Seq<Point>, run: &[Stop]) -> Result<(), OutOfMemo
 }
 
 // The lines of the way back over a run.
-fn lines_back(alloc: Global, run: &[Stop]) -> Result<Vec<Point>, OutOfMemory>
+fn lines_back(alloc: Global, run: &[PathStop]) -> Result<Vec<Point>, OutOfMemory>
     ensures { IfOk result (λ lines. lines.items ≡ map line_back (reverse run.now)) }
 {
     Ok(run.iter().rev().map(line_back).collect(alloc)?)
 }
 
 // Adds the way back over a run, and closes it.
-fn push_way_back(alloc: Global, points: &mut Seq<Point>, run: &[Stop]) -> Result<(), OutOfMemory>
+fn push_way_back(
+    alloc: Global,
+    points: &mut Seq<Point>,
+    run: &[PathStop],
+) -> Result<(), OutOfMemory>
     ensures { OnOk result (points.new ≡ points.old ++ way_back run.now) }
 {
     points.append(Seq::from_vec(lines_back(alloc, run)?))?;
@@ -81,7 +85,7 @@ fn push_run(
     alloc: Global,
     points: &mut Seq<Point>,
     closed: bool,
-    run: &[Stop],
+    run: &[PathStop],
 ) -> Result<(), OutOfMemory>
     ensures { OnOk result (points.new ≡ points.old ++ run_points closed run.now) }
 {
@@ -97,7 +101,7 @@ fn end_run(
     alloc: Global,
     points: &mut Seq<Point>,
     closed: bool,
-    run: &mut Seq<Stop>,
+    run: &mut Seq<PathStop>,
 ) -> Result<(), OutOfMemory>
     ensures points { OnOk result (points.new ≡ points.old ++ points_behind closed run.old []) }
     ensures run { OnOk result (run.new ≡ []) }
@@ -115,8 +119,8 @@ fn go_on(
     alloc: Global,
     points: &mut Seq<Point>,
     closed: bool,
-    run: &mut Seq<Stop>,
-    stop: Option<Stop>,
+    run: &mut Seq<PathStop>,
+    stop: Option<PathStop>,
 ) -> Result<(), OutOfMemory>
     ensures { OnOk result (GoOn closed points.old run.old stop points.new run.new) }
 {
@@ -131,7 +135,7 @@ fn go_on(
 pub fn points_of(
     alloc: Global,
     closed: bool,
-    stops: &[Option<Stop>],
+    stops: &[Option<PathStop>],
 ) -> Result<Seq<Point>, OutOfMemory>
     ensures { IfOk result (λ points. points ≡ points_of closed stops.now) }
 {

@@ -1,5 +1,5 @@
 -- Why a state without a further id is one of a specification.
-use Rattle.std.proofs.Common.{◌≡◌, ◌<◌, ◌≤◌, ◌+◌, ℕ, arith}
+use Rattle.std.proofs.Common.{◌<◌, ◌+◌, arith}
 use Rattle.std.proofs.lemmas.List.Elements.{All-weaker}
 use Rattle.cell_value.specs.State.{State, all_rows, ids_of, greatest_id}
 use Rattle.vega_spec.specs.declared.spec.VgSpec.{VgSpec}

@@ -1,22 +1,21 @@
 -- Why two meanings that agree on states are one to the machine.
-use Rattle.std.proofs.Common.{◌≡◌, ◌≢◌, ℕ, suc, Bool, true, false, not, ◌&&◌, Option, Some, None, List, [], ◌∷◌, ◌++◌, refl, sym, ap, subst, ◌∙◌}
+use Rattle.std.proofs.Common.{◌≡◌, ℕ, suc, Bool, true, false, not, ◌&&◌, Option, Some, None, List, refl, sym, ap, subst, ◌∙◌}
 use Rattle.std.specs.Prelude.{if◌then◌else◌}
 use Rattle.std.specs.List.{list_any, list_all}
 use Rattle.std.specs.Str.{bytes_eq}
 use Rattle.cell_value.specs.declared.cell.Cell.{Cell}
 use Rattle.cell_value.specs.State.{State}
 use Rattle.data_rows.specs.JsonRows.{first_bad}
-use Rattle.scene_tree.specs.Outcome.{Drawn, outcome_map}
+use Rattle.scene_tree.specs.Outcome.{outcome_map}
 use Rattle.param_flow.specs.declared.command.ChangeOf.{ChangeOf}
 use Rattle.param_flow.specs.declared.command.Command.{Command}
 use Rattle.param_flow.specs.declared.command.Command.TheVariants.{Change, Set, Event as OfMouse, Print}
 use Rattle.param_flow.specs.declared.event.Event.{Event}
 use Rattle.param_flow.specs.declared.reply.Reply.{Reply}
-use Rattle.param_flow.specs.declared.reply.Reply.TheVariants.{Done, Refused}
+use Rattle.param_flow.specs.declared.reply.Reply.TheVariants.{Refused}
 use Rattle.param_flow.specs.declared.reply.Cause.TheVariants as cause
 use Rattle.param_flow.specs.Change.{names_of_change}
-use Rattle.param_flow.specs.Commands.{IsCommand}
-use Rattle.param_flow.specs.Semantics.{Semantics, ParamOf, is_settable, text_of, chart_of, has_source, has_param, has_settable}
+use Rattle.param_flow.specs.Semantics.{Semantics, ParamOf, is_settable, text_of, has_settable}
 use Rattle.param_flow.specs.Machine.{reply_to_chart, reply_to_rows, reply_to_state, has_names, is_past_limit, state_changed, state_set, state_if}
 use Rattle.param_flow.specs.Machine.{reply_to_change, reply_to_set, reply_to_event, reply_of, state_after, state_on, state_by}
 use Rattle.param_flow.specs.States.{IsStateFor, IsMeaning}

@@ -1,24 +1,21 @@
 -- Why the state after a command is again a state of the specification.
-use Rattle.std.proofs.Common.{◌≡◌, ℕ, zero, suc, ◌+◌, ◌<◌, Bool, true, false, cond, not, ◌&&◌, ◌||◌, nat_lt, Option, Some, None, List, [], ◌∷◌, ◌++◌}
+use Rattle.std.proofs.Common.{◌≡◌, ℕ, suc, ◌+◌, ◌<◌, Bool, true, false, cond, not, ◌&&◌, ◌||◌, nat_lt, Option, Some, None, List, [], ◌∷◌}
 use Rattle.std.proofs.Common.{length, map, refl, sym, ap, ap₂, subst, ◌∙◌, arith}
 use Rattle.std.specs.Prelude.{if◌then◌else◌, sum_by}
 use Rattle.std.specs.Option.{option_map}
 use Rattle.std.specs.List.{list_any, list_all}
 use Rattle.std.specs.Str.{bytes_eq}
 use Rattle.std.proofs.lemmas.Slice.Eq.{bytes_eq-Decides}
-use Rattle.fixed_num.specs.Ranges.{◌>>=◌, all_found}
+use Rattle.fixed_num.specs.Ranges.{◌>>=◌}
 use Rattle.cell_value.specs.declared.cell.Cell.{Cell}
 use Rattle.cell_value.specs.declared.state.StoreOf.{StoreOf}
 use Rattle.cell_value.specs.Datum.{Datum}
 use Rattle.cell_value.specs.State.{Dataset, State, IsState, most_rows, greatest_id}
 use Rattle.data_rows.specs.JsonRows.{first_bad}
-use Rattle.expr_eval.specs.Values.{Values}
 use Rattle.scene_tree.specs.Outcome.{Outcome, Drawn, Overflow, Panels}
-use Rattle.selection_events.specs.Events.{Seen}
 use Rattle.selection_events.specs.Kept.{AreStoresOf, IsSeenOf}
 use Rattle.selection_events.proofs.KeptLemmas.{clicks_keep_stores, toggles_keep_stores, clears_keep_stores, drags_keep_stores}
 use Rattle.param_flow.specs.declared.command.ChangeOf.{ChangeOf}
-use Rattle.param_flow.specs.declared.command.Command.{Command}
 use Rattle.param_flow.specs.declared.command.Command.TheVariants.{Change, Set, Event as OfMouse, Print}
 use Rattle.param_flow.specs.declared.event.Event.{Event}
 use Rattle.param_flow.specs.declared.event.Event.TheVariants as mouse
@@ -26,12 +23,12 @@ use Rattle.param_flow.specs.declared.reply.Reply.{Reply}
 use Rattle.param_flow.specs.declared.reply.Reply.TheVariants.{Done, Refused}
 use Rattle.param_flow.specs.declared.reply.Cause.TheVariants as cause
 use Rattle.param_flow.specs.Change.{names_of_change}
-use Rattle.param_flow.specs.Semantics.{Semantics, Picture, seen_of, has_source, has_param, has_settable}
-use Rattle.param_flow.specs.Machine.{with_value, source_after, state_changed, state_set, count_left, is_past_limit, reply_to_rows, reply_to_state, has_names}
-use Rattle.param_flow.specs.Machine.{reply_to_change, reply_to_set, reply_to_event, reply_of, state_after, state_if, stores_on, with_stores, state_on, state_by}
-use Rattle.param_flow.specs.States.{settable_names, IsStateFor, IsMeaning}
+use Rattle.param_flow.specs.Semantics.{Semantics, Picture, seen_of, has_source, has_param}
+use Rattle.param_flow.specs.Machine.{with_value, state_changed, state_set, count_left, is_past_limit, reply_to_rows, reply_to_state}
+use Rattle.param_flow.specs.Machine.{has_names, reply_to_change, reply_to_set, reply_to_event, state_if, stores_on, state_on, state_by}
+use Rattle.param_flow.specs.States.{IsStateFor, IsMeaning}
 use Rattle.param_flow.specs.Laws.{StatesAreKept}
-use Rattle.param_flow.specs.inner.Sources.{data_at, with_data, rows_in, names_of, name_at, AreApart, new_data, state_in, rows_changed, staying_in_all, is_past}
+use Rattle.param_flow.specs.inner.Sources.{with_data, names_of, name_at, AreApart, new_data, state_in, rows_changed, staying_in_all, is_past}
 use Rattle.param_flow.proofs.StateRows.{still_state, names_stay}
 use Rattle.param_flow.proofs.SourcePlaces.{changed_at, counted_at, few_at}
 

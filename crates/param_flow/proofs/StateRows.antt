@@ -2,7 +2,7 @@
 use Rattle.std.proofs.Common.{◌≡◌, ℕ, zero, suc, ◌+◌, ◌<◌, ◌≤◌, false, ◌||◌, nat_lt, Option, Some, None, List, [], ◌∷◌, ◌++◌}
 use Rattle.std.proofs.Common.{length, map}
 use Rattle.std.proofs.Common.{refl, sym, ap, subst, ◌∙◌, arith, append_assoc, length-append}
-use Rattle.std.specs.Prelude.{◌≢◌, flat_map}
+use Rattle.std.specs.Prelude.{◌≢◌}
 use Rattle.std.specs.List.{All, AllPairs}
 use Rattle.std.specs.Option.{option_map}
 use Rattle.std.proofs.lemmas.Bool.{or_parts, ltb-false}
@@ -20,7 +20,6 @@ use Rattle.cell_value.specs.State.{Dataset, ids_of, most_rows, greatest_id, Read
 use Rattle.data_rows.specs.JsonRows.{row_of_json}
 use Rattle.param_flow.specs.declared.command.ChangeOf.{ChangeOf}
 use Rattle.param_flow.specs.Change.{rows_after}
-use Rattle.param_flow.specs.Machine.{new_rows}
 use Rattle.expr_eval.specs.Values.{Values}
 use Rattle.cell_value.specs.declared.state.StoreOf.{StoreOf}
 use Rattle.param_flow.specs.inner.Sources.{data_at, with_data, rows_in, new_data, state_in, rows_changed, staying_in_all, is_past}

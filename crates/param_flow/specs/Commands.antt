@@ -1,5 +1,5 @@
 -- Which lines of a script are commands.
-use Rattle.std.specs.Prelude.{◌≡◌, refl, ℕ, ℤ, pos, Bool, true, false, Option, Some, None, List, [], ◌∷◌, length, map, if◌then◌else◌, codes}
+use Rattle.std.specs.Prelude.{◌≡◌, refl, ℕ, ℤ, pos, Bool, Option, Some, None, List, [], ◌∷◌, length, map, if◌then◌else◌, codes}
 use Rattle.std.specs.List.{list_all, list_any}
 use Rattle.std.specs.Option.{option_map}
 use Rattle.std.specs.Str.{bytes_eq}

@@ -31,7 +31,7 @@ use Rattle.selection_events.specs.declared.selection.PlotOf.{PlotOf}
 use Rattle.selection_events.specs.Events.{Seen, stores_clicked, stores_toggled, stores_cleared, stores_dragged}
 use Rattle.data_rows.specs.JsonRows.{row_of_json, first_bad}
 use Rattle.param_flow.specs.Change.{names_of_change, rows_after, count_staying}
-use Rattle.param_flow.specs.Semantics.{Semantics, ParamOf, Picture, seen_over, has_source, has_param, has_settable}
+use Rattle.param_flow.specs.Semantics.{Semantics, Picture, seen_over, has_source, has_param, has_settable}
 use Rattle.param_flow.specs.Semantics as kind
 
 -- the inserted rows, in order: their ids count on from the next one

@@ -1,5 +1,5 @@
 // Settings of parameters.
-ghost use Rattle.std.specs.Prelude.{◌≡◌, ◌++◌, ◌∷◌, [], map, IfOk, OnOk};
+ghost use Rattle.std.specs.Prelude.{◌≡◌, map, IfOk};
 ghost use Rattle.vega_spec.specs.Names.{parameters_of};
 ghost use Rattle.param_flow.specs.Machine.{with_value};
 ghost use Rattle.param_flow.specs.Settings.{is_settable, has_name, has_settable, params_set, SetsAs};

@@ -1,5 +1,5 @@
 // The width of bins.
-ghost use Rattle.std.specs.Prelude.{◌≡◌, ◌*◌, ◌<◌, ◌≤◌, ◌<ℤ◌, ◌^◌, pos, nat_le, find, IfSome};
+ghost use Rattle.std.specs.Prelude.{◌≡◌, ◌*◌, ◌<◌, ◌≤◌, ◌<ℤ◌, pos, nat_le, find, IfSome};
 ghost use Rattle.std.specs.Option.{option_map};
 ghost use Rattle.fixed_num.specs.Number.{limit};
 ghost use Rattle.plain_bins.specs.Steps.{positive_or, span_of, step_for, step_of};

@@ -1,14 +1,10 @@
 -- Why edits are put in place, and taken back.
-use Rattle.std.proofs.Common.{◌≡◌, ℕ, ◌+◌, List, [], ◌∷◌, ◌++◌, length, take, drop, Option, Some, None, MatchOption}
-use Rattle.std.proofs.Common.{refl, sym, ap, ◌∙◌, arith, append_assoc}
-use Rattle.std.specs.Prelude.{unwrap_or}
-use Rattle.std.specs.Option.{option_to_list}
+use Rattle.std.proofs.Common.{◌≡◌, List, [], ◌∷◌, ◌++◌, length, refl, ap, arith}
 use Rattle.cell_value.specs.declared.state.Keyed.{Keyed}
 use Rattle.plain_engine.specs.declared.edits.Edit.{Edit}
 use Rattle.plain_engine.specs.declared.edits.Edit.TheVariants.{Stay, Remove, Modify}
-use Rattle.plain_engine.specs.declared.undo.Mark.{Mark}
-use Rattle.plain_engine.specs.inner.Edits.{after_edit, edited}
-use Rattle.plain_engine.specs.inner.Undo.{mark_of, marked, restored}
+use Rattle.plain_engine.specs.inner.Edits.{edited}
+use Rattle.plain_engine.specs.inner.Undo.{marked, restored}
 
 -- what is made of rows is taken back by their marks
 pub marks_restore : (edits : List Edit) (rows more : List Keyed) → length edits ≡ length rows

@@ -1,6 +1,6 @@
 -- Choices that are counted and not made.
-use Rattle.std.proofs.Common.{◌≡◌, ℕ, zero, suc, ◌+◌, ◌-◌, ◌*◌, ◌^◌, ◌<◌, ◌≤◌, min, Bool, true, false, cond, List, [], ◌∷◌, ◌++◌, map}
-use Rattle.std.proofs.Common.{flat_map, length, drop, get_or, leb, refl, sym, ap, ap₂, ◌∙◌, arith, mul-zero, zero-mul, mul-suc, suc-mul}
+use Rattle.std.proofs.Common.{◌≡◌, ℕ, zero, suc, ◌+◌, ◌-◌, ◌*◌, ◌<◌, ◌≤◌, min, Bool, true, false, cond, List, [], ◌∷◌, map, flat_map}
+use Rattle.std.proofs.Common.{length, drop, get_or, leb, sym, ap, ap₂, ◌∙◌, arith, mul-zero, zero-mul, mul-suc, suc-mul}
 use Rattle.std.proofs.lemmas.Bool.{leb-true, leb-false}
 use Rattle.std.proofs.lemmas.List.{drop_all, drop_more, length-append, length-map}
 use Rattle.cell_value.specs.declared.cell.Cell.{Cell}

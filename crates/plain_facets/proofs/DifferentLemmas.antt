@@ -1,18 +1,18 @@
 -- Why no two copies have the same cells.
-use Rattle.std.proofs.Common.{◌≡◌, ◌≢◌, ℕ, zero, suc, ◌+◌, ◌<◌, Bool, true, false, cond, ◌||◌, List, [], ◌∷◌, ◌++◌, map, flat_map, length, get_or}
-use Rattle.std.proofs.Common.{Option, Some, None, is_some, unwrap_or, All, AllPairs, refl, sym, ap, subst, ◌∙◌, arith}
+use Rattle.std.proofs.Common.{◌≡◌, ◌≢◌, ℕ, zero, suc, ◌+◌, Bool, true, false, cond, ◌||◌, List, [], ◌∷◌, ◌++◌, map, flat_map, length}
+use Rattle.std.proofs.Common.{get_or, Option, Some, None, is_some, unwrap_or, All, AllPairs, refl, sym, ap, subst, ◌∙◌, arith}
 use Rattle.std.specs.Prelude.{slice_get}
 use Rattle.std.specs.List.{list_any, position_from, enumerate_from}
-use Rattle.std.specs.Ordering.{is_lt, ordering_reverse, then_cmp, on, flip_args}
+use Rattle.std.specs.Ordering.{ordering_reverse}
 use Rattle.std.specs.declared.cmp.Ordering.{Ordering}
-use Rattle.std.specs.declared.cmp.Ordering.TheVariants.{Less, Equal, Greater}
+use Rattle.std.specs.declared.cmp.Ordering.TheVariants.{Less, Equal}
 use Rattle.std.specs.Cmp.{IsTotalOrder, tied_itself, then_total, on_total, back_total}
 use Rattle.std.specs.Cmp.Lexicographic.{nat_list_cmp_total, lists_total}
 use Rattle.std.proofs.lemmas.Bool.{cond_both}
 use Rattle.std.proofs.lemmas.List.Elements.{All-nil, All-cons, All-head, All-tail, All-weaker, All-append, All-map}
 use Rattle.std.proofs.lemmas.List.Kept.{AllPairs-cons}
 use Rattle.cell_value.specs.declared.cell.Cell.{Cell}
-use Rattle.cell_value.specs.Cell.{cell_cmp, same_cells}
+use Rattle.cell_value.specs.Cell.{same_cells}
 use Rattle.cell_value.specs.Datum.{Datum}
 use Rattle.cell_value.specs.inner.CellOrder.{cell_cmp_total, same_cells_tell}
 use Rattle.tick_kit.specs.Domains.{placed_in, ascending}
@@ -20,8 +20,8 @@ use Rattle.plain_rows.specs.declared.transforms.SortBy.{SortBy}
 use Rattle.plain_groups.specs.Groups.{firsts_behind, firsts}
 use Rattle.plain_groups.proofs.PlaceLemmas.{by_cases, same_are_equal, same_itself}
 use Rattle.plain_facets.specs.declared.copies.DividedBy.{DividedBy}
-use Rattle.plain_facets.specs.Facets.{key_of, is_key, AreDifferent, home_among, cells_in, pairs_in, by_beside, first_beside, cells_of_field}
-use Rattle.plain_facets.specs.Facets.{by_places, places_among, choices, cells_of_fields, cells_of_rows, cells_with_rows}
+use Rattle.plain_facets.specs.Facets.{key_of, is_key, AreDifferent, cells_in, pairs_in, by_beside, first_beside, cells_of_field, by_places}
+use Rattle.plain_facets.specs.Facets.{places_among, choices, cells_of_fields, cells_of_rows, cells_with_rows}
 use Rattle.plain_facets.specs.Laws.{CopiesAreDifferent, EachIsAtHome}
 use Rattle.plain_facets.proofs.OrderLemmas.{by_ordering}
 

@@ -9,7 +9,7 @@ use Rattle.cell_value.specs.declared.cell.Cell.{Cell}
 use Rattle.cell_value.specs.declared.state.Key.{Key}
 use Rattle.cell_value.specs.Datum.{Datum}
 use Rattle.cell_value.specs.State.{greatest_id}
-use Rattle.plain_rows.specs.Rows.{AreKeys, IsBefore}
+use Rattle.plain_rows.specs.Rows.{IsBefore}
 use Rattle.plain_groups.proofs.PlaceLemmas.{by_cases, same_are_equal, same_itself, equal_itself, passes_there}
 use Rattle.plain_facets.specs.Facets.{key_of, is_key, home_among, members_from}
 use Rattle.plain_facets.specs.Laws.{PartsAreMembers, PartsAreRows}

@@ -1,12 +1,12 @@
 -- Sums over copies, from those that have rows.
-use Rattle.std.proofs.Common.{◌≡◌, ◌≢◌, ℕ, zero, suc, ◌+◌, ◌-◌, ◌<◌, Bool, true, false, cond, not, ◌||◌, List, [], ◌∷◌, ◌++◌, map, flat_map, filter, length}
-use Rattle.std.proofs.Common.{replicate, Option, Some, None, unwrap_or, All, AllPairs, refl, sym, ap, subst, ◌∙◌, arith}
+use Rattle.std.proofs.Common.{◌≡◌, ◌≢◌, ℕ, zero, suc, ◌+◌, ◌-◌, ◌<◌, Bool, true, false, cond, not, ◌||◌, List, [], ◌∷◌, ◌++◌, map, flat_map}
+use Rattle.std.proofs.Common.{filter, length, replicate, Option, Some, None, unwrap_or, All, refl, sym, ap, subst, ◌∙◌, arith}
 use Rattle.std.specs.Prelude.{slice_get, slice_index_or}
 use Rattle.std.specs.List.{list_any, sum, enumerate_from}
 use Rattle.std.specs.Option.{option_map}
 use Rattle.std.specs.Ordering.{is_eq, ordering_then}
 use Rattle.std.specs.declared.cmp.Ordering.{Ordering}
-use Rattle.std.specs.declared.cmp.Ordering.TheVariants.{Less, Equal, Greater}
+use Rattle.std.specs.declared.cmp.Ordering.TheVariants.{Equal}
 use Rattle.std.specs.Cmp.{tied_itself}
 use Rattle.std.specs.Cmp.Lexicographic.{slice_cmp}
 use Rattle.std.proofs.lemmas.Bool.{cond_both}
@@ -19,10 +19,10 @@ use Rattle.fixed_num.specs.Ranges.{◌>>=◌, all_found}
 use Rattle.cell_value.specs.declared.cell.Cell.{Cell}
 use Rattle.cell_value.specs.Cell.{cell_cmp, same_cells}
 use Rattle.cell_value.specs.Datum.{Datum}
-use Rattle.cell_value.specs.inner.CellOrder.{cell_cmp_total, only_equal_cells_tie, same_cells_tell}
+use Rattle.cell_value.specs.inner.CellOrder.{cell_cmp_total, same_cells_tell}
 use Rattle.tick_kit.specs.Domains.{placed_in, ascending}
 use Rattle.plain_rows.specs.declared.transforms.SortBy.{SortBy}
-use Rattle.plain_groups.specs.Groups.{firsts_behind, firsts}
+use Rattle.plain_groups.specs.Groups.{firsts_behind}
 use Rattle.plain_groups.proofs.PlaceLemmas.{by_cases, same_are_equal, same_itself}
 use Rattle.plain_facets.specs.declared.copies.DividedBy.{DividedBy}
 use Rattle.plain_facets.specs.Facets.{key_of, is_key, part_of, AreDifferent, cells_in, pairs_in, by_beside, first_beside, cells_of_field}

@@ -1,6 +1,6 @@
 // How many copies a facet has, before they are made.
 ghost use Rattle.std.specs.Prelude.{◌≡◌, ◌-◌, ◌^◌, true, min, length, IfOk};
-ghost use Rattle.plain_facets.specs.Facets.{choices, cells_of_copies, cells_with_rows, count_without_rows, AreDifferent};
+ghost use Rattle.plain_facets.specs.Facets.{choices, cells_with_rows, count_without_rows, AreDifferent};
 ghost use Rattle.plain_facets.specs.Rows.{data_of, HaveIds};
 
 use crate::copies::{DividedBy, cells_of_fields, cells_of_rows};

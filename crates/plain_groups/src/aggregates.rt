@@ -1,6 +1,5 @@
 // What operations give over the cells of a group.
-ghost use Rattle.std.specs.Prelude.{◌≡◌, [], ◌∷◌, ◌*◌, ◌≤◌, pos, not, count_by, length, IfOk};
-ghost use Rattle.fixed_num.specs.Number.{million};
+ghost use Rattle.std.specs.Prelude.{◌≡◌, [], ◌∷◌, ◌*◌, ◌≤◌, count_by, length, IfOk};
 ghost use Rattle.cell_value.specs.declared.cell.Cell.TheVariants.{Null as NullCell};
 ghost use Rattle.cell_value.specs.Cell.{same_cells};
 ghost use Rattle.expr_eval.specs.Answers.{Evaluates};

@@ -1,5 +1,5 @@
 // The rows of groups.
-ghost use Rattle.std.specs.Prelude.{◌≡◌, ℕ, [], ◌<◌, ◌≤◌, ◌++◌, slice_index_or, map, length, All, IfOk, option_map};
+ghost use Rattle.std.specs.Prelude.{◌≡◌, ℕ, [], ◌<◌, ◌≤◌, slice_index_or, map, length, All, IfOk, option_map};
 ghost use Rattle.cell_value.specs.State.{greatest_id};
 ghost use Rattle.cell_value.specs.Datum.{cell_at, datum_of};
 ghost use Rattle.expr_eval.specs.Answers.{Evaluates};
@@ -7,7 +7,7 @@ ghost use Rattle.fixed_num.specs.Ranges.{all_found};
 ghost use Rattle.plain_rows.specs.Rows.{AreRows, most_listed};
 ghost use Rattle.plain_rows.specs.Answers.{GivesRows};
 ghost use Rattle.plain_groups.specs.GroupRows.{read_by, op_cell, op_cells, field_cells, group_row, aggregated, data_aggregated};
-ghost use Rattle.plain_groups.specs.inner.Places.{row_at, rows_at};
+ghost use Rattle.plain_groups.specs.inner.Places.{rows_at};
 ghost use Rattle.plain_groups.specs.inner.GroupPlaces.{group_at};
 
 use crate::aggregates::aggregate_of;

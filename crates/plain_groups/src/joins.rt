@@ -1,5 +1,5 @@
 // Rows with what their groups give.
-ghost use Rattle.std.specs.Prelude.{◌≡◌, ℕ, [], ◌<◌, ◌≤◌, Some, map, zip, length, All, IfOk, slice_index_or, if◌then◌else◌};
+ghost use Rattle.std.specs.Prelude.{◌≡◌, ℕ, [], ◌<◌, ◌≤◌, Some, map, length, All, IfOk, slice_index_or, if◌then◌else◌};
 ghost use Rattle.cell_value.specs.Datum.{cell_at, datum_of};
 ghost use Rattle.expr_eval.specs.Answers.{Evaluates};
 ghost use Rattle.plain_rows.specs.Rows.{AreRows, most_listed};

@@ -1,5 +1,5 @@
 // Sums, means and quartiles of numbers.
-ghost use Rattle.std.specs.Prelude.{◌≡◌, ◌-◌, ◌*◌, ◌<◌, ◌≤◌, ◌^◌, ◌+ℤ◌, ◌*ℤ◌, length, pos, IfOk, Some, unsigned_abs, slice_index_or};
+ghost use Rattle.std.specs.Prelude.{◌≡◌, ◌-◌, ◌*◌, ◌<◌, ◌≤◌, ◌+ℤ◌, ◌*ℤ◌, length, pos, IfOk, Some, unsigned_abs, slice_index_or};
 ghost use Rattle.fixed_num.specs.Number.{limit, IsNumber, rounded};
 ghost use Rattle.std.specs.Int.{int_min, int_max};
 ghost use Rattle.expr_eval.specs.Numbers.{the_number};

@@ -1,11 +1,10 @@
 // Where the first row with each key stands, and the rows of each group.
-ghost use Rattle.std.specs.Prelude.{◌≡◌, [], ◌∷◌, ◌++◌, replicate, slice_set, slice_index_or, ◌<◌, ◌≤◌, ℕ, Bool, true, false, Some, None};
-ghost use Rattle.std.specs.Prelude.{cond, length, map, All, IfOk, OnOk, option_map, unwrap_or, Vec};
+ghost use Rattle.std.specs.Prelude.{◌≡◌, [], ◌∷◌, ◌++◌, replicate, slice_set, slice_index_or, ◌<◌, ◌≤◌, ℕ, Some, None, cond, length, map};
+ghost use Rattle.std.specs.Prelude.{All, IfOk, OnOk, unwrap_or, Vec};
 ghost use Rattle.std.specs.Option.{option_or};
 ghost use Rattle.std.specs.declared.alloc.Global.{Global as GlobalHeap};
 ghost use Rattle.cell_value.specs.declared.cell.Cell.{Cell as CellValue};
 ghost use Rattle.cell_value.specs.State.{greatest_id};
-ghost use Rattle.cell_value.specs.Datum.{cell_at};
 ghost use Rattle.plain_rows.specs.Rows.{AreRows};
 ghost use Rattle.plain_groups.specs.inner.Places.{key_cells, same_keys, place_at, leaders, heads_from, members_from};
 

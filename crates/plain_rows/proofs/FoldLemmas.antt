@@ -1,9 +1,10 @@
 -- The rows that a fold makes: their keys, and what is read of them.
-use Rattle.std.proofs.Common.{◌≡◌, ℕ, zero, suc, ◌+◌, ◌*◌, ◌<◌, ◌≤◌, ◌^◌, ◌⊎◌, inl, inr, List, [], ◌∷◌, ◌++◌, map, flat_map, length, get_or, All, AllPairs, Result, Ok, Err, IfOk, refl, sym, ap, ap₂, ◌∙◌, subst, arith}
+use Rattle.std.proofs.Common.{◌≡◌, ℕ, zero, suc, ◌+◌, ◌*◌, ◌<◌, ◌≤◌, ◌^◌, inl, inr, List, [], ◌∷◌, ◌++◌, map, length, get_or, All, AllPairs}
+use Rattle.std.proofs.Common.{Result, Ok, Err, IfOk, refl, sym, ap, ap₂, ◌∙◌, subst, arith}
 use Rattle.std.specs.List.{enumerate_from}
 use Rattle.std.proofs.Math.ListN.{get_or-append}
 use Rattle.std.proofs.Math.Nat.{mul-le-mul_right}
-use Rattle.std.proofs.lemmas.List.{map-append, length-append, length-map, get_or-map}
+use Rattle.std.proofs.lemmas.List.{map-append, length-append, length-map}
 use Rattle.std.proofs.lemmas.List.Elements.{All-append, All-cons}
 use Rattle.std.proofs.lemmas.List.Kept.{AllPairs-cons}
 use Rattle.text_kit.specs.declared.memory.OutOfMemory.{OutOfMemory}
@@ -15,7 +16,7 @@ use Rattle.cell_value.specs.Datum.{Datum, datum_of, cell_at, datum_with}
 use Rattle.plain_rows.specs.declared.transforms.FoldOf.{FoldOf}
 use Rattle.plain_rows.specs.Rows.{AreRows, IsBefore, keys_of, most_listed}
 use Rattle.plain_rows.specs.Calculations.{with_cell}
-use Rattle.plain_rows.specs.Folds.{folded_key, folded_row, folded_of, folded, each_field, data_folded_row, data_folded}
+use Rattle.plain_rows.specs.Folds.{folded_key, folded_row, folded_of, folded, data_folded_row, data_folded}
 use Rattle.plain_rows.proofs.Readings.{reads_with}
 
 front : {X : Type 0} (P : X → Type 0) (xs ys : List X) → All P (xs ++ ys) → All P xs
@@ -45,7 +46,8 @@ module _ (f : FoldOf) where
       subst (λ n. P (folded_key (length f.fields) row.key n)) here (h 0 row.key (omega arith))
   branch_from row P from (field ∷ fields) (suc at) lt h =
       let there : from + 1 + at ≡ from + suc at = omega arith in
-      subst (λ n. P (folded_key (length f.fields) row.key n)) there (branch_from row P (from + 1) fields at (omega arith) (λ k d within. h (suc k) d (omega arith)))
+      subst (λ n. P (folded_key (length f.fields) row.key n)) there
+      (branch_from row P (from + 1) fields at (omega arith) (λ k d within. h (suc k) d (omega arith)))
 
   pub branch_at : (row : Keyed) (at : ℕ) → at < length f.fields → All (λ (key : Key). key.branch < 2 ^ 32) (keys_of (folded_of f row))
       → row.key.branch * length f.fields + at < 2 ^ 32
@@ -75,7 +77,8 @@ module _ (f : FoldOf) where
   all_wider P Q xs g h k d lt = g (get_or xs k d) (h k d lt)
 
   ranges : (row : Keyed) (from : ℕ) (fields : List (List ℕ))
-      → All (Within row.key (row.key.branch * length f.fields + from) (row.key.branch * length f.fields + from + length fields)) (keys_of (made_from row from fields))
+      → All (Within row.key (row.key.branch * length f.fields + from) (row.key.branch * length f.fields + from + length fields))
+      (keys_of (made_from row from fields))
   ranges row from [] = none _
   ranges row from (field ∷ fields) =
       let n = row.key.branch * length f.fields in
@@ -83,7 +86,8 @@ module _ (f : FoldOf) where
       All-cons w (folded_key (length f.fields) row.key from) (keys_of (made_from row (from + 1) fields))
       (record { same_id = refl; from_there = omega arith; to_there = omega arith })
       (all_wider _ w (keys_of (made_from row (from + 1) fields))
-      (widened row.key (n + (from + 1)) (n + from) (n + (from + 1) + length fields) (n + from + suc (length fields)) (omega arith) (omega arith)) (ranges row (from + 1) fields))
+      (widened row.key (n + (from + 1)) (n + from) (n + (from + 1) + length fields) (n + from + suc (length fields)) (omega arith) (omega arith))
+      (ranges row (from + 1) fields))
 
   -- the keys that are made of one row rise
   rise_within : (row : Keyed) (from : ℕ) (fields : List (List ℕ)) → AllPairs IsBefore (keys_of (made_from row from fields))
@@ -91,7 +95,8 @@ module _ (f : FoldOf) where
   rise_within row from (field ∷ fields) =
       let n = row.key.branch * length f.fields in
       AllPairs-cons IsBefore (folded_key (length f.fields) row.key from) (keys_of (made_from row (from + 1) fields))
-      (all_wider (Within row.key (n + (from + 1)) (n + (from + 1) + length fields)) (IsBefore (folded_key (length f.fields) row.key from)) (keys_of (made_from row (from + 1) fields))
+      (all_wider (Within row.key (n + (from + 1)) (n + (from + 1) + length fields))
+      (IsBefore (folded_key (length f.fields) row.key from)) (keys_of (made_from row (from + 1) fields))
       (λ made w. let low = w.from_there in inr (sym w.same_id, omega arith)) (ranges row (from + 1) fields))
       (rise_within row (from + 1) fields)
 
@@ -137,15 +142,18 @@ module _ (f : FoldOf) where
       subst (AllPairs IsBefore) (sym (map-append (λ (k : Keyed). k.key) (folded_of f row) (folded f rows)))
       (pairs_append (keys_of (folded_of f row)) (keys_of (folded f rows)) (rise_within row 0 f.fields)
       (rise_all rows (λ i j d less lt. h (suc i) (suc j) d (omega arith) (omega arith)))
-      (all_wider (Made_of row.key) (λ c. All (IsBefore c) (keys_of (folded f rows))) (keys_of (folded_of f row)) (λ c v. before_all row.key c v rows later) (made_of row)))
+      (all_wider (Made_of row.key) (λ c. All (IsBefore c) (keys_of (folded f rows)))
+      (keys_of (folded_of f row)) (λ c v. before_all row.key c v rows later) (made_of row)))
 
-  small_all : (rows : List Keyed) → All (λ (key : Key). key.id ≤ greatest_id) (keys_of rows) → All (λ (key : Key). key.id ≤ greatest_id) (keys_of (folded f rows))
+  small_all : (rows : List Keyed) → All (λ (key : Key). key.id ≤ greatest_id) (keys_of rows)
+      → All (λ (key : Key). key.id ≤ greatest_id) (keys_of (folded f rows))
   small_all [] h = none _
   small_all (row ∷ rows) h =
       let small : Key → Type 0 = λ key. key.id ≤ greatest_id in
       subst (All small) (sym (map-append (λ (k : Keyed). k.key) (folded_of f row) (folded f rows)))
       (All-append small (keys_of (folded_of f row)) (keys_of (folded f rows))
-      (all_wider (Made_of row.key) small (keys_of (folded_of f row)) (λ made w. subst (λ id. id ≤ greatest_id) (sym w.same_id) (h 0 row.key (omega arith))) (made_of row))
+      (all_wider (Made_of row.key) small (keys_of (folded_of f row))
+      (λ made w. subst (λ id. id ≤ greatest_id) (sym w.same_id) (h 0 row.key (omega arith))) (made_of row))
       (small_all rows (λ k d lt. h (suc k) d (omega arith))))
 
   all_rows : (rows : List Keyed) → AreRows rows → length (folded f rows) ≤ most_listed → AreRows (folded f rows)

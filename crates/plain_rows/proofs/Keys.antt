@@ -1,5 +1,6 @@
 -- Keys of the rows that are answered.
-use Rattle.std.proofs.Common.{◌≡◌, ℕ, suc, ◌<◌, ◌≤◌, Bool, false, List, [], ◌∷◌, map, filter, length, get_or, All, AllPairs, Option, Some, None, Result, Ok, Err, IfOk, unwrap_or, option_map, refl, sym, ap, ap₂, ◌∙◌, subst, arith}
+use Rattle.std.proofs.Common.{◌≡◌, ℕ, suc, ◌<◌, ◌≤◌, Bool, false, List, [], ◌∷◌, map, filter, length, get_or, All, AllPairs, Option, Some}
+use Rattle.std.proofs.Common.{None, Result, Ok, Err, IfOk, unwrap_or, option_map, refl, sym, ap, ap₂, ◌∙◌, subst, arith}
 use Rattle.std.proofs.lemmas.Bool.{cond_both}
 use Rattle.std.proofs.lemmas.List.{get_or-map, length-map}
 use Rattle.std.proofs.lemmas.List.Kept.{AllPairs-cons}
@@ -42,16 +43,19 @@ small_id rows i row are l at =
 filter_are_rows : (p : Keyed → Bool) (rows : List Keyed) → AreRows rows → AreRows (filter p rows)
 filter_are_rows p rows are = record {
   rise = pairs_filter key_of IsBefore p rows are.rise;
-  small_ids = All-map (λ (key : Key). key.id ≤ greatest_id) key_of (filter p rows) (All-filter p (λ (keyed : Keyed). keyed.key.id ≤ greatest_id) rows (all_back key_of (λ (key : Key). key.id ≤ greatest_id) rows are.small_ids));
+  small_ids = All-map (λ (key : Key). key.id ≤ greatest_id) key_of (filter p rows)
+      (All-filter p (λ (keyed : Keyed). keyed.key.id ≤ greatest_id) rows (all_back key_of (λ (key : Key). key.id ≤ greatest_id) rows are.small_ids));
   few = omega (arith, are.few, length-map rows key_of, length-map (filter p rows) key_of, length-filter p rows, count_by-le-length p rows);
 }
 
 -- what is kept of rows are rows
-pub kept_are_rows : (test : Keyed → Option Bool) (rows : List Keyed) → AreRows rows → (result : Result (List Keyed) EvalError) → Evaluates result (kept test rows) → IfOk result AreRows
+pub kept_are_rows : (test : Keyed → Option Bool) (rows : List Keyed) → AreRows rows
+    → (result : Result (List Keyed) EvalError) → Evaluates result (kept test rows) → IfOk result AreRows
 kept_are_rows test rows are (Ok ys) e = subst AreRows (kept_passes test rows ys e) (filter_are_rows (λ x. unwrap_or (test x) false) rows are)
 kept_are_rows test rows are (Err e) h = tt
 
-pub first_and_rest : {Y : Type 0} (o : Option Y) (os : Option (List Y)) (ys : List Y) → (o >>= λ y. os >>= λ zs. Some (y ∷ zs)) ≡ Some ys → (y : Y) × (zs : List Y) × (o ≡ Some y) × (os ≡ Some zs) × (ys ≡ y ∷ zs)
+pub first_and_rest : {Y : Type 0} (o : Option Y) (os : Option (List Y)) (ys : List Y) → (o >>= λ y. os >>= λ zs. Some (y ∷ zs)) ≡ Some ys
+    → (y : Y) × (zs : List Y) × (o ≡ Some y) × (os ≡ Some zs) × (ys ≡ y ∷ zs)
 first_and_rest None os ys e = absurd cc
 first_and_rest (Some y) None ys e = absurd cc
 first_and_rest (Some y) (Some zs) ys e = (y, zs, refl, refl, cc)
@@ -67,6 +71,7 @@ same_keys value out (x ∷ xs) ys e =
     ap keys_of is ∙ ap₂ (λ (key : Key) keys. key ∷ keys) (same_key (value x) out x y first) (same_keys value out xs zs rest)
 
 -- rows that were given a cell are rows
-pub calculated_are_rows : (value : Keyed → Option Cell) (out : List ℕ) (rows : List Keyed) → AreRows rows → (result : Result (List Keyed) EvalError) → Evaluates result (each_with value (with_cell out) rows) → IfOk result AreRows
+pub calculated_are_rows : (value : Keyed → Option Cell) (out : List ℕ) (rows : List Keyed) → AreRows rows → (result : Result (List Keyed) EvalError)
+    → Evaluates result (each_with value (with_cell out) rows) → IfOk result AreRows
 calculated_are_rows value out rows are (Ok ys) e = subst AreKeys (sym (same_keys value out rows ys e)) are
 calculated_are_rows value out rows are (Err e) h = tt

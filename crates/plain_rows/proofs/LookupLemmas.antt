@@ -1,5 +1,6 @@
 -- How a map of places finds the last row with a key, and what is read of rows that take cells.
-use Rattle.std.proofs.Common.{◌≡◌, ℕ, ◌+◌, ◌<◌, ◌≤◌, Bool, true, false, cond, if◌then◌else◌, List, [], ◌∷◌, ◌++◌, map, reverse, fold, zip, find, drop, length, get_or, slice_get, Option, Some, None, option_map, Ok, Err, Result, IfOk, refl, sym, ap, ap₂, ◌∙◌, subst, arith}
+use Rattle.std.proofs.Common.{◌≡◌, ℕ, ◌+◌, ◌<◌, ◌≤◌, Bool, true, false, cond, List, [], ◌∷◌, map, reverse, find, drop, length, get_or}
+use Rattle.std.proofs.Common.{slice_get, Option, Some, None, option_map, Ok, Err, Result, IfOk, refl, sym, ap, ap₂, ◌∙◌, subst}
 use Rattle.std.specs.Option.{option_and_then, option_or}
 use Rattle.std.specs.Ordering.{is_eq}
 use Rattle.std.specs.BTreeMap as tree
@@ -14,7 +15,7 @@ use Rattle.cell_value.specs.declared.state.Keyed.{Keyed}
 use Rattle.cell_value.specs.declared.cell.Cell.{Cell}
 use Rattle.cell_value.specs.Cell.{cell_cmp, same_cells}
 use Rattle.cell_value.specs.State.{greatest_id}
-use Rattle.cell_value.specs.Datum.{Datum, CellAt, datum_of, cell_at, datum_with}
+use Rattle.cell_value.specs.Datum.{Datum, datum_of, cell_at}
 use Rattle.plain_rows.specs.declared.transforms.LookupOf.{LookupOf}
 use Rattle.plain_rows.specs.Rows.{AreRows, AreKeys, keys_of}
 use Rattle.plain_rows.specs.Calculations.{with_cell}
@@ -23,7 +24,8 @@ use Rattle.plain_rows.specs.inner.Places.{place_row, later}
 use Rattle.plain_rows.proofs.Readings.{reads_with}
 use Rattle.plain_rows.proofs.Keys.{small_id}
 
-regroup : {X : Type 0} (a : Option X) (b : Bool) (x : X) (found : Option X) → option_or (option_or a (cond b (Some x) None)) found ≡ option_or a (cond b (Some x) found)
+regroup : {X : Type 0} (a : Option X) (b : Bool) (x : X) (found : Option X)
+    → option_or (option_or a (cond b (Some x) None)) found ≡ option_or a (cond b (Some x) found)
 regroup None true x found = refl
 regroup None false x found = refl
 regroup (Some y) b x found = refl
@@ -59,7 +61,8 @@ pub one_place : (key : Keyed → Cell) (rows : List Keyed) (at : ℕ) (row : Key
     → later key c (place_row new rows c) (drop (at + 1) rows) ≡ last_with key c rows
 one_place key rows at row old new k c lt is same updates h =
     ap (λ o. later key c (option_and_then (slice_get rows) o) (drop (at + 1) rows)) (updates.0 c)
-    ∙ ap (λ o. later key c o (drop (at + 1) rows)) (chosen (is_eq (cell_cmp k c)) at (tree.get cell_cmp old c) rows row (slice_get_read rows (length rows) at row refl lt is))
+    ∙ ap (λ o. later key c o (drop (at + 1) rows))
+    (chosen (is_eq (cell_cmp k c)) at (tree.get cell_cmp old c) rows row (slice_get_read rows (length rows) at row refl lt is))
     ∙ ap (λ q. later key c (cond (same_cells q c) (Some row) (place_row old rows c)) (drop (at + 1) rows)) same
     ∙ ap (later key c (place_row old rows c)) (sym (drop_more rows at row lt ∙ ap (λ x. x ∷ drop (at + 1) rows) (sym is)))
     ∙ h
@@ -73,7 +76,8 @@ found_at rows None row are e = absurd cc
 found_at rows (Some at) row are e = id_at rows at row are e
 
 -- so has the row at the place of a key
-pub id_of_place : (places : tree.BTreeMap Cell ℕ) (rows : List Keyed) (c : Cell) (row : Keyed) → AreRows rows → place_row places rows c ≡ Some row → row.key.id ≤ greatest_id
+pub id_of_place : (places : tree.BTreeMap Cell ℕ) (rows : List Keyed) (c : Cell) (row : Keyed)
+    → AreRows rows → place_row places rows c ≡ Some row → row.key.id ≤ greatest_id
 id_of_place places rows c row = found_at rows (tree.get cell_cmp places c) row
 
 -- keys of rows that take cells
@@ -93,16 +97,19 @@ looked_up_are_rows how other rows are (Err e) h = tt
 -- what is read of rows that take cells
 pub reads_cells : (cells : List (List ℕ × Cell)) (keyed : Keyed) → datum_of (with_cells keyed cells) ≡ data_with_cells (datum_of keyed) cells
 reads_cells [] keyed = refl
-reads_cells (cell ∷ cells) keyed = reads_cells cells (with_cell cell.0 cell.1 keyed) ∙ ap (λ datum. data_with_cells datum cells) (sym (reads_with cell.0 cell.1 keyed))
+reads_cells (cell ∷ cells) keyed =
+    reads_cells cells (with_cell cell.0 cell.1 keyed) ∙ ap (λ datum. data_with_cells datum cells) (sym (reads_with cell.0 cell.1 keyed))
 
 seen_later : (field : List ℕ) (c : Cell) (rows : List Keyed) (found : Option Keyed)
-    → later (λ (datum : Datum). datum.cell field) c (option_map datum_of found) (map datum_of rows) ≡ option_map datum_of (later (λ row. cell_at row field) c found rows)
+    → later (λ (datum : Datum). datum.cell field) c (option_map datum_of found) (map datum_of rows)
+    ≡ option_map datum_of (later (λ row. cell_at row field) c found rows)
 seen_later field c [] found = refl
 seen_later field c (row ∷ rows) found =
     ap (λ o. later (λ (datum : Datum). datum.cell field) c o (map datum_of rows)) (either (same_cells (cell_at row field) c) row found)
     ∙ seen_later field c rows (cond (same_cells (cell_at row field) c) (Some row) found)
   where
-    either : (b : Bool) (row : Keyed) (found : Option Keyed) → cond b (Some (datum_of row)) (option_map datum_of found) ≡ option_map datum_of (cond b (Some row) found)
+    either : (b : Bool) (row : Keyed) (found : Option Keyed)
+        → cond b (Some (datum_of row)) (option_map datum_of found) ≡ option_map datum_of (cond b (Some row) found)
     either true row found = refl
     either false row found = refl
 
@@ -117,10 +124,12 @@ seen_taken : (how : LookupOf) (there : Option Keyed) → taken (λ (datum : Datu
 seen_taken how None = refl
 seen_taken how (Some row) = refl
 
-pub lookup_reads : (how : LookupOf) (other rows : List Keyed) → map datum_of (looked_up how other rows) ≡ data_looked_up how (map datum_of other) (map datum_of rows)
+pub lookup_reads : (how : LookupOf) (other rows : List Keyed)
+    → map datum_of (looked_up how other rows) ≡ data_looked_up how (map datum_of other) (map datum_of rows)
 lookup_reads how other [] = refl
 lookup_reads how other (row ∷ rows) =
     let cells : taken_by (λ (datum : Datum). datum.cell) how (map datum_of other) (datum_of row) ≡ taken_by cell_at how other row =
     ap (taken (λ (datum : Datum). datum.cell) how) (seen_last how.key_there (cell_at row how.key_here) other)
     ∙ seen_taken how (last_with (λ there. cell_at there how.key_there) (cell_at row how.key_here) other) in
-    ap₂ (λ (d : Datum) ds. d ∷ ds) (reads_cells (taken_by cell_at how other row) row ∙ ap (data_with_cells (datum_of row)) (sym cells)) (lookup_reads how other rows)
+    ap₂ (λ (d : Datum) ds. d ∷ ds)
+    (reads_cells (taken_by cell_at how other row) row ∙ ap (data_with_cells (datum_of row)) (sym cells)) (lookup_reads how other rows)

@@ -1,6 +1,5 @@
 -- Rows with units of time, as they are read, and their keys.
-use Rattle.std.proofs.Common.{◌≡◌, ℕ, List, [], ◌∷◌, map, length, refl, sym, ap, ap₂, ◌∙◌, subst, Result, Ok, Err, IfOk}
-use Rattle.cell_value.specs.declared.state.Key.{Key}
+use Rattle.std.proofs.Common.{◌≡◌, List, [], ◌∷◌, map, refl, sym, ap, ap₂, ◌∙◌, subst, Result, Ok, Err, IfOk}
 use Rattle.cell_value.specs.declared.state.Keyed.{Keyed}
 use Rattle.cell_value.specs.Datum.{Datum, datum_of, cell_at, datum_with}
 use Rattle.text_kit.specs.declared.memory.OutOfMemory.{OutOfMemory}
@@ -25,10 +24,12 @@ same_keys t [] = refl
 same_keys t (keyed ∷ rows) = ap (λ keys. keyed.key ∷ keys) (same_keys t rows)
 
 -- what is answered reads as the rule says, and is rows
-pub answer_reads : (t : TimeOf) (rows : List Keyed) (result : Result (List Keyed) OutOfMemory) → IfOk result (λ out. out ≡ in_time_units t rows) → IfOk result (λ out. map datum_of out ≡ data_in_time_units t (map datum_of rows))
+pub answer_reads : (t : TimeOf) (rows : List Keyed) (result : Result (List Keyed) OutOfMemory) → IfOk result (λ out. out ≡ in_time_units t rows)
+    → IfOk result (λ out. map datum_of out ≡ data_in_time_units t (map datum_of rows))
 answer_reads t rows (Ok out) e = ap (map datum_of) e ∙ units_read t rows
 answer_reads t rows (Err e) h = tt
 
-pub answer_are_rows : (t : TimeOf) (rows : List Keyed) → AreRows rows → (result : Result (List Keyed) OutOfMemory) → IfOk result (λ out. out ≡ in_time_units t rows) → IfOk result AreRows
+pub answer_are_rows : (t : TimeOf) (rows : List Keyed) → AreRows rows → (result : Result (List Keyed) OutOfMemory)
+    → IfOk result (λ out. out ≡ in_time_units t rows) → IfOk result AreRows
 answer_are_rows t rows are (Ok out) e = subst AreKeys (sym (ap keys_of e ∙ same_keys t rows)) are
 answer_are_rows t rows are (Err e) h = tt

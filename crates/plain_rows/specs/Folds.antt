@@ -1,7 +1,6 @@
 -- A row for each of several fields.
 use Rattle.std.specs.Prelude.{◌≡◌, refl, ℕ, ◌+◌, ◌*◌, List, [], ◌∷◌, map, flat_map, length, codes}
 use Rattle.std.specs.List.{enumerate_from}
-use Rattle.std.specs.FinMap.{insert}
 use Rattle.cell_value.specs.declared.state.Key.{Key}
 use Rattle.cell_value.specs.declared.state.Keyed.{Keyed}
 use Rattle.cell_value.specs.declared.cell.Cell.TheVariants.{Null, Text}

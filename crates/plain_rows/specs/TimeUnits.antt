@@ -1,5 +1,5 @@
 -- The unit of time of an instant put into each row.
-use Rattle.std.specs.Prelude.{◌≡◌, refl, true, ℕ, ℤ, Option, Some, None, List, map}
+use Rattle.std.specs.Prelude.{◌≡◌, refl, true, ℕ, ℤ, Option, None, List, map}
 use Rattle.std.specs.Option.{option_and_then, option_map_or}
 use Rattle.cell_value.specs.declared.state.Keyed.{Keyed}
 use Rattle.cell_value.specs.declared.cell.Cell.{Cell}

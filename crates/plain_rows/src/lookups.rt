@@ -1,11 +1,11 @@
 // Cells that are taken from the rows of another list.
-ghost use Rattle.std.specs.Prelude.{◌≡◌, ◌≤◌, ◌<◌, length, map, zip, IfOk, option_copied};
+ghost use Rattle.std.specs.Prelude.{◌≡◌, ◌≤◌, length, map, zip, IfOk, option_copied};
 ghost use Rattle.cell_value.specs.declared.cell.Cell.{Cell};
 ghost use Rattle.cell_value.specs.declared.state.Keyed.{Keyed};
 ghost use Rattle.cell_value.specs.State.{greatest_id};
 ghost use Rattle.cell_value.specs.Datum.{cell_at, datum_of};
 ghost use Rattle.plain_rows.specs.Rows.{AreRows};
-ghost use Rattle.plain_rows.specs.Lookups.{last_with, taken, taken_by, with_cells, looked_up, data_looked_up};
+ghost use Rattle.plain_rows.specs.Lookups.{taken_by, with_cells, looked_up, data_looked_up};
 ghost use Rattle.plain_rows.specs.inner.Places.{place_row, ArePlaces};
 
 use crate::LookupOf;

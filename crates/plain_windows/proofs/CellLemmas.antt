@@ -1,6 +1,6 @@
 -- What operations give from a row of a partition.
-use Rattle.std.proofs.Common.{◌≡◌, ℕ, suc, ◌+◌, ◌-◌, ◌<◌, ◌≤◌, Bool, false, List, [], ◌∷◌, map, filter, fold, length, take, drop, get_or}
-use Rattle.std.proofs.Common.{reverse, Option, Some, unwrap_or, arith, refl, sym, ap, ap₂, ◌∙◌}
+use Rattle.std.proofs.Common.{◌≡◌, ℕ, suc, ◌+◌, ◌-◌, ◌<◌, ◌≤◌, false, List, [], ◌∷◌, map, filter, fold, length, take, drop, get_or, reverse}
+use Rattle.std.proofs.Common.{Option, Some, unwrap_or, arith, refl, sym, ap, ◌∙◌}
 use Rattle.std.specs.Prelude.{slice_get}
 use Rattle.std.specs.Option.{option_map_or}
 use Rattle.std.proofs.lemmas.List.{length-map, get_or-map, get_or_default, get_or-reverse, length-reverse, length-take}

@@ -1,7 +1,6 @@
 -- The least and the greatest of the numbers among the cells of a frame.
-use Rattle.std.proofs.Common.{◌≡◌, ℕ, ◌-◌, ℤ, Bool, true, false, Option, Some, None, List, [], ◌∷◌, map, take, drop, fold, refl, sym, ap, ◌∙◌}
+use Rattle.std.proofs.Common.{◌≡◌, ◌-◌, ℤ, Bool, true, false, Option, Some, None, List, [], ◌∷◌, map, take, drop, fold, refl, sym, ap, ◌∙◌}
 use Rattle.std.specs.List.{cons_option}
-use Rattle.std.specs.Int.{int_min, int_max}
 use Rattle.std.proofs.lemmas.List.{take-map, drop-map}
 use Rattle.cell_value.specs.declared.cell.Cell.{Cell}
 use Rattle.cell_value.specs.Datum.{Datum}

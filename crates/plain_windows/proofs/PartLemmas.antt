@@ -1,6 +1,6 @@
 -- The rows of a frame.
-use Rattle.std.proofs.Common.{◌≡◌, ℕ, zero, suc, ◌+◌, ◌-◌, ◌<◌, ◌≤◌, Bool, List, [], ◌∷◌, map, filter, fold, length, take, drop, get_or}
-use Rattle.std.proofs.Common.{arith, refl, sym, ap, ap₂, ◌∙◌, take_all, true}
+use Rattle.std.proofs.Common.{◌≡◌, ℕ, zero, suc, ◌+◌, ◌-◌, ◌<◌, ◌≤◌, Bool, List, [], ◌∷◌, filter, fold, length, take, drop, get_or, arith}
+use Rattle.std.proofs.Common.{ap, ap₂, ◌∙◌, take_all, true}
 use Rattle.std.specs.Prelude.{◌==◌, ◌&&◌}
 use Rattle.std.proofs.lemmas.Bool.{and_parts, eqb-true}
 use Rattle.std.proofs.lemmas.List.{length-map, get_or-map, drop_more, take-map, drop-map}

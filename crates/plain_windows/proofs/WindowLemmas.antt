@@ -1,13 +1,10 @@
 -- Rows with what windows give.
-use Rattle.std.proofs.Common.{◌≡◌, ℕ, ◌<◌, ◌≤◌, All, List, [], map, length, get_or}
-use Rattle.std.proofs.Common.{zip, min, Option, Some, None, Result, Ok, Err, IfOk, arith}
-use Rattle.std.proofs.Common.{refl, sym, ap, ap₂, ◌∙◌, subst, take}
+use Rattle.std.proofs.Common.{◌≡◌, ℕ, ◌<◌, ◌≤◌, List, [], map, length, get_or, zip, Option, Some, None, Result, Ok, Err, IfOk, arith, refl}
+use Rattle.std.proofs.Common.{sym, ap, ap₂, ◌∙◌, subst, take}
 use Rattle.std.specs.Option.{option_map}
 use Rattle.std.proofs.lemmas.List.{length-map, get_or-map, get_or_default, length-take}
 use Rattle.std.specs.List.{AllZip}
 use Rattle.std.proofs.lemmas.Slice.Zip.{get_or-zip, length-zip, AllZip-long}
-use Rattle.fixed_num.specs.Ranges.{all_found}
-use Rattle.cell_value.specs.declared.cell.Cell.{Cell}
 use Rattle.cell_value.specs.declared.state.Keyed.{Keyed}
 use Rattle.cell_value.specs.Datum.{Datum, datum_of}
 use Rattle.expr_eval.specs.declared.error.EvalError.{EvalError}
@@ -25,7 +22,7 @@ use Rattle.plain_windows.specs.Windows.{window_cells, windowed, data_windowed}
 use Rattle.plain_windows.specs.declared.aids.Aid.{Aid}
 use Rattle.plain_windows.specs.inner.Aids.{IsAid, AreAids}
 use Rattle.plain_windows.specs.inner.Seen.{AreSeen}
-use Rattle.plain_windows.specs.inner.Views.{AreListed, frame_rows, view_with, named_by, cells_by}
+use Rattle.plain_windows.specs.inner.Views.{AreListed, frame_rows, view_with, cells_by}
 use Rattle.plain_windows.proofs.PeerLemmas.{are_listed}
 use Rattle.plain_windows.proofs.AidLemmas.{zip_at}
 

@@ -1,5 +1,5 @@
 // The frames of rows in their partitions, by places.
-ghost use Rattle.std.specs.Prelude.{◌≡◌, ℕ, ◌+◌, ◌-◌, ◌<◌, ◌≤◌, ◌+ℤ◌, pos, map, length, List, IfOk};
+ghost use Rattle.std.specs.Prelude.{◌≡◌, ◌+◌, ◌-◌, ◌<◌, ◌≤◌, ◌+ℤ◌, pos, map, length, List, IfOk};
 ghost use Rattle.std.specs.Option.{option_map_or};
 ghost use Rattle.cell_value.specs.Datum.{Datum, datum_of};
 ghost use Rattle.plain_rows.specs.Rows.{AreRows, most_listed};

@@ -1,6 +1,5 @@
 // The least or the greatest number of any part of a list, by that of blocks of 1, 2, 4 and more of its elements.
 ghost use Rattle.std.specs.Prelude.{◌≡◌, ℤ, ◌+◌, ◌-◌, ◌≤◌, None, Option, List, length, slice_index_or, IfOk, if◌then◌else◌};
-ghost use Rattle.std.specs.Int.{int_min, int_max};
 ghost use Rattle.plain_windows.specs.inner.Views.{part};
 ghost use Rattle.plain_windows.specs.inner.Levels.{AreLevels, outer, joined, outermost, paired, parts_pair};
 

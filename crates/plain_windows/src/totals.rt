@@ -1,5 +1,5 @@
 // The totals of cells as they run, of which those of a frame are differences.
-ghost use Rattle.std.specs.Prelude.{◌≡◌, ◌+◌, ◌*◌, ◌<◌, ◌≤◌, ◌-ℤ◌, length, pos, int_lt, unsigned_abs, IfOk, if◌then◌else◌};
+ghost use Rattle.std.specs.Prelude.{◌≡◌, ◌+◌, ◌*◌, ◌<◌, ◌≤◌, length, pos, int_lt, unsigned_abs, IfOk, if◌then◌else◌};
 ghost use Rattle.fixed_num.specs.Number.{limit, IsNumber, rounded};
 ghost use Rattle.expr_eval.specs.Answers.{Evaluates};
 ghost use Rattle.plain_rows.specs.Rows.{most_listed};

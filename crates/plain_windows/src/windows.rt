@@ -1,10 +1,9 @@
 // Rows with what windows give.
-ghost use Rattle.std.specs.Prelude.{◌≡◌, ◌<◌, ◌≤◌, map, length, zip, slice_index_or, IfOk, option_map};
+ghost use Rattle.std.specs.Prelude.{◌≡◌, ◌<◌, ◌≤◌, map, length, slice_index_or, IfOk, option_map};
 ghost use Rattle.std.specs.List.{AllZip};
 ghost use Rattle.cell_value.specs.State.{greatest_id};
 ghost use Rattle.cell_value.specs.Datum.{datum_of};
 ghost use Rattle.expr_eval.specs.Answers.{Evaluates};
-ghost use Rattle.fixed_num.specs.Ranges.{all_found};
 ghost use Rattle.plain_rows.specs.Rows.{AreRows};
 ghost use Rattle.plain_rows.specs.Answers.{GivesRows};
 ghost use Rattle.plain_rows.specs.Lookups.{with_cells};

@@ -1,5 +1,5 @@
 // Scripts of commands that an engine does.
-ghost use Rattle.std.specs.Prelude.{◌≡◌, ◌≢◌, ◌≤◌, ◌↔◌, [], ℕ, List, Option, false, OnOk, IfSome, IfErr, IsErrOf, Err};
+ghost use Rattle.std.specs.Prelude.{◌≡◌, ◌≢◌, ◌≤◌, ◌↔◌, ℕ, List, Option, false, OnOk, IfSome, IfErr, IsErrOf, Err};
 ghost use Rattle.chart_io.specs.Outside.{Rose, Appended, AppendedPrefix};
 ghost use Rattle.scene_tree.specs.Outcome.{IsDrawn};
 ghost use Rattle.param_flow.specs.declared.command.Command.TheVariants.{Print};

@@ -1,5 +1,5 @@
 // Lines of scripts of any kind, done one after another.
-ghost use Rattle.std.specs.Prelude.{◌≡◌, ◌≤◌, ◌<◌, ◌+◌, [], ◌∷◌, ◌++◌, ℕ, List, length, OnOk, IfErr, IsErrOf};
+ghost use Rattle.std.specs.Prelude.{◌≡◌, ◌≤◌, ◌+◌, [], ◌∷◌, ◌++◌, ℕ, List, length, OnOk, IfErr, IsErrOf};
 ghost use Rattle.chart_io.specs.Outside.{Rose, Appended, AppendedPrefix};
 ghost use Rattle.param_flow.specs.Script.{most_script_bytes, is_silent, refused_line};
 ghost use Rattle.play_script.specs.declared.errors.PlayError.TheVariants.{Write};

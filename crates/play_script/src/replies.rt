@@ -1,9 +1,8 @@
 // Replies as text.
-ghost use Rattle.std.specs.Prelude.{◌≡◌, ◌++◌, IfOk, OnOk, IfErr, codes};
+ghost use Rattle.std.specs.Prelude.{◌≡◌, ◌++◌, IfOk, codes};
 ghost use Rattle.std.specs.Fmt.{decimal};
 ghost use Rattle.json_exact.specs.Writing.{quoted};
 ghost use Rattle.param_flow.specs.Playing.{reply_text};
-ghost use Rattle.play_script.specs.declared.errors.PlayError.TheVariants.{Memory};
 
 use json_exact::Json;
 use param_flow::{Cause, Reply};

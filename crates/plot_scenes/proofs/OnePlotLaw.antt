@@ -29,7 +29,7 @@ use Rattle.plot_scenes.specs.Legends.{blocks_of}
 use Rattle.plot_scenes.specs.Scenes.{scene_with, drawn}
 use Rattle.plot_scenes.specs.Titles.{title_items, with_title}
 use Rattle.plot_scenes.specs.Views.{box_of, placed_plot}
-use Rattle.plot_scenes.specs.OnePlot.{scene_alone, plain_scene, IsSpace, APlotAloneIsDrawn, ABarePlotIsPlain}
+use Rattle.plot_scenes.specs.OnePlot.{scene_alone, IsSpace, APlotAloneIsDrawn, ABarePlotIsPlain}
 
 -- ---- with its guides
 

@@ -16,7 +16,6 @@ use Rattle.tick_kit.specs.Steps.{step_of, spaced}
 use Rattle.tick_kit.specs.Ticks.{multiples_in}
 use Rattle.guide_text.specs.Labels.{label_of}
 use Rattle.guide_text.specs.Widths.{columns_of}
-use Rattle.guide_kit.specs.declared.axes.AxisOf.{AxisOf}
 use Rattle.guide_kit.specs.declared.axes.Guide.{Guide}
 use Rattle.guide_kit.specs.declared.frames.Side.{Side}
 use Rattle.guide_kit.specs.declared.frames.Side.TheVariants.{Left, Right, Top, Bottom}

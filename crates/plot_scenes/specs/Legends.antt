@@ -2,7 +2,6 @@
 use Rattle.std.specs.Prelude.{◌≡◌, refl, ℕ, List, [], ◌∷◌, map, Option, Some, None, IsSome, codes}
 use Rattle.std.specs.declared.cmp.Ordering.{Ordering}
 use Rattle.std.specs.Ordering.{nat_cmp, ordering_then}
-use Rattle.std.specs.List.{All}
 use Rattle.fixed_num.specs.Ranges.{all_found}
 use Rattle.scale_kit.specs.Scale.{IsScale}
 use Rattle.scale_kit.specs.declared.scale.Scale.TheVariants.{Ordinal}

@@ -1,5 +1,5 @@
 // What is drawn: the picture, and the scales of its plots.
-ghost use Rattle.std.specs.Prelude.{◌≡◌, ◌++◌, map, flat_map, length, IfOk, OnOk};
+ghost use Rattle.std.specs.Prelude.{◌≡◌, ◌++◌, map, flat_map, IfOk, OnOk};
 ghost use Rattle.std.specs.List.{enumerate_from};
 ghost use Rattle.guide_kit.specs.Answers.{Draws};
 ghost use Rattle.guide_kit.specs.Measures.{plus};

@@ -8,7 +8,8 @@ use Rattle.scale_infer.specs.declared.sharers.Sharer.{Sharer}
 use Rattle.scale_infer.specs.Scales.{sharer_of, sharer_at}
 
 -- past the last unit there is none
-none_past : (units : List UnitHere) (channel number : ℕ) → length units ≤ number → sharer_at (map unit_shown units) channel number ≡ option_map (sharer_of channel) None
+none_past : (units : List UnitHere) (channel number : ℕ) → length units ≤ number
+    → sharer_at (map unit_shown units) channel number ≡ option_map (sharer_of channel) None
 none_past units channel number past =
     ap (option_map (sharer_of channel)) (slice_get-map unit_shown units number ∙ ap (option_map unit_shown) (slice_get_past units number past))
 

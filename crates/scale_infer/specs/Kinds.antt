@@ -126,7 +126,8 @@ time_for_instants = (refl, refl)
 ramps_for_colors : (kind_of COLOR (unit_with mark.Bar Temporal None ∷ []) ≡ RAMP) × (kind_of COLOR (unit_with mark.Bar Quantitative None ∷ []) ≡ RAMP)
 ramps_for_colors = (refl, refl)
 
-ordinal_colors_and_shapes : (kind_of COLOR (unit_with mark.Bar Nominal None ∷ []) ≡ ORDINAL) × (kind_of SHAPE (unit_with mark.Point Ordinal None ∷ []) ≡ ORDINAL)
+ordinal_colors_and_shapes : (kind_of COLOR (unit_with mark.Bar Nominal None ∷ []) ≡ ORDINAL)
+    × (kind_of SHAPE (unit_with mark.Point Ordinal None ∷ []) ≡ ORDINAL)
 ordinal_colors_and_shapes = (refl, refl)
 
 opacity_by_points : kind_of OPACITY (unit_with mark.Bar Nominal None ∷ unit_with mark.Bar Nominal (Some POINT) ∷ []) ≡ POINT

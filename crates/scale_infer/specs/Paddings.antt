@@ -119,7 +119,8 @@ padding_gives_both : (inner_of BAND (unit_padded mark.Bar (padded (Some (pos 200
     × (outer_of BAND X (unit_padded mark.Bar (padded (Some (pos 200000)) None None) ∷ []) ≡ pos 200000)
 padding_gives_both = (refl, refl)
 
-each_of_its_own_before : (inner_of BAND (unit_padded mark.Bar (padded (Some (pos 200000)) None None) ∷ unit_padded mark.Bar (padded None (Some (pos 1)) None) ∷ []) ≡ pos 1)
+each_of_its_own_before : (inner_of BAND
+    (unit_padded mark.Bar (padded (Some (pos 200000)) None None) ∷ unit_padded mark.Bar (padded None (Some (pos 1)) None) ∷ []) ≡ pos 1)
     × (outer_of BAND X (unit_padded mark.Bar (padded (Some (pos 200000)) None None) ∷ unit_padded mark.Bar (padded None (Some (pos 1)) None) ∷ []) ≡ pos 200000)
 each_of_its_own_before = (refl, refl)
 
@@ -133,5 +134,6 @@ points_have_no_inner : (inner_of POINT (unit_padded mark.Circle (padded (Some (p
     × (outer_of POINT X (unit_padded mark.Circle (padded (Some (pos 3)) (Some (pos 4)) None) ∷ []) ≡ pos 3)
 points_have_no_inner = (refl, refl)
 
-no_paddings : (inner_of ORDINAL (unit_padded mark.Bar (padded (Some (pos 3)) None None) ∷ []) ≡ pos 0) × (outer_of LINEAR X (unit_padded mark.Bar bare ∷ []) ≡ pos 0)
+no_paddings : (inner_of ORDINAL (unit_padded mark.Bar (padded (Some (pos 3)) None None) ∷ []) ≡ pos 0)
+    × (outer_of LINEAR X (unit_padded mark.Bar bare ∷ []) ≡ pos 0)
 no_paddings = (refl, refl)

@@ -1,6 +1,5 @@
 //! Colours and signs of cells.
-ghost use Rattle.std.specs.Prelude.{◌≡◌, ◌≢◌, ◌<◌, ◌≤ℤ◌, ◌/◌, ◌++◌, [], ◌∷◌, pos, Option, Some, IfOk, OnOk, OnErr, IsSome};
-ghost use Rattle.std.specs.Prelude.{IsTrue, length, slice_index, if◌then◌else◌};
+ghost use Rattle.std.specs.Prelude.{◌≡◌, ◌≢◌, ◌<◌, ◌≤ℤ◌, ◌/◌, ◌++◌, [], ◌∷◌, Option, Some, IfOk, OnOk, IsSome, length, if◌then◌else◌};
 ghost use Rattle.std.specs.Option.{option_map};
 ghost use Rattle.scale_kit.specs.Scale.{IsScale};
 ghost use Rattle.scale_kit.specs.Places.{the_number, the_instant, domain_cells};

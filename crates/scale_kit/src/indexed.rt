@@ -1,5 +1,5 @@
 //! Scales with an index of their domain, for many cells.
-ghost use Rattle.std.specs.Prelude.{◌≡◌, ◌+◌, ◌<◌, ℕ, cond, Some, None, IfOk, OnOk, length, drop, position, IfSome};
+ghost use Rattle.std.specs.Prelude.{◌≡◌, cond, Some, IfOk, OnOk, length};
 ghost use Rattle.cell_value.specs.declared.cell.Cell.{Cell as AnyCell};
 ghost use Rattle.cell_value.specs.Cell.{same_cells};
 ghost use Rattle.scale_kit.specs.Scale.{IsScale};

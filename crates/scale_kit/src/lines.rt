@@ -1,5 +1,5 @@
 //! Domains of numbers, laid over ranges. A domain and a range are each given by their ends.
-ghost use Rattle.std.specs.Prelude.{◌≡◌, ◌≢◌, None, pos, ◌+ℤ◌, ◌-ℤ◌, ◌*ℤ◌, ◌<ℤ◌, ◌≤ℤ◌};
+ghost use Rattle.std.specs.Prelude.{◌≡◌, ◌≢◌, None, ◌≤ℤ◌};
 ghost use Rattle.fixed_num.specs.Ranges.{in_range};
 ghost use Rattle.scale_kit.specs.Scale.{IsRange};
 ghost use Rattle.scale_kit.specs.Lines.{middle, place_of_number, number_at_place, cut_to};

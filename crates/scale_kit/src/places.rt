@@ -1,17 +1,14 @@
 //! Places of cells on scales, and the numbers at places.
-ghost use Rattle.std.specs.Prelude.{◌≡◌, ◌≢◌, [], ◌<◌, position, ◌≤ℤ◌, pos, Option, Some, None, IsSome, if◌then◌else◌, IsTrue};
-ghost use Rattle.std.specs.Prelude.{◌↔◌, IfSome, length, unwrap_or};
+ghost use Rattle.std.specs.Prelude.{◌≡◌, ◌≢◌, [], position, pos, Option, Some, None, IsSome, if◌then◌else◌, IfSome, length, unwrap_or};
 ghost use Rattle.std.specs.Option.{option_map, option_copied, ok_or};
-ghost use Rattle.fixed_num.specs.Ranges.{in_range, is_within};
+ghost use Rattle.fixed_num.specs.Ranges.{is_within};
 ghost use Rattle.cell_value.specs.Cell.{same_cells};
 ghost use Rattle.scale_kit.specs.Scale.{IsScale, HasBands, HasRange, HasInverse, IsRange};
 ghost use Rattle.scale_kit.specs.Bands.{AreBands, place_of_band};
 ghost use Rattle.scale_kit.specs.Lines as lines;
-ghost use Rattle.scale_kit.specs.Places.{the_number, in_time, the_instant, domain_cells, domain_index, bands_of, entry_at};
-ghost use Rattle.scale_kit.specs.Places.{entry_number, exact_place_at};
-ghost use Rattle.scale_kit.specs.Places.{reached, reached_place, place_of, reached_on_band, band_place_at, place_in_band_of};
-ghost use Rattle.scale_kit.specs.Places.{band_width_of};
-ghost use Rattle.scale_kit.specs.Places.{base_of, inverse_of, inverse_within};
+ghost use Rattle.scale_kit.specs.Places.{the_number, in_time, the_instant, domain_cells, domain_index, bands_of, entry_at, entry_number};
+ghost use Rattle.scale_kit.specs.Places.{exact_place_at, reached_place, place_of, reached_on_band, band_place_at, place_in_band_of};
+ghost use Rattle.scale_kit.specs.Places.{band_width_of, base_of, inverse_of, inverse_within};
 ghost use Rattle.scale_kit.specs.inner.Between.{IsBelow};
 
 use crate::bands::Bands;

@@ -1,5 +1,5 @@
 -- Items that are moved. Places and how far they are moved are millionths of a pixel.
-use Rattle.std.specs.Prelude.{◌≡◌, refl, ◌+◌, if◌then◌else◌, ℤ, pos, negsuc, ◌+ℤ◌, Option, Some, None, List, [], ◌∷◌, map}
+use Rattle.std.specs.Prelude.{◌≡◌, refl, ◌+◌, if◌then◌else◌, ℤ, pos, negsuc, ◌+ℤ◌, Option, Some, None, [], ◌∷◌, map}
 use Rattle.std.specs.Option.{option_map}
 use Rattle.std.specs.Ordering.{int_eq}
 use Rattle.fixed_num.specs.Number.{limit}

@@ -2,8 +2,7 @@
 //! specification. It writes each line whose specification has another first fault, and how many lines there were.
 #![tactic(auto)]
 
-use json_exact::SpecKind;
-use spec_schema::{Fault, Schema, first_fault};
+use spec_schema::{Fault, Schema, SpecKind, first_fault};
 use std::alloc::Global;
 use std::io;
 use text_kit::OutOfMemory;

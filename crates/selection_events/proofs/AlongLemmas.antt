@@ -1,7 +1,7 @@
 -- Where a place lies beyond a panel, so far that its distance is out of range.
 use Rattle.std.proofs.Common.{◌≡◌, ℤ, pos, ◌-ℤ◌, ◌<ℤ◌, ◌≤ℤ◌, arith}
 use Rattle.std.proofs.lemmas.Int.{ints}
-use Rattle.std.specs.Int.{int_min, int_max}
+use Rattle.std.specs.Int.{int_max}
 use Rattle.fixed_num.specs.Number.{IsNumber}
 use Rattle.selection_events.specs.Drags.{along}
 

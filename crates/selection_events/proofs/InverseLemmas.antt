@@ -1,5 +1,5 @@
 -- Scales that can be inverted.
-use Rattle.std.proofs.Common.{◌≡◌, ◌≢◌, ℤ, Bool, true, false, subst, sym, ap, ◌∙◌}
+use Rattle.std.proofs.Common.{◌≢◌, ℤ, sym, ap, ◌∙◌}
 use Rattle.std.specs.Prelude.{not, IsTrue}
 use Rattle.std.specs.Ordering.{int_eq}
 use Rattle.std.proofs.lemmas.Bool.Decides.{Decides-int_eq}

@@ -1,5 +1,5 @@
 -- What events leave of stores is stores.
-use Rattle.std.proofs.Common.{◌≡◌, ◌≢◌, ◌⊎◌, ℕ, ℤ, suc, ◌<◌, Bool, true, false, cond, ◌||◌, Option, Some, None, List, [], ◌∷◌, length, map, inl, inr}
+use Rattle.std.proofs.Common.{◌≡◌, ◌≢◌, ◌⊎◌, ℕ, ℤ, suc, Bool, true, false, cond, ◌||◌, Option, Some, None, List, [], ◌∷◌, map, inl, inr}
 use Rattle.std.proofs.Common.{refl, sym, ap, subst, ◌∙◌, arith}
 use Rattle.std.specs.Prelude.{zip, is_some, unwrap_or, slice_get, Contains}
 use Rattle.std.specs.Option.{option_map, option_map_or}
@@ -9,7 +9,6 @@ use Rattle.fixed_num.specs.Ranges.{◌>>=◌}
 use Rattle.cell_value.specs.declared.state.Extent.{Extent}
 use Rattle.cell_value.specs.declared.state.StoreOf.{StoreOf}
 use Rattle.cell_value.specs.Row.{Cells}
-use Rattle.scale_kit.specs.declared.scale.Scale.{Scale}
 use Rattle.scene_tree.specs.declared.scene.Panel.{Panel}
 use Rattle.selection_events.specs.declared.selection.SelectionOf.{SelectionOf}
 use Rattle.selection_events.specs.declared.selection.DragOf.{DragOf}
@@ -21,9 +20,11 @@ use Rattle.selection_events.specs.Places.{place_at, panel_at, has_unit, plot_wit
 use Rattle.selection_events.specs.Hits.{hit_at}
 use Rattle.selection_events.specs.Stores.{empty_store, with_tuples, is_same_tuple, toggled, store_clicked, store_toggled}
 use Rattle.selection_events.specs.Drags.{extents_of, with_extents}
-use Rattle.selection_events.specs.Events.{Seen, Change, Reads, with_units, store_changed, stores_changed, tuple_of, tuple_at, clicked_at, toggled_at, cleared_at, channel_here, dragged_over, dragged_at}
-use Rattle.selection_events.specs.Kept.{Temporal, fields_of, IsSelection, HasFields, IsFacetRow, IsSeenOf, HoldsTuples, HoldsExtents, IsExtentOf, IsHeldIn, IsStoreOf, AreStoresOf}
-use Rattle.selection_events.specs.Kept.{ClicksKeepStores, TogglesKeepStores, ClearsKeepStores, DragsKeepStores}
+use Rattle.selection_events.specs.Events.{Seen, Change, with_units, store_changed, stores_changed, tuple_of, tuple_at, clicked_at}
+use Rattle.selection_events.specs.Events.{toggled_at, cleared_at, channel_here, dragged_over, dragged_at}
+use Rattle.selection_events.specs.Kept.{Temporal, fields_of, IsSelection, HasFields, IsFacetRow, IsSeenOf, HoldsTuples, HoldsExtents}
+use Rattle.selection_events.specs.Kept.{IsExtentOf, IsStoreOf, AreStoresOf, ClicksKeepStores, TogglesKeepStores, ClearsKeepStores}
+use Rattle.selection_events.specs.Kept.{DragsKeepStores}
 use Rattle.selection_events.proofs.FieldLemmas.{made_of, toggled_differ, toggled_have}
 use Rattle.selection_events.proofs.ExtentLemmas.{extents_are}
 
@@ -35,7 +36,8 @@ contains_here x xs = (0, omega arith, refl)
 contains_later : {X : Type 0} (y : X) (xs : List X) (x : X) → Contains xs x → Contains (y ∷ xs) x
 contains_later y xs x h = let below = h.1 in (suc h.0, omega (arith, below), h.2)
 
-found_at : {X : Type 0} (b : Bool) (y : X) (ys : List X) (o : Option X) (x : X) → (o ≡ Some x → Contains ys x) → cond b (Some y) o ≡ Some x → Contains (y ∷ ys) x
+found_at : {X : Type 0} (b : Bool) (y : X) (ys : List X) (o : Option X) (x : X)
+    → (o ≡ Some x → Contains ys x) → cond b (Some y) o ≡ Some x → Contains (y ∷ ys) x
 found_at true y ys o x later e = let same : y ≡ x = cc e in subst (Contains (y ∷ ys)) same (contains_here y ys)
 found_at false y ys o x later e = contains_later y ys x (later e)
 
@@ -53,7 +55,8 @@ mapped_place panels index None place is e = absurd (cc e)
 mapped_place panels index (Some panel) place is e =
     let same : (index, panel) ≡ place = cc e in subst (λ (p : ℕ × Panel). slice_get panels p.0 ≡ Some p.1) same is
 
-there : (panels : List Panel) (at : Option ℕ) (place : ℕ × Panel) → (at >>= (λ index. option_map (λ panel. (index, panel)) (slice_get panels index))) ≡ Some place
+there : (panels : List Panel) (at : Option ℕ) (place : ℕ × Panel)
+    → (at >>= (λ index. option_map (λ panel. (index, panel)) (slice_get panels index))) ≡ Some place
     → slice_get panels place.0 ≡ Some place.1
 there panels None place e = absurd (cc e)
 there panels (Some index) place e = mapped_place panels index (slice_get panels index) place refl e
@@ -229,7 +232,8 @@ module _ (temporal : Temporal) (plots : List PlotOf) (seen : Seen) (is_seen : Is
   by_toggle : (x y : ℤ) (s : SelectionOf) (place : ℕ × Panel) (plot : PlotOf) (u : ℕ) (us : List ℕ) (store : StoreOf) → IsSelection s
       → slice_get seen.scene.panels place.0 ≡ Some place.1 → plot_of plots place.1 ≡ Some plot → Contains plots plot → units_in s plot ≡ u ∷ us
       → IsStoreOf temporal plots s store → (toggle : Option (List (List ℕ))) → s.toggle ≡ toggle
-      → IsStoreOf temporal plots s (option_map_or (λ fields. store_toggled fields place.1.facet u store (tuple_at seen.cell fields (u ∷ us) place.1 x y)) toggle store)
+      → IsStoreOf temporal plots s
+      (option_map_or (λ fields. store_toggled fields place.1.facet u store (tuple_at seen.cell fields (u ∷ us) place.1 x y)) toggle store)
   by_toggle x y s place plot u us store sel at of contains units stored None toggle = stored
   by_toggle x y s place plot u us store sel at of contains units stored (Some fields) toggle =
       toggled_kept s place plot u us store sel at of contains units stored fields toggle (hit_at (u ∷ us) place.1 x y)
@@ -266,7 +270,8 @@ module _ (temporal : Temporal) (plots : List PlotOf) (seen : Seen) (is_seen : Is
   by_channels d s place plot u us store at of contains units stored [] is = stored
   by_channels d s place plot u us store at of contains units stored (c ∷ cs) is =
       by_extents s place plot u us at of contains units (extents_of place.1 d (c ∷ cs))
-      (λ es found. extents_are seen.scale place.0 s place.1 d (temporal plot s) (λ channel scale inverts. is_seen.scales place.0 place.1 plot s channel scale at of inverts)
+      (λ es found. extents_are seen.scale place.0 s place.1 d (temporal plot s)
+      (λ channel scale inverts. is_seen.scales place.0 place.1 plot s channel scale at of inverts)
       s.drag es (ap (extents_of place.1 d) is ∙ found))
 
   drags_keep : (d : Drag) → KeepsOne (dragged_at seen.scale d)

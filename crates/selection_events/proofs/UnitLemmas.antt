@@ -1,8 +1,9 @@
 -- Searches by halves.
-use Rattle.std.proofs.Common.{◌≡◌, ◌≢◌, ℕ, zero, suc, ◌<◌, ◌≤◌, Bool, true, false, ◌||◌, Result, Ok, Err, Some, List, [], ◌∷◌, length, nat_lt, get_or, refl, sym, ap, ◌∙◌, arith}
+use Rattle.std.proofs.Common.{◌≡◌, ◌≢◌, ℕ, suc, ◌<◌, ◌≤◌, Bool, true, false, ◌||◌, Ok, Err, Some, List, [], ◌∷◌, length, nat_lt, get_or}
+use Rattle.std.proofs.Common.{refl, sym, ap, ◌∙◌, arith}
 use Rattle.std.specs.Prelude.{◌==◌}
 use Rattle.std.specs.Ordering.{nat_cmp, is_le, is_some_and}
-use Rattle.std.specs.List.{list_any, IsAllAdjacentAnswer}
+use Rattle.std.specs.List.{IsAllAdjacentAnswer}
 use Rattle.std.specs.List.Sorted.{IsNonDecreasing, IsBinarySearchResult}
 use Rattle.std.proofs.lemmas.List.Sorted.{searched, non_decreasing_from_is_sorted}
 use Rattle.std.proofs.lemmas.List.Folds.{list_any_at}

@@ -1,19 +1,16 @@
 -- Events at work, on three circles in one panel: two of them stand at one place.
-use Rattle.std.specs.Prelude.{◌≡◌, refl, ℕ, ◌*◌, ℤ, pos, true, Option, Some, None, List, [], ◌∷◌, map, codes}
-use Rattle.std.specs.Option.{option_map}
+use Rattle.std.specs.Prelude.{◌≡◌, refl, ℕ, ◌*◌, ℤ, pos, true, Some, None, List, [], ◌∷◌, codes}
 use Rattle.fixed_num.specs.Number.{million}
 use Rattle.cell_value.specs.declared.cell.Cell.{Cell}
 use Rattle.cell_value.specs.declared.cell.Cell.TheVariants.{Number}
 use Rattle.cell_value.specs.declared.state.Key.{Key}
 use Rattle.cell_value.specs.declared.state.StoreOf.{StoreOf}
 use Rattle.cell_value.specs.Row.{Cells, row_of}
-use Rattle.scene_tree.specs.declared.scene.Scene.{Scene}
 use Rattle.scene_tree.specs.declared.scene.Panel.{Panel}
 use Rattle.scene_tree.specs.declared.scene.Item.{Item}
 use Rattle.scene_tree.specs.declared.shape.Shape.TheVariants.{Circle}
 use Rattle.selection_events.specs.declared.selection.SelectionOf.{SelectionOf}
 use Rattle.selection_events.specs.declared.selection.PlotOf.{PlotOf}
-use Rattle.selection_events.specs.declared.hits.Hit.{Hit}
 use Rattle.selection_events.specs.Hits.{hit_at}
 use Rattle.selection_events.specs.Stores.{empty_store, with_tuples}
 use Rattle.selection_events.specs.Events.{Seen, stores_clicked, stores_toggled, stores_cleared}

@@ -1,6 +1,6 @@
 -- The stores that events can leave, and the law that events leave such stores.
-use Rattle.std.specs.Prelude.{◌≡◌, ◌≢◌, ◌⊎◌, ℕ, ℤ, ◌<ℤ◌, Bool, IsTrue, Option, Some, None, is_some, List, [], ◌∷◌, unwrap_or, slice_get, All, AllPairs}
-use Rattle.std.specs.Prelude.{Contains, ◌||◌}
+use Rattle.std.specs.Prelude.{◌≡◌, ◌≢◌, ◌⊎◌, ℕ, ℤ, ◌<ℤ◌, Bool, IsTrue, Option, Some, None, is_some, List, [], unwrap_or, slice_get, All}
+use Rattle.std.specs.Prelude.{AllPairs, Contains, ◌||◌}
 use Rattle.std.specs.List.{list_any, AllZip}
 use Rattle.std.specs.Str.{bytes_eq}
 use Rattle.std.specs.FinMap.{get}

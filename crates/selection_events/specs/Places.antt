@@ -1,6 +1,6 @@
 -- Where an event acts: in which panel of a picture, and on which units there. Places are millionths of a pixel.
-use Rattle.std.specs.Prelude.{◌≡◌, refl, ℕ, ◌*◌, ◌==◌, ℤ, pos, ◌-ℤ◌, Bool, true, false, ◌&&◌, Option, Some, None, is_some, List, [], ◌∷◌}
-use Rattle.std.specs.Prelude.{filter, find, slice_get}
+use Rattle.std.specs.Prelude.{◌≡◌, refl, ℕ, ◌*◌, ◌==◌, ℤ, pos, ◌-ℤ◌, Bool, false, ◌&&◌, Option, Some, None, is_some, List, [], ◌∷◌, filter}
+use Rattle.std.specs.Prelude.{find, slice_get}
 use Rattle.std.specs.Option.{option_map, option_map_or}
 use Rattle.std.specs.List.{list_any}
 use Rattle.fixed_num.specs.Number.{million}

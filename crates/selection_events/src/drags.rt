@@ -6,7 +6,8 @@ ghost use Rattle.std.specs.Str.{bytes_eq};
 ghost use Rattle.fixed_num.specs.Number.{IsNumber};
 ghost use Rattle.scale_kit.specs.Scale.{IsScale};
 ghost use Rattle.scale_kit.specs.Places.{inverse_within};
-ghost use Rattle.selection_events.specs.Drags.{is_time, can_invert, along, ends_of, extent_between, extent_on, extent_of, extents_of, with_extents, store_dragged, HasScale};
+ghost use Rattle.selection_events.specs.Drags.{is_time, can_invert, along, ends_of, extent_between, extent_on, extent_of, extents_of};
+ghost use Rattle.selection_events.specs.Drags.{with_extents, store_dragged, HasScale};
 
 use crate::places::zero;
 use crate::stores::empty_store;

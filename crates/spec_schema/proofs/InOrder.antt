@@ -8,7 +8,7 @@ use Rattle.std.proofs.lemmas.List.{append_assoc}
 use Rattle.std.proofs.lemmas.List.Folds.{list_all-append}
 use Rattle.json_exact.specs.declared.json.Json.{Json, out-Json, Null, Flag, Number, Huge, Text, List', Object', Row_of-Json, end_of-Json}
 use Rattle.json_exact.specs.declared.json.Json.{more_of-Json, Row_of-Member, end_of-Member, more_of-Member}
-use Rattle.json_exact.specs.declared.spec_error.SpecKind.TheVariants.{Missing}
+use Rattle.spec_schema.specs.declared.spec_error.SpecKind.TheVariants.{Missing}
 use Rattle.spec_schema.specs.declared.fault.Fault.{Fault}
 use Rattle.spec_schema.specs.declared.form.Form.{Form}
 use Rattle.spec_schema.specs.declared.layout.Layout.{Layout}

@@ -8,8 +8,8 @@ use Rattle.json_exact.specs.declared.json.Json.{Json, out-Json, Null, Flag, Numb
 use Rattle.json_exact.specs.declared.json.Json.{more_of-Json, Row_of-Member, end_of-Member, more_of-Member}
 use Rattle.json_exact.specs.declared.json.Json.TheOpen as level
 use Rattle.json_exact.specs.declared.json.Member.{Member}
-use Rattle.json_exact.specs.declared.spec_error.SpecKind.{SpecKind}
-use Rattle.json_exact.specs.declared.spec_error.SpecKind.TheVariants.{Unsupported, Missing, Wrong}
+use Rattle.spec_schema.specs.declared.spec_error.SpecKind.{SpecKind}
+use Rattle.spec_schema.specs.declared.spec_error.SpecKind.TheVariants.{Unsupported, Missing, Wrong}
 use Rattle.spec_schema.specs.declared.fault.Fault.{Fault}
 use Rattle.spec_schema.specs.declared.form.Form.{Form}
 use Rattle.spec_schema.specs.declared.layout.Rule.{Rule}

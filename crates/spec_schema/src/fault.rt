@@ -3,7 +3,7 @@ ghost use Rattle.std.specs.Prelude.{◌≡◌, ◌++◌, ◌∷◌, flat_map, en
 ghost use Rattle.std.specs.Fmt.{decimal};
 ghost use Rattle.spec_schema.specs.Faults.{here, below, path_word, path_byte};
 
-use json_exact::SpecKind;
+use crate::spec_error::SpecKind;
 use std::alloc::Global;
 use text_kit::{OutOfMemory, Seq, Text};
 

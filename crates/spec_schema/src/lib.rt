@@ -11,6 +11,7 @@ mod order;
 mod rows;
 mod schema;
 mod search;
+mod spec_error;
 
 pub use fault::{Fault, path_word};
 pub use form::{Form, Shape};
@@ -19,3 +20,4 @@ pub use order::{earlier, faults_are_in_order};
 pub use rows::{Row, When, layout_by, layout_of_rules, names_by, push_rules};
 pub use schema::{Schema, form_of, layout_of};
 pub use search::first_fault;
+pub use spec_error::{SpecError, SpecKind};

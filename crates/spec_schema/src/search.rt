@@ -9,7 +9,8 @@ use crate::fault::{Fault, below, below_number, here};
 use crate::form::Form;
 use crate::layout::{Layout, Rule, has_name, shape_in};
 use crate::schema::{Schema, form_of, layout_of};
-use json_exact::{Json, Member, SpecKind};
+use crate::spec_error::SpecKind;
+use json_exact::{Json, Member};
 use std::alloc::Global;
 use text_kit::OutOfMemory;
 

@@ -1,5 +1,5 @@
 // Scenes, printed by way of a page.
-ghost use Rattle.std.specs.Prelude.{◌≡◌, ◌++◌, ◌≤◌, codes, OnOk, OnErr};
+ghost use Rattle.std.specs.Prelude.{◌≤◌, codes, OnOk, OnErr};
 ghost use Rattle.std.specs.List.{flat_map};
 ghost use Rattle.chart_io.specs.Outside.{Rose, Appended, AppendedPrefix};
 ghost use Rattle.svg_text.specs.inner.Printing.{Prints};

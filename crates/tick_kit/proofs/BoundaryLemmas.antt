@@ -1,5 +1,7 @@
 -- The boundaries in a domain are all boundaries in it, and those on the way through it are these.
-use Rattle.std.proofs.Common.{◌≡◌, ℕ, zero, suc, ◌*◌, ◌%◌, ◌<◌, ◌≤◌, ◌⊎◌, inl, inr, Bool, true, false, eqb, if◌then◌else◌, ℤ, pos, negsuc, ◌+ℤ◌, ◌-ℤ◌, ◌*ℤ◌, ◌≤ℤ◌, ◌<ℤ◌, unsigned_abs, int_le, Option, Some, None, option_map, List, [], ◌∷◌, ◌++◌, filter, IsTrue, refl, sym, ap, ◌∙◌, subst, ⊎_elim, arith}
+use Rattle.std.proofs.Common.{◌≡◌, ℕ, zero, suc, ◌*◌, ◌%◌, ◌<◌, ◌≤◌, ◌⊎◌, inl, inr, Bool, true, false, eqb, if◌then◌else◌, ℤ, pos, negsuc}
+use Rattle.std.proofs.Common.{◌+ℤ◌, ◌-ℤ◌, ◌*ℤ◌, ◌≤ℤ◌, ◌<ℤ◌, unsigned_abs, int_le, Option, Some, None, option_map, List, [], ◌∷◌, ◌++◌}
+use Rattle.std.proofs.Common.{filter, IsTrue, refl, sym, ap, ◌∙◌, subst, ⊎_elim, arith}
 use Rattle.std.specs.Option.{option_and_then}
 use Rattle.std.proofs.lemmas.Bool.{and_parts, and_from, eqb-true, true≢false}
 use Rattle.std.proofs.lemmas.Int.{ints, unsigned_abs-mul}
@@ -241,7 +243,8 @@ module _ (unit : Unit) (n : ℕ) (domain : ℤ × ℤ) where
   from_end later false h e all = from_none later e all
 
 -- those on the way are all boundaries in the domain
-all_on_the_way : (unit : Unit) (n : ℕ) (domain : ℤ × ℤ) → 1 ≤ n → domain.0 ≤ℤ domain.1 → IsTrue (stands_for_instant domain.0) → IsTrue (stands_for_instant domain.1)
+all_on_the_way : (unit : Unit) (n : ℕ) (domain : ℤ × ℤ) → 1 ≤ n → domain.0 ≤ℤ domain.1
+    → IsTrue (stands_for_instant domain.0) → IsTrue (stands_for_instant domain.1)
     → AreAll (IsBoundaryIn unit n domain) (boundaries_on_the_way unit n domain)
 unfolding boundaries_on_the_way
 all_on_the_way unit n domain some h first last =
@@ -278,7 +281,8 @@ boundaries_are_all unit n domain h =
           and_from (is_whole z) (is_boundary unit n (whole_milliseconds z)) whole there,
         )
 
-pub on_the_way : (unit : Unit) (n : ℕ) (domain : ℤ × ℤ) → 1 ≤ n → domain.0 ≤ℤ domain.1 → IsTrue (stands_for_instant domain.0) → IsTrue (stands_for_instant domain.1)
+pub on_the_way : (unit : Unit) (n : ℕ) (domain : ℤ × ℤ) → 1 ≤ n → domain.0 ≤ℤ domain.1
+    → IsTrue (stands_for_instant domain.0) → IsTrue (stands_for_instant domain.1)
     → boundaries_on_the_way unit n domain ≡ boundaries_in unit n domain
 on_the_way unit n domain some h first last =
     all_are_one (IsBoundaryIn unit n domain) (boundaries_on_the_way unit n domain) (boundaries_in unit n domain)

@@ -10,5 +10,6 @@ use Rattle.tick_kit.specs.TimeTicks.{whole_milliseconds}
 pub instant_there : (number : ℤ) → IsTrue (stands_for_instant number) → instant_at number ≡ Some (whole_milliseconds number)
 instant_there number h = ap (λ b. if b then Some (whole_milliseconds number) else None) h
 
-pub part_there : (number : ℤ) (p : PartOf) → IsTrue (stands_for_instant number) → part number p ≡ Some (pos (part_of (whole_milliseconds number) p) *ℤ pos million)
+pub part_there : (number : ℤ) (p : PartOf) → IsTrue (stands_for_instant number)
+    → part number p ≡ Some (pos (part_of (whole_milliseconds number) p) *ℤ pos million)
 part_there number p h = ap (option_map (λ instant. pos (part_of instant p) *ℤ pos million)) (instant_there number h)

@@ -1,5 +1,6 @@
 -- Numbers a step apart are the multiples of it in a domain.
-use Rattle.std.proofs.Common.{◌≡◌, ℕ, zero, suc, ◌+◌, ◌-◌, ◌*◌, ◌/◌, ◌<◌, ◌≤◌, ◌⊎◌, ℤ, pos, negsuc, neg_ℤ, ◌+ℤ◌, ◌-ℤ◌, ◌*ℤ◌, ◌≤ℤ◌, ◌<ℤ◌, unsigned_abs, List, [], ◌∷◌, ◌++◌, sym, ap, ◌∙◌, arith, inl, inr, ⊎_elim}
+use Rattle.std.proofs.Common.{◌≡◌, ℕ, zero, suc, ◌+◌, ◌-◌, ◌*◌, ◌/◌, ◌<◌, ◌≤◌, ◌⊎◌, ℤ, pos, negsuc, neg_ℤ, ◌+ℤ◌, ◌-ℤ◌, ◌*ℤ◌, ◌≤ℤ◌, ◌<ℤ◌}
+use Rattle.std.proofs.Common.{unsigned_abs, List, [], ◌∷◌, ◌++◌, sym, ap, ◌∙◌, arith, inl, inr, ⊎_elim}
 use Rattle.std.proofs.lemmas.Int.{ints}
 use Rattle.std.proofs.lemmas.List.{append_assoc, append-nil}
 use Rattle.std.proofs.lemmas.Bool.{cases_lt}
@@ -96,7 +97,8 @@ no_multiple lo hi step some h low high none =
     let n = none_counted step (ceiled lo step) hi past (omega (arith, ints, near, h)) in
     sym (ap (λ k. numbers_apart k step (ceiled lo step)) n)
 
-pub multiples_are : (lo hi step first : ℤ) (n : ℕ) → first ≡ ceiled lo step → n ≡ count_apart step first hi → numbers_apart n step first ≡ multiples_in step (lo, hi)
+pub multiples_are : (lo hi step first : ℤ) (n : ℕ) → first ≡ ceiled lo step
+    → n ≡ count_apart step first hi → numbers_apart n step first ≡ multiples_in step (lo, hi)
 unfolding multiples_in
 multiples_are lo hi step first n e f =
     ap (λ k. numbers_apart k step first) f ∙ ap (λ z. numbers_apart (count_apart step z hi) step z) e

@@ -56,6 +56,7 @@ no_fault number pattern e h is fault =
     let known = has_label number h in
     not_both (label number pattern) e known.0 fault (ap (label number) is ∙ known.1)
 
-pub labelled : (number : ℤ) (pattern text : List ℕ) → pattern ≡ default_pattern (whole_milliseconds number) → label number pattern ≡ Ok text → text ≡ time_label number
+pub labelled : (number : ℤ) (pattern text : List ℕ) → pattern ≡ default_pattern (whole_milliseconds number)
+    → label number pattern ≡ Ok text → text ≡ time_label number
 unfolding time_label
 labelled number pattern text is given = sym (ap text_or_nothing (sym (ap (label number) is) ∙ given))

@@ -9,7 +9,8 @@ unfolding boundaries_after
 one_after s i unit n high at h =
     let e : s - i ≡ suc (s - (i + 1)) = omega arith in ap (λ k. boundaries_after k unit n high at) e
 
-pub none_after : (s i : ℕ) (unit : Unit) (n : ℕ) (high at : ℤ) (old whole : List ℤ) → s ≤ i → old ++ boundaries_after (s - i) unit n high at ≡ whole → old ≡ whole
+pub none_after : (s i : ℕ) (unit : Unit) (n : ℕ) (high at : ℤ) (old whole : List ℤ) → s ≤ i
+    → old ++ boundaries_after (s - i) unit n high at ≡ whole → old ≡ whole
 unfolding boundaries_after
 none_after s i unit n high at old whole h is =
     let e : s - i ≡ 0 = omega arith in

@@ -1,5 +1,6 @@
 -- Labels of numbers: so many decimals, commas between thousands, and U+2212 as the minus sign.
-use Rattle.std.specs.Prelude.{ℕ, zero, suc, ◌/◌, ◌%◌, ◌^◌, ◌==◌, ◌&&◌, nat_lt, List, [], ◌∷◌, ◌++◌, length, ℤ, pos, negsuc, ◌*ℤ◌, unsigned_abs, if◌then◌else◌, ◌≡◌, refl, codes}
+use Rattle.std.specs.Prelude.{ℕ, zero, suc, ◌/◌, ◌%◌, ◌^◌, ◌==◌, ◌&&◌, nat_lt, List, [], ◌∷◌, ◌++◌, length, ℤ, pos, negsuc, ◌*ℤ◌}
+use Rattle.std.specs.Prelude.{unsigned_abs, if◌then◌else◌, ◌≡◌, refl, codes}
 use Rattle.std.specs.Fmt.{decimal, digits}
 use Rattle.fixed_num.specs.Number.{rounded, floor_quotient, million}
 use Rattle.fixed_num.specs.Decimal.{last_digits}

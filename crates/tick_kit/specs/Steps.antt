@@ -1,6 +1,6 @@
 -- Steps of ticks, and nice domains. Numbers, spans and steps are counts of millionths.
-use Rattle.std.specs.Prelude.{ℕ, zero, suc, ◌*◌, ◌^◌, ◌<◌, ◌≤◌, ℤ, pos, neg_ℤ, ◌-ℤ◌, int_lt, unsigned_abs, Option, Some, None, option_map, List, [], ◌∷◌, ◌++◌, find}
-use Rattle.std.specs.Prelude.{nat_lt, nat_le, if◌then◌else◌, ◌≡◌, refl}
+use Rattle.std.specs.Prelude.{ℕ, zero, suc, ◌*◌, ◌^◌, ◌<◌, ◌≤◌, ℤ, pos, neg_ℤ, ◌-ℤ◌, int_lt, unsigned_abs, Option, Some, None, option_map}
+use Rattle.std.specs.Prelude.{List, [], ◌∷◌, ◌++◌, find, nat_lt, nat_le, if◌then◌else◌, ◌≡◌, refl}
 use Rattle.fixed_num.specs.Number.{limit, million, floored, ceiled, floor_quotient}
 use Rattle.fixed_num.specs.Ranges.{◌>>=◌, in_range}
 

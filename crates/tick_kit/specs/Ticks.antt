@@ -1,5 +1,6 @@
 -- Ticks of numbers: the multiples of the step in a domain.
-use Rattle.std.specs.Prelude.{ℕ, zero, suc, ◌*◌, ◌/◌, ℤ, pos, neg_ℤ, ◌+ℤ◌, ◌-ℤ◌, ◌*ℤ◌, ◌≤ℤ◌, ◌<ℤ◌, int_lt, unsigned_abs, Option, Some, None, option_map, Result, List, [], ◌∷◌, if◌then◌else◌, ◌≡◌, refl}
+use Rattle.std.specs.Prelude.{ℕ, zero, suc, ◌*◌, ◌/◌, ℤ, pos, neg_ℤ, ◌+ℤ◌, ◌-ℤ◌, ◌*ℤ◌, ◌≤ℤ◌, ◌<ℤ◌, int_lt, unsigned_abs, Option, Some, None}
+use Rattle.std.specs.Prelude.{option_map, Result, List, [], ◌∷◌, if◌then◌else◌, ◌≡◌, refl}
 use Rattle.std.specs.Option.{ok_or}
 use Rattle.std.specs.List.{All, AllPairs, Contains}
 use Rattle.fixed_num.specs.Number.{limit, million, ceiled, floored, floor_quotient}

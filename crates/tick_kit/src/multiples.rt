@@ -1,5 +1,5 @@
 //! Ticks of numbers.
-ghost use Rattle.std.specs.Prelude.{◌≡◌, ◌<◌, ◌+ℤ◌, ◌-ℤ◌, ◌≤ℤ◌, ◌<ℤ◌, [], ◌∷◌, ◌*ℤ◌, ◌≤◌, ℤ, pos, neg_ℤ, unsigned_abs, IfOk};
+ghost use Rattle.std.specs.Prelude.{◌≡◌, ◌+ℤ◌, ◌≤ℤ◌, ◌<ℤ◌, [], ◌∷◌, ◌*ℤ◌, ◌≤◌, ℤ, pos, neg_ℤ, unsigned_abs, IfOk};
 ghost use Rattle.text_kit.specs.Answer.{GivesAs};
 ghost use Rattle.fixed_num.specs.Number.{limit};
 ghost use Rattle.tick_kit.specs.declared.multiples.TickError.TheVariants.{Memory};

@@ -1,5 +1,5 @@
 //! Steps of ticks, and nice domains.
-ghost use Rattle.std.specs.Prelude.{◌≡◌, ℕ, ◌*◌, ◌^◌, ◌<◌, ◌≤◌, ◌≤ℤ◌, ◌<ℤ◌, ◌-ℤ◌, ℤ, pos, unsigned_abs, nat_lt, find, IfSome, IfNone};
+ghost use Rattle.std.specs.Prelude.{◌≡◌, ℕ, ◌*◌, ◌^◌, ◌<◌, ◌≤◌, ◌≤ℤ◌, ◌<ℤ◌, ℤ, pos, unsigned_abs, nat_lt, find, IfSome, IfNone};
 ghost use Rattle.std.specs.Option.{option_map};
 ghost use Rattle.fixed_num.specs.Number.{limit, million};
 ghost use Rattle.tick_kit.specs.Steps.{steps_at, spaced, step_of, span_of, widened, nice_of};

@@ -1,16 +1,17 @@
 -- Boundaries of milliseconds, seconds, minutes and hours.
-use Rattle.std.proofs.Common.{◌≡◌, ℕ, ◌+◌, ◌-◌, ◌*◌, ◌/◌, ◌%◌, ◌<◌, ◌≤◌, ◌==◌, ◌&&◌, min, Bool, true, false, refl, sym, ap, ap₂, ◌∙◌, subst, arith, ℤ, pos, negsuc, ◌+ℤ◌, ◌-ℤ◌, ◌*ℤ◌, ◌≤ℤ◌, ◌<ℤ◌, unsigned_abs}
+use Rattle.std.proofs.Common.{◌≡◌, ℕ, ◌+◌, ◌-◌, ◌*◌, ◌/◌, ◌%◌, ◌<◌, ◌≤◌, ◌==◌, ◌&&◌, min, Bool, true, refl, sym, ap, ◌∙◌, subst, arith, ℤ}
+use Rattle.std.proofs.Common.{pos, ◌+ℤ◌, ◌*ℤ◌, unsigned_abs}
 use Rattle.std.specs.Int.{int_div_euclid, int_rem_euclid}
 use Rattle.std.proofs.Math.Nat.{zero-mod}
 use Rattle.std.proofs.lemmas.Bool.{and_parts, and_from, eqb-true}
 use Rattle.std.proofs.lemmas.Int.{ints}
-use Rattle.case_table.specs.declared.unit.Unit.TheVariants.{Millisecond, Second, Minute, Hour}
+use Rattle.case_table.specs.declared.unit.Unit.TheVariants.{Second, Minute, Hour}
 use Rattle.time_calc.specs.declared.boundaries.Side.TheVariants.{Before, After}
 use Rattle.time_calc.specs.Instants.{day_of_instant, time_of_instant}
 use Rattle.time_calc.specs.Boundaries.{is_boundary}
 use Rattle.time_calc.specs.NextBoundary.{boundary_at}
 use Rattle.time_calc.proofs.InstantLemmas.{day_and_rest, rest_below, one_day}
-use Rattle.time_calc.proofs.BoundaryFrame.{IsLastOf, IsFirstOf, Divides, last_in, first_in, none_up_to, none_after, floor_multiple, next_multiple, not_true}
+use Rattle.time_calc.proofs.BoundaryFrame.{IsLastOf, IsFirstOf, Divides, last_in, first_in}
 
 -- the milliseconds of an instant since midnight
 unfoldable pub rest_of_day : ℤ → ℕ
@@ -31,7 +32,8 @@ rest_small i = rest_below i
 pub day_and_rest_of : (q : ℤ) (m : ℕ) → m < 86400000 → (day_of_instant (moment q m) ≡ q) × (rest_of_day (moment q m) ≡ m)
 unfolding day_of_instant rest_of_day
 day_and_rest_of q m h =
-    one_day q (int_div_euclid (moment q m) (pos 86400000)) m (unsigned_abs (int_rem_euclid (moment q m) (pos 86400000))) h (rest_below (moment q m)) (day_and_rest (moment q m))
+    one_day q (int_div_euclid (moment q m) (pos 86400000)) m
+    (unsigned_abs (int_rem_euclid (moment q m) (pos 86400000))) h (rest_below (moment q m)) (day_and_rest (moment q m))
 
 is_zero : (a : ℕ) → a ≡ 0 → (a == 0) ≡ true
 is_zero a e = ap (λ x. x == 0) e
@@ -51,7 +53,8 @@ second_holds n t k m inside h multiple e =
     let number : m / 1000 % 60 ≡ k = omega (arith, e, h, inside) in
     and_from _ _ (is_zero (m % 1000) (omega (arith, e, h, inside))) (is_zero (m / 1000 % 60 % n) (ap (λ x. x % n) number ∙ multiple))
 
-second_found : (n t m : ℕ) → t < 1440 → 60000 * t ≤ m → m < 60000 * t + 60000 → second_test n m ≡ true → (k : ℕ) × (k < 60) × (m ≡ 60000 * t + 1000 * k) × (k % n ≡ 0)
+second_found : (n t m : ℕ) → t < 1440 → 60000 * t ≤ m → m < 60000 * t + 60000
+    → second_test n m ≡ true → (k : ℕ) × (k < 60) × (m ≡ 60000 * t + 1000 * k) × (k % n ≡ 0)
 second_found n t m inside low high e =
     let both = and_parts _ _ e in
     let multiple = eqb-true (m / 1000 % 60 % n) 0 both.1 in
@@ -91,7 +94,8 @@ last_second n i some =
     let q : ℤ = day_of_instant i in let m : ℕ = rest_of_day i in
     let is = moment_of i in let small = rest_small i in
     let t : ℕ = m / 60000 in let f : ℕ = m / 1000 % 60 in
-    let found = last_in (is_boundary Second n) (second_at q t) n 60 (seconds_divide q t n (omega (arith, small))) some f (omega (arith, small)) i (omega (arith, ints, is)) (omega (arith, ints, is)) in
+    let found = last_in (is_boundary Second n) (second_at q t) n 60 (seconds_divide q t n (omega (arith, small))) some f
+    (omega (arith, small)) i (omega (arith, ints, is)) (omega (arith, ints, is)) in
     let place : second_at q t (f - f % n) ≡ boundary_at Before Second n i = omega (arith, ints) in
     subst (IsLastOf (is_boundary Second n) i) place found
 
@@ -101,7 +105,8 @@ first_second n i limit some =
     let q : ℤ = day_of_instant i in let m : ℕ = rest_of_day i in
     let is = moment_of i in let small = rest_small i in
     let t : ℕ = m / 60000 in let f : ℕ = m / 1000 % 60 in
-    let found = first_in (is_boundary Second n) (second_at q t) n 60 (seconds_divide q t n (omega (arith, small))) some limit (λ _. seconds_end q t n) f (omega (arith, small)) i (omega (arith, ints, is)) (omega (arith, ints, is)) in
+    let found = first_in (is_boundary Second n) (second_at q t) n 60 (seconds_divide q t n (omega (arith, small))) some limit (λ _. seconds_end q t n)
+    f (omega (arith, small)) i (omega (arith, ints, is)) (omega (arith, ints, is)) in
     let place : second_at q t (min 60 (f - f % n + n)) ≡ boundary_at After Second n i = omega (arith, ints) in
     subst (IsFirstOf (is_boundary Second n) limit i) place found
 
@@ -118,9 +123,11 @@ minute_boundary n i = refl
 minute_holds : (n t k m : ℕ) → t < 24 → k < 60 → k % n ≡ 0 → m ≡ 3600000 * t + 60000 * k → minute_test n m ≡ true
 minute_holds n t k m inside h multiple e =
     let number : m / 60000 % 60 ≡ k = omega (arith, e, h, inside) in
-    and_from _ _ (and_from _ _ (is_zero (m % 1000) (omega (arith, e, h, inside))) (is_zero (m / 1000 % 60) (omega (arith, e, h, inside)))) (is_zero (m / 60000 % 60 % n) (ap (λ x. x % n) number ∙ multiple))
+    and_from _ _ (and_from _ _ (is_zero (m % 1000) (omega (arith, e, h, inside))) (is_zero (m / 1000 % 60) (omega (arith, e, h, inside))))
+    (is_zero (m / 60000 % 60 % n) (ap (λ x. x % n) number ∙ multiple))
 
-minute_found : (n t m : ℕ) → t < 24 → 3600000 * t ≤ m → m < 3600000 * t + 3600000 → minute_test n m ≡ true → (k : ℕ) × (k < 60) × (m ≡ 3600000 * t + 60000 * k) × (k % n ≡ 0)
+minute_found : (n t m : ℕ) → t < 24 → 3600000 * t ≤ m → m < 3600000 * t + 3600000
+    → minute_test n m ≡ true → (k : ℕ) × (k < 60) × (m ≡ 3600000 * t + 60000 * k) × (k % n ≡ 0)
 minute_found n t m inside low high e =
     let both = and_parts _ _ e in
     let multiple = eqb-true (m / 60000 % 60 % n) 0 both.1 in
@@ -162,7 +169,8 @@ last_minute n i some =
     let q : ℤ = day_of_instant i in let m : ℕ = rest_of_day i in
     let is = moment_of i in let small = rest_small i in
     let t : ℕ = m / 3600000 in let f : ℕ = m / 60000 % 60 in
-    let found = last_in (is_boundary Minute n) (minute_at q t) n 60 (minutes_divide q t n (omega (arith, small))) some f (omega (arith, small)) i (omega (arith, ints, is)) (omega (arith, ints, is)) in
+    let found = last_in (is_boundary Minute n) (minute_at q t) n 60 (minutes_divide q t n (omega (arith, small))) some f
+    (omega (arith, small)) i (omega (arith, ints, is)) (omega (arith, ints, is)) in
     let place : minute_at q t (f - f % n) ≡ boundary_at Before Minute n i = omega (arith, ints) in
     subst (IsLastOf (is_boundary Minute n) i) place found
 
@@ -172,7 +180,8 @@ first_minute n i limit some =
     let q : ℤ = day_of_instant i in let m : ℕ = rest_of_day i in
     let is = moment_of i in let small = rest_small i in
     let t : ℕ = m / 3600000 in let f : ℕ = m / 60000 % 60 in
-    let found = first_in (is_boundary Minute n) (minute_at q t) n 60 (minutes_divide q t n (omega (arith, small))) some limit (λ _. minutes_end q t n) f (omega (arith, small)) i (omega (arith, ints, is)) (omega (arith, ints, is)) in
+    let found = first_in (is_boundary Minute n) (minute_at q t) n 60 (minutes_divide q t n (omega (arith, small))) some limit (λ _. minutes_end q t n)
+    f (omega (arith, small)) i (omega (arith, ints, is)) (omega (arith, ints, is)) in
     let place : minute_at q t (min 60 (f - f % n + n)) ≡ boundary_at After Minute n i = omega (arith, ints) in
     subst (IsFirstOf (is_boundary Minute n) limit i) place found
 
@@ -189,9 +198,12 @@ hour_boundary n i = refl
 hour_holds : (n t k m : ℕ) → t < 1 → k < 24 → k % n ≡ 0 → m ≡ 86400000 * t + 3600000 * k → hour_test n m ≡ true
 hour_holds n t k m inside h multiple e =
     let number : m / 3600000 ≡ k = omega (arith, e, h, inside) in
-    and_from _ _ (and_from _ _ (and_from _ _ (is_zero (m % 1000) (omega (arith, e, h, inside))) (is_zero (m / 1000 % 60) (omega (arith, e, h, inside)))) (is_zero (m / 60000 % 60) (omega (arith, e, h, inside)))) (is_zero (m / 3600000 % n) (ap (λ x. x % n) number ∙ multiple))
+    and_from _ _
+    (and_from _ _ (and_from _ _ (is_zero (m % 1000) (omega (arith, e, h, inside))) (is_zero (m / 1000 % 60) (omega (arith, e, h, inside))))
+    (is_zero (m / 60000 % 60) (omega (arith, e, h, inside)))) (is_zero (m / 3600000 % n) (ap (λ x. x % n) number ∙ multiple))
 
-hour_found : (n t m : ℕ) → t < 1 → 86400000 * t ≤ m → m < 86400000 * t + 86400000 → hour_test n m ≡ true → (k : ℕ) × (k < 24) × (m ≡ 86400000 * t + 3600000 * k) × (k % n ≡ 0)
+hour_found : (n t m : ℕ) → t < 1 → 86400000 * t ≤ m → m < 86400000 * t + 86400000
+    → hour_test n m ≡ true → (k : ℕ) × (k < 24) × (m ≡ 86400000 * t + 3600000 * k) × (k % n ≡ 0)
 hour_found n t m inside low high e =
     let both = and_parts _ _ e in
     let multiple = eqb-true (m / 3600000 % n) 0 both.1 in
@@ -235,7 +247,8 @@ last_hour n i some =
     let q : ℤ = day_of_instant i in let m : ℕ = rest_of_day i in
     let is = moment_of i in let small = rest_small i in
     let t : ℕ = m / 86400000 in let f : ℕ = m / 3600000 in
-    let found = last_in (is_boundary Hour n) (hour_at q t) n 24 (hours_divide q t n (omega (arith, small))) some f (omega (arith, small)) i (omega (arith, ints, is)) (omega (arith, ints, is)) in
+    let found = last_in (is_boundary Hour n) (hour_at q t) n 24 (hours_divide q t n (omega (arith, small))) some f
+    (omega (arith, small)) i (omega (arith, ints, is)) (omega (arith, ints, is)) in
     let place : hour_at q t (f - f % n) ≡ boundary_at Before Hour n i = omega (arith, ints) in
     subst (IsLastOf (is_boundary Hour n) i) place found
 
@@ -245,6 +258,7 @@ first_hour n i limit some =
     let q : ℤ = day_of_instant i in let m : ℕ = rest_of_day i in
     let is = moment_of i in let small = rest_small i in
     let t : ℕ = m / 86400000 in let f : ℕ = m / 3600000 in
-    let found = first_in (is_boundary Hour n) (hour_at q t) n 24 (hours_divide q t n (omega (arith, small))) some limit (λ _. hours_end q t n) f (omega (arith, small)) i (omega (arith, ints, is)) (omega (arith, ints, is)) in
+    let found = first_in (is_boundary Hour n) (hour_at q t) n 24 (hours_divide q t n (omega (arith, small))) some limit (λ _. hours_end q t n) f
+    (omega (arith, small)) i (omega (arith, ints, is)) (omega (arith, ints, is)) in
     let place : hour_at q t (min 24 (f - f % n + n)) ≡ boundary_at After Hour n i = omega (arith, ints) in
     subst (IsFirstOf (is_boundary Hour n) limit i) place found

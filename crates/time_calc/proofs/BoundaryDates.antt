@@ -1,12 +1,14 @@
 -- Boundaries of days, months, quarters and years among the days from 1 January of the year 0.
-use Rattle.std.proofs.Common.{◌≡◌, ℕ, zero, suc, ◌+◌, ◌-◌, ◌*◌, ◌/◌, ◌%◌, ◌<◌, ◌≤◌, ◌==◌, ◌&&◌, Bool, true, false, refl, sym, ap, ◌∙◌, subst, arith, inl, inr, ℤ, pos, ◌+ℤ◌, ◌-ℤ◌, ◌≤ℤ◌, ◌<ℤ◌, unsigned_abs}
+use Rattle.std.proofs.Common.{◌≡◌, ℕ, ◌+◌, ◌-◌, ◌*◌, ◌/◌, ◌%◌, ◌<◌, ◌≤◌, ◌==◌, ◌&&◌, Bool, true, refl, sym, ap, ◌∙◌, arith, inl, inr, ℤ}
+use Rattle.std.proofs.Common.{pos, ◌+ℤ◌, ◌-ℤ◌, ◌≤ℤ◌, ◌<ℤ◌, unsigned_abs}
 use Rattle.std.proofs.Math.Nat.{zero-mod}
 use Rattle.std.proofs.lemmas.Bool.{and_parts, and_from, eqb-true, cases_lt}
 use Rattle.std.proofs.lemmas.Bool.Decides.{nat_tests}
 use Rattle.std.proofs.lemmas.Int.{ints}
 use Rattle.time_calc.specs.declared.calendar.Date.{Date}
-use Rattle.time_calc.specs.Calendar.{is_leap, days_of_month, days_before_year, days_of_months, days_of_year, day_count, date_of_count, date_of_day}
-use Rattle.time_calc.proofs.CalendarLemmas.{HasParts, years_follow, years_grow, months_make_the_year, months_follow, months_grow, month_is, year_is, date_of_its_count, count_of_its_date, count_has_date}
+use Rattle.time_calc.specs.Calendar.{is_leap, days_of_month, days_before_year, days_of_months, days_of_year, day_count, date_of_count}
+use Rattle.time_calc.proofs.CalendarLemmas.{HasParts, years_follow, years_grow, months_make_the_year, months_follow, months_grow, year_is}
+use Rattle.time_calc.proofs.CalendarLemmas.{date_of_its_count, count_of_its_date, count_has_date}
 use Rattle.time_calc.proofs.BoundaryFrame.{Divides}
 
 -- ---- counts and days
@@ -54,12 +56,14 @@ date : ℕ → ℕ → ℕ → Date
 date y m d = record { year = y; month = m; day = d }
 
 -- the date of a day of a month
-date_in_month : (y k d : ℕ) → k < 12 → d < days_of_month (is_leap y) (k + 1) → date_of_count (days_before_year y + days_of_months (is_leap y) k + d) ≡ date y (k + 1) (d + 1)
+date_in_month : (y k d : ℕ) → k < 12 → d < days_of_month (is_leap y) (k + 1) →
+    date_of_count (days_before_year y + days_of_months (is_leap y) k + d) ≡ date y (k + 1) (d + 1)
 unfolding day_count date
 date_in_month y k d h inside =
     let back : k + 1 - 1 ≡ k = omega arith in
     let before : days_of_months (is_leap y) (k + 1 - 1) ≡ days_of_months (is_leap y) k = ap (days_of_months (is_leap y)) back in
-    let count : days_before_year y + days_of_months (is_leap y) k + d ≡ days_before_year y + days_of_months (is_leap y) (k + 1 - 1) + (d + 1 - 1) = omega (arith, before) in
+    let count : days_before_year y + days_of_months (is_leap y) k + d ≡ days_before_year y + days_of_months (is_leap y) (k + 1 - 1) + (d + 1 - 1) =
+    omega (arith, before) in
     ap date_of_count count ∙ date_of_its_count (record { year = y; month = k + 1; day = d + 1 }) (record {
       month_low = omega arith;
       month_high = omega (arith, h);
@@ -168,7 +172,8 @@ quarters_end y n = ap (λ c. quarter_test n (date_of_count c)) (next_year y) ∙
 abbrev pub year_test : ℕ → Date → Bool
 year_test n d = ((d.day == 1) && (d.month - 1 == 0)) && (d.year % n == 0)
 
-parts_of_count : (c : ℕ) → c ≡ days_before_year (date_of_count c).year + days_of_months (is_leap (date_of_count c).year) ((date_of_count c).month - 1) + ((date_of_count c).day - 1)
+parts_of_count : (c : ℕ) → c ≡ days_before_year (date_of_count c).year
+    + days_of_months (is_leap (date_of_count c).year) ((date_of_count c).month - 1) + ((date_of_count c).day - 1)
 unfolding day_count
 parts_of_count c = sym (count_of_its_date c)
 
@@ -203,7 +208,8 @@ years_divide n = record {
 abbrev pub day_test : ℕ → Date → Bool
 day_test n d = (d.day - 1) % n == 0
 
-days_divide : (y m n : ℕ) → m < 12 → DividesCounts (λ c. day_test n (date_of_count c)) (λ k. days_before_year y + days_of_months (is_leap y) m + k) n (days_of_month (is_leap y) (m + 1))
+days_divide : (y m n : ℕ) → m < 12 → DividesCounts (λ c. day_test n (date_of_count c))
+    (λ k. days_before_year y + days_of_months (is_leap y) m + k) n (days_of_month (is_leap y) (m + 1))
 unfolding date
 days_divide y m n inside = record {
   grows = λ a b less upto. omega (arith, less);
@@ -229,34 +235,41 @@ days_end y m n inside =
     let before : days_of_months leap (m + 1 - 1) ≡ days_of_months leap m = ap (days_of_months leap) back in
     elim (cases_lt (m + 1) 12) as (λ w. day_test n (date_of_count (days_before_year y + days_of_months leap m + days_of_month leap (m + 1))) ≡ true) [
       | inl lt ↦
-          let next : days_before_year y + days_of_months leap m + days_of_month leap (m + 1) ≡ days_before_year y + days_of_months leap (m + 1) = omega (arith, follow, before) in
+          let next : days_before_year y + days_of_months leap m + days_of_month leap (m + 1) ≡ days_before_year y + days_of_months leap (m + 1) =
+          omega (arith, follow, before) in
           ap (λ c. day_test n (date_of_count c)) next ∙ ap (day_test n) (month_start y (m + 1) lt) ∙ zero_multiple n
       | inr ge ↦
           let last : m + 1 ≡ 12 = omega (arith, ge, inside) in
           let all : days_of_months leap (m + 1) ≡ days_of_months leap 12 = ap (days_of_months leap) last in
           let year = next_year y in
-          let next : days_before_year y + days_of_months leap m + days_of_month leap (m + 1) ≡ days_before_year (y + 1) = omega (arith, follow, before, all, year) in
+          let next : days_before_year y + days_of_months leap m + days_of_month leap (m + 1) ≡ days_before_year (y + 1) =
+          omega (arith, follow, before, all, year) in
           ap (λ c. day_test n (date_of_count c)) next ∙ ap (day_test n) (year_start (y + 1)) ∙ zero_multiple n
     ]
 
 -- ---- the same among days counted from 1970
 
 pub days_divide_month : (y m n : ℕ) → m < 12 →
-    Divides (λ day. day_test n (date_of_count (count_of_day day))) (λ k. day_at (days_before_year y + days_of_months (is_leap y) m + k)) n (days_of_month (is_leap y) (m + 1))
-days_divide_month y m n h = to_days (λ c. day_test n (date_of_count c)) (λ k. days_before_year y + days_of_months (is_leap y) m + k) n (days_of_month (is_leap y) (m + 1)) (days_divide y m n h)
+    Divides (λ day. day_test n (date_of_count (count_of_day day)))
+    (λ k. day_at (days_before_year y + days_of_months (is_leap y) m + k)) n (days_of_month (is_leap y) (m + 1))
+days_divide_month y m n h = to_days (λ c. day_test n (date_of_count c))
+    (λ k. days_before_year y + days_of_months (is_leap y) m + k) n (days_of_month (is_leap y) (m + 1)) (days_divide y m n h)
 
 pub days_end_month : (y m n : ℕ) → m < 12 →
     day_test n (date_of_count (count_of_day (day_at (days_before_year y + days_of_months (is_leap y) m + days_of_month (is_leap y) (m + 1))))) ≡ true
 days_end_month y m n h = ap (λ c. day_test n (date_of_count c)) (count_back _) ∙ days_end y m n h
 
-pub months_divide_year : (y n : ℕ) → Divides (λ day. month_test n (date_of_count (count_of_day day))) (λ k. day_at (days_before_year y + days_of_months (is_leap y) k)) n 12
+pub months_divide_year : (y n : ℕ) →
+    Divides (λ day. month_test n (date_of_count (count_of_day day))) (λ k. day_at (days_before_year y + days_of_months (is_leap y) k)) n 12
 months_divide_year y n = to_days (λ c. month_test n (date_of_count c)) (λ k. days_before_year y + days_of_months (is_leap y) k) n 12 (months_divide y n)
 
 pub months_end_year : (y n : ℕ) → month_test n (date_of_count (count_of_day (day_at (days_before_year y + days_of_months (is_leap y) 12)))) ≡ true
 months_end_year y n = ap (λ c. month_test n (date_of_count c)) (count_back _) ∙ months_end y n
 
-pub quarters_divide_year : (y n : ℕ) → Divides (λ day. quarter_test n (date_of_count (count_of_day day))) (λ k. day_at (days_before_year y + days_of_months (is_leap y) (3 * k))) n 4
-quarters_divide_year y n = to_days (λ c. quarter_test n (date_of_count c)) (λ k. days_before_year y + days_of_months (is_leap y) (3 * k)) n 4 (quarters_divide y n)
+pub quarters_divide_year : (y n : ℕ) →
+    Divides (λ day. quarter_test n (date_of_count (count_of_day day))) (λ k. day_at (days_before_year y + days_of_months (is_leap y) (3 * k))) n 4
+quarters_divide_year y n =
+    to_days (λ c. quarter_test n (date_of_count c)) (λ k. days_before_year y + days_of_months (is_leap y) (3 * k)) n 4 (quarters_divide y n)
 
 pub quarters_end_year : (y n : ℕ) → quarter_test n (date_of_count (count_of_day (day_at (days_before_year y + days_of_months (is_leap y) 12)))) ≡ true
 quarters_end_year y n = ap (λ c. quarter_test n (date_of_count c)) (count_back _) ∙ quarters_end y n

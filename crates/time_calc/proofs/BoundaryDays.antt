@@ -1,18 +1,14 @@
 -- Boundaries among days, and at the instants at which days begin.
-use Rattle.std.proofs.Common.{◌≡◌, ℕ, ◌+◌, ◌-◌, ◌*◌, ◌/◌, ◌%◌, ◌<◌, ◌≤◌, ◌==◌, ◌&&◌, min, Bool, true, false, refl, sym, ap, ◌∙◌, subst, inl, inr, arith, ℤ, pos, negsuc, neg_ℤ, ◌≤ℤ◌, ◌<ℤ◌, ◌+ℤ◌, ◌-ℤ◌, ◌*ℤ◌, unsigned_abs}
-use Rattle.std.specs.Int.{int_div_euclid, int_rem_euclid}
+use Rattle.std.proofs.Common.{◌≡◌, ℕ, ◌/◌, ◌%◌, ◌<◌, ◌≤◌, ◌==◌, ◌&&◌, Bool, true, false, refl, sym, ap, ◌∙◌, inl, inr, arith, ℤ, pos, neg_ℤ}
+use Rattle.std.proofs.Common.{◌≤ℤ◌, ◌+ℤ◌, ◌*ℤ◌, unsigned_abs}
 use Rattle.std.proofs.lemmas.Bool.{cases_lt, and_parts, and_from, eqb-true}
 use Rattle.std.proofs.lemmas.Int.{ints}
-use Rattle.case_table.specs.declared.unit.Unit.TheVariants.{Day, Week, Month, Quarter, Year}
-use Rattle.time_calc.specs.declared.boundaries.Side.TheVariants.{Before, After}
-use Rattle.time_calc.specs.declared.calendar.Date.{Date}
-use Rattle.time_calc.specs.Calendar.{is_leap, days_of_month, days_of_months, days_before_year, year_of_count, date_of_count, date_of_day, weekday_of}
-use Rattle.time_calc.specs.Instants.{first_instant, last_instant, day_of_instant, time_of_instant}
-use Rattle.time_calc.specs.Boundaries.{is_boundary, begins_day, last_boundary}
-use Rattle.time_calc.specs.NextBoundary.{boundary_at, boundary_of_week}
-use Rattle.time_calc.proofs.CalendarLemmas.{years_grow, year_starts, year_ends, month_starts, month_ends, month_in_range}
+use Rattle.time_calc.specs.Calendar.{year_of_count, date_of_count, date_of_day}
+use Rattle.time_calc.specs.Instants.{day_of_instant, time_of_instant}
+use Rattle.time_calc.specs.Boundaries.{begins_day}
+use Rattle.time_calc.proofs.CalendarLemmas.{years_grow, year_starts}
 use Rattle.time_calc.proofs.DatetimeLemmas.{year_9999}
-use Rattle.time_calc.proofs.BoundaryFrame.{IsLastOf, IsFirstOf, Divides, last_in, first_in, not_true}
+use Rattle.time_calc.proofs.BoundaryFrame.{IsLastOf, IsFirstOf, not_true}
 use Rattle.time_calc.proofs.BoundaryClocks.{rest_of_day, moment_of, rest_small, day_and_rest_of}
 
 -- the years of the days that instants in range have
@@ -78,7 +74,8 @@ module _ (B : ℤ → Bool) where
       false_is_true : true ≡ false → ⊥
       false_is_true e = cc
 
-  pub first_at_midnight : (i b limit : ℤ) → IsFirstOf B limit (day_of_instant i) b → IsFirstOf (λ j. begins_day j && B (day_of_instant j)) (limit *ℤ pos 86400000) i (b *ℤ pos 86400000)
+  pub first_at_midnight : (i b limit : ℤ) → IsFirstOf B limit (day_of_instant i) b
+      → IsFirstOf (λ j. begins_day j && B (day_of_instant j)) (limit *ℤ pos 86400000) i (b *ℤ pos 86400000)
   first_at_midnight i b limit first =
       let is = moment_of i in let small = rest_small i in
       let start = day_start b in

@@ -1,5 +1,7 @@
 -- The last boundary up to an instant, and the first after it, for each unit.
-use Rattle.std.proofs.Common.{◌≡◌, ℕ, ◌+◌, ◌-◌, ◌*◌, ◌/◌, ◌%◌, ◌<◌, ◌≤◌, ◌==◌, ◌&&◌, min, Bool, true, false, cond, int_le, int_lt, if◌then◌else◌, Option, Some, None, option_map, refl, sym, ap, ◌∙◌, subst, inl, inr, arith, ℤ, pos, negsuc, neg_ℤ, ◌≤ℤ◌, ◌<ℤ◌, ◌+ℤ◌, ◌-ℤ◌, ◌*ℤ◌, unsigned_abs}
+use Rattle.std.proofs.Common.{◌≡◌, ℕ, ◌+◌, ◌-◌, ◌*◌, ◌/◌, ◌%◌, ◌<◌, ◌≤◌, ◌==◌, ◌&&◌, min, Bool, true, false, cond, int_le, int_lt}
+use Rattle.std.proofs.Common.{if◌then◌else◌, Option, Some, None, option_map, refl, sym, ap, ◌∙◌, subst, inl, inr, arith, ℤ, pos, negsuc}
+use Rattle.std.proofs.Common.{neg_ℤ, ◌≤ℤ◌, ◌+ℤ◌, ◌-ℤ◌, ◌*ℤ◌, unsigned_abs}
 use Rattle.std.specs.Int.{int_div_euclid, int_rem_euclid, int_max}
 use Rattle.std.proofs.Math.Nat.{zero-mod}
 use Rattle.std.proofs.lemmas.Bool.{and_parts, and_from, eqb-true, cases_lt}
@@ -10,14 +12,16 @@ use Rattle.time_calc.specs.declared.boundaries.Side.TheVariants.{Before, After}
 use Rattle.time_calc.specs.declared.calendar.Date.{Date}
 use Rattle.time_calc.specs.Calendar.{is_leap, days_of_month, days_of_months, days_before_year, date_of_count, weekday_of}
 use Rattle.time_calc.specs.Instants.{first_instant, last_instant, day_of_instant, instant_number}
-use Rattle.time_calc.specs.Boundaries.{is_boundary, begins_day, last_boundary, IsLastBoundary, IsFirstBoundary, Truncates, Follows}
+use Rattle.time_calc.specs.Boundaries.{is_boundary, begins_day, last_boundary, IsLastBoundary, Truncates, Follows}
 use Rattle.time_calc.specs.NextBoundary.{boundary_at, boundary_of_week, truncated, next_boundary}
 use Rattle.time_calc.proofs.CalendarLemmas.{months_grow, years_grow}
 use Rattle.time_calc.proofs.DatetimeLemmas.{year_1}
 use Rattle.time_calc.proofs.BoundaryFrame.{IsLastOf, IsFirstOf, last_in, first_in, not_true}
-use Rattle.time_calc.proofs.BoundaryClocks.{rest_of_day, moment_of, rest_small, last_second, first_second, last_minute, first_minute, last_hour, first_hour}
+use Rattle.time_calc.proofs.BoundaryClocks.{moment_of, rest_small, last_second, first_second, last_minute, first_minute, last_hour, first_hour}
 use Rattle.time_calc.proofs.BoundaryMilliseconds.{last_millisecond, first_millisecond}
-use Rattle.time_calc.proofs.BoundaryDates.{count_of_day, day_at, day_test, month_test, quarter_test, year_test, days_divide_month, days_end_month, months_divide_year, months_end_year, quarters_divide_year, quarters_end_year, years_divide_days, StandsIn, stands}
+use Rattle.time_calc.proofs.BoundaryDates.{count_of_day, day_at, day_test, month_test, quarter_test, year_test, days_divide_month}
+use Rattle.time_calc.proofs.BoundaryDates.{days_end_month, months_divide_year, months_end_year, quarters_divide_year, quarters_end_year}
+use Rattle.time_calc.proofs.BoundaryDates.{years_divide_days, StandsIn, stands}
 use Rattle.time_calc.proofs.BoundaryDays.{year_of_day, last_at_midnight, first_at_midnight, last_same, first_same, and_joined, and_joined_twice}
 
 -- an instant is one of those in range
@@ -66,7 +70,9 @@ last_day n i some in_range =
     let at = here i in_range in
     let inside = year_inside i in_range in
     let below = at.month_below in let is = at.from_year in let month = at.in_month in let year = at.in_year in
-    let found = last_in (λ day. day_test n (date_of_count (count_of_day day))) (λ k. day_at (days_before_year y + days_of_months (is_leap y) m + k)) n (days_of_month (is_leap y) (m + 1)) (days_divide_month y m n at.month_below) some (d.day - 1) at.day_below q (omega (arith, ints, is)) (omega (arith, ints, is)) in
+    let found = last_in (λ day. day_test n (date_of_count (count_of_day day))) (λ k. day_at (days_before_year y + days_of_months (is_leap y) m + k)) n
+    (days_of_month (is_leap y) (m + 1)) (days_divide_month y m n at.month_below) some
+    (d.day - 1) at.day_below q (omega (arith, ints, is)) (omega (arith, ints, is)) in
     last_same _ _ i _ (day_same n) (last_at_midnight (λ day. day_test n (date_of_count (count_of_day day))) i _ found)
 
 first_day : (n : ℕ) (i : ℤ) → 0 < n → IsInstant i → IsFirstOf (is_boundary Day n) last_boundary i (boundary_at After Day n i)
@@ -78,12 +84,16 @@ first_day n i some in_range =
     let at = here i in_range in
     let inside = year_inside i in_range in
     let below = at.month_below in let is = at.from_year in let month = at.in_month in let year = at.in_year in
-    let found = first_in (λ day. day_test n (date_of_count (count_of_day day))) (λ k. day_at (days_before_year y + days_of_months (is_leap y) m + k)) n (days_of_month (is_leap y) (m + 1)) (days_divide_month y m n at.month_below) some (pos 2932532) (λ _. days_end_month y m n at.month_below) (d.day - 1) at.day_below q (omega (arith, ints, is)) (omega (arith, ints, is)) in
+    let found = first_in (λ day. day_test n (date_of_count (count_of_day day))) (λ k. day_at (days_before_year y + days_of_months (is_leap y) m + k))
+    n (days_of_month (is_leap y) (m + 1)) (days_divide_month y m n at.month_below) some (pos 2932532) (λ _. days_end_month y m n at.month_below)
+    (d.day - 1) at.day_below q (omega (arith, ints, is)) (omega (arith, ints, is)) in
     let f : ℕ = d.day - 1 in
     let from = at.has.month_low in
     let again : m + 1 ≡ d.month = omega (arith, from) in
-    let place = ap (λ k. day_at (days_before_year y + days_of_months (is_leap y) m + min (days_of_month (is_leap y) k) (f - f % n + n)) *ℤ pos 86400000) again in
-    subst (IsFirstOf (is_boundary Day n) last_boundary i) place (first_same _ _ last_boundary i _ (day_same n) (first_at_midnight (λ day. day_test n (date_of_count (count_of_day day))) i _ (pos 2932532) found))
+    let place = ap
+    (λ k. day_at (days_before_year y + days_of_months (is_leap y) m + min (days_of_month (is_leap y) k) (f - f % n + n)) *ℤ pos 86400000) again in
+    subst (IsFirstOf (is_boundary Day n) last_boundary i) place
+    (first_same _ _ last_boundary i _ (day_same n) (first_at_midnight (λ day. day_test n (date_of_count (count_of_day day))) i _ (pos 2932532) found))
 
 -- ---- months
 
@@ -100,7 +110,8 @@ last_month n i some in_range =
     let at = here i in_range in
     let inside = year_inside i in_range in
     let below = at.month_below in let is = at.from_year in let month = at.in_month in let year = at.in_year in
-    let found = last_in (λ day. month_test n (date_of_count (count_of_day day))) (λ k. day_at (days_before_year y + days_of_months (is_leap y) k)) n 12 (months_divide_year y n) some m at.month_below q (omega (arith, ints, is)) (omega (arith, ints, month)) in
+    let found = last_in (λ day. month_test n (date_of_count (count_of_day day))) (λ k. day_at (days_before_year y + days_of_months (is_leap y) k)) n
+    12 (months_divide_year y n) some m at.month_below q (omega (arith, ints, is)) (omega (arith, ints, month)) in
     last_same _ _ i _ (month_same n) (last_at_midnight (λ day. month_test n (date_of_count (count_of_day day))) i _ found)
 
 first_month : (n : ℕ) (i : ℤ) → 0 < n → IsInstant i → IsFirstOf (is_boundary Month n) last_boundary i (boundary_at After Month n i)
@@ -112,7 +123,9 @@ first_month n i some in_range =
     let at = here i in_range in
     let inside = year_inside i in_range in
     let below = at.month_below in let is = at.from_year in let month = at.in_month in let year = at.in_year in
-    let found = first_in (λ day. month_test n (date_of_count (count_of_day day))) (λ k. day_at (days_before_year y + days_of_months (is_leap y) k)) n 12 (months_divide_year y n) some (pos 2932532) (λ _. months_end_year y n) m at.month_below q (omega (arith, ints, is)) (omega (arith, ints, month)) in
+    let found = first_in (λ day. month_test n (date_of_count (count_of_day day))) (λ k. day_at (days_before_year y + days_of_months (is_leap y) k)) n
+    12 (months_divide_year y n) some (pos 2932532) (λ _. months_end_year y n) m
+    at.month_below q (omega (arith, ints, is)) (omega (arith, ints, month)) in
     first_same _ _ last_boundary i _ (month_same n) (first_at_midnight (λ day. month_test n (date_of_count (count_of_day day))) i _ (pos 2932532) found)
 
 -- ---- quarters
@@ -132,7 +145,9 @@ last_quarter n i some in_range =
     let below = at.month_below in let is = at.from_year in let month = at.in_month in let year = at.in_year in
     let start = months_grow (is_leap y) (3 * (m / 3)) m (omega arith) in
     let stop = months_grow (is_leap y) (m + 1) (3 * (m / 3 + 1)) (omega arith) in
-    let found = last_in (λ day. quarter_test n (date_of_count (count_of_day day))) (λ k. day_at (days_before_year y + days_of_months (is_leap y) (3 * k))) n 4 (quarters_divide_year y n) some (m / 3) (omega (arith, below)) q (omega (arith, ints, is, start)) (omega (arith, ints, month, stop)) in
+    let found = last_in (λ day. quarter_test n (date_of_count (count_of_day day)))
+    (λ k. day_at (days_before_year y + days_of_months (is_leap y) (3 * k))) n 4 (quarters_divide_year y n) some (m / 3) (omega (arith, below)) q
+    (omega (arith, ints, is, start)) (omega (arith, ints, month, stop)) in
     last_same _ _ i _ (quarter_same n) (last_at_midnight (λ day. quarter_test n (date_of_count (count_of_day day))) i _ found)
 
 first_quarter : (n : ℕ) (i : ℤ) → 0 < n → IsInstant i → IsFirstOf (is_boundary Quarter n) last_boundary i (boundary_at After Quarter n i)
@@ -146,7 +161,9 @@ first_quarter n i some in_range =
     let below = at.month_below in let is = at.from_year in let month = at.in_month in let year = at.in_year in
     let start = months_grow (is_leap y) (3 * (m / 3)) m (omega arith) in
     let stop = months_grow (is_leap y) (m + 1) (3 * (m / 3 + 1)) (omega arith) in
-    let found = first_in (λ day. quarter_test n (date_of_count (count_of_day day))) (λ k. day_at (days_before_year y + days_of_months (is_leap y) (3 * k))) n 4 (quarters_divide_year y n) some (pos 2932532) (λ _. quarters_end_year y n) (m / 3) (omega (arith, below)) q (omega (arith, ints, is, start)) (omega (arith, ints, month, stop)) in
+    let found = first_in (λ day. quarter_test n (date_of_count (count_of_day day)))
+    (λ k. day_at (days_before_year y + days_of_months (is_leap y) (3 * k))) n 4 (quarters_divide_year y n) some (pos 2932532)
+    (λ _. quarters_end_year y n) (m / 3) (omega (arith, below)) q (omega (arith, ints, is, start)) (omega (arith, ints, month, stop)) in
     first_same _ _ last_boundary i _ (quarter_same n) (first_at_midnight (λ day. quarter_test n (date_of_count (count_of_day day))) i _ (pos 2932532) found)
 
 -- ---- years
@@ -164,7 +181,8 @@ last_year n i some in_range =
     let at = here i in_range in
     let inside = year_inside i in_range in
     let below = at.month_below in let is = at.from_year in let month = at.in_month in let year = at.in_year in
-    let found = last_in (λ day. year_test n (date_of_count (count_of_day day))) (λ k. day_at (days_before_year k)) n 10000 (years_divide_days n) some y (omega (arith, inside)) q (omega (arith, ints, is)) (omega (arith, ints, year)) in
+    let found = last_in (λ day. year_test n (date_of_count (count_of_day day))) (λ k. day_at (days_before_year k)) n 10000 (years_divide_days n) some
+    y (omega (arith, inside)) q (omega (arith, ints, is)) (omega (arith, ints, year)) in
     last_same _ _ i _ (year_same n) (last_at_midnight (λ day. year_test n (date_of_count (count_of_day day))) i _ found)
 
 first_year : (n : ℕ) (i : ℤ) → 0 < n → IsInstant i → IsFirstOf (is_boundary Year n) last_boundary i (boundary_at After Year n i)
@@ -176,7 +194,9 @@ first_year n i some in_range =
     let at = here i in_range in
     let inside = year_inside i in_range in
     let below = at.month_below in let is = at.from_year in let month = at.in_month in let year = at.in_year in
-    let found = first_in (λ day. year_test n (date_of_count (count_of_day day))) (λ k. day_at (days_before_year k)) n 10000 (years_divide_days n) some (pos 2932532) (λ within. absurd (omega (arith, ints, late_year, within))) y (omega (arith, inside)) q (omega (arith, ints, is)) (omega (arith, ints, year)) in
+    let found = first_in (λ day. year_test n (date_of_count (count_of_day day))) (λ k. day_at (days_before_year k)) n 10000 (years_divide_days n) some
+    (pos 2932532) (λ within. absurd (omega (arith, ints, late_year, within))) y
+    (omega (arith, inside)) q (omega (arith, ints, is)) (omega (arith, ints, year)) in
     first_same _ _ last_boundary i _ (year_same n) (first_at_midnight (λ day. year_test n (date_of_count (count_of_day day))) i _ (pos 2932532) found)
 
 -- ---- weeks
@@ -294,16 +314,19 @@ pub truncated_is_last : (unit : Unit) (n : ℕ) (i : ℤ) → 0 < n → IsInstan
 unfolding truncated
 truncated_is_last unit n i some in_range = last_in_range unit n i (boundary_at Before unit n i) in_range (last_of_unit unit n i some in_range)
 
-pub answers_last : (unit : Unit) (n : ℕ) (o answer : Option ℤ) (i : ℤ) → 0 < n → IsInstant i → o ≡ Some i → answer ≡ Some (instant_number (truncated unit n i)) → Truncates unit n o answer
+pub answers_last : (unit : Unit) (n : ℕ) (o answer : Option ℤ) (i : ℤ) → 0 < n → IsInstant i → o ≡ Some i
+    → answer ≡ Some (instant_number (truncated unit n i)) → Truncates unit n o answer
 answers_last unit n o answer i some in_range here is =
     let P : Option ℤ → Type 0 = λ o. Truncates unit n o answer in
     subst P (sym here) (truncated unit n i, is, truncated_is_last unit n i some in_range)
 
 -- what `next` answers
-first_in_range : (unit : Unit) (n : ℕ) (i b : ℤ) (o : Option ℤ) → IsFirstOf (is_boundary unit n) last_boundary i b → o ≡ (if int_le b last_boundary then Some b else None) → Follows unit n (Some i) (option_map instant_number o)
+first_in_range : (unit : Unit) (n : ℕ) (i b : ℤ) (o : Option ℤ) → IsFirstOf (is_boundary unit n) last_boundary i b
+    → o ≡ (if int_le b last_boundary then Some b else None) → Follows unit n (Some i) (option_map instant_number o)
 first_in_range unit n i b o first is =
     let P : Option ℤ → Type 0 = λ o. Follows unit n (Some i) (option_map instant_number o) in
-    subst P (sym is) (elim (int_le b last_boundary) as (λ w. int_le b last_boundary ≡ w → Follows unit n (Some i) (option_map instant_number (if w then Some b else None))) [
+    subst P (sym is) (elim (int_le b last_boundary) as
+    (λ w. int_le b last_boundary ≡ w → Follows unit n (Some i) (option_map instant_number (if w then Some b else None))) [
       | true ↦ λ e. (
         b,
         refl,
@@ -321,7 +344,8 @@ pub next_is_first : (unit : Unit) (n : ℕ) (i : ℤ) → 0 < n → IsInstant i 
 unfolding next_boundary
 next_is_first unit n i some in_range = first_in_range unit n i (boundary_at After unit n i) (next_boundary unit n i) (first_of_unit unit n i some in_range) refl
 
-pub answers_first : (unit : Unit) (n : ℕ) (o next answer : Option ℤ) (i : ℤ) → 0 < n → IsInstant i → o ≡ Some i → next ≡ next_boundary unit n i → answer ≡ option_map instant_number next → Follows unit n o answer
+pub answers_first : (unit : Unit) (n : ℕ) (o next answer : Option ℤ) (i : ℤ) → 0 < n → IsInstant i → o ≡ Some i
+    → next ≡ next_boundary unit n i → answer ≡ option_map instant_number next → Follows unit n o answer
 answers_first unit n o next answer i some in_range here is seen =
     let P : Option ℤ → Type 0 = λ o. Follows unit n o answer in
     let Q : Option ℤ → Type 0 = λ a. Follows unit n (Some i) a in

@@ -1,10 +1,12 @@
 -- Days and dates are counted from each other.
-use Rattle.std.proofs.Common.{◌≡◌, ℕ, zero, suc, ◌+◌, ◌-◌, ◌*◌, ◌/◌, ◌<◌, ◌≤◌, Bool, true, false, cond, nat_le, refl, sym, ap, ◌∙◌, arith, ℤ, pos, neg_ℤ, ◌+ℤ◌, ◌-ℤ◌, ◌≤ℤ◌, unsigned_abs, inl, inr}
+use Rattle.std.proofs.Common.{◌≡◌, ℕ, zero, suc, ◌+◌, ◌-◌, ◌*◌, ◌/◌, ◌<◌, ◌≤◌, Bool, true, false, cond, nat_le, refl, sym, ap, ◌∙◌, arith}
+use Rattle.std.proofs.Common.{ℤ, pos, neg_ℤ, ◌+ℤ◌, ◌-ℤ◌, ◌≤ℤ◌, unsigned_abs, inl, inr}
 use Rattle.std.proofs.lemmas.Bool.{leb-true, leb-false, le-leb, lt-leb, true≢false, cases_lt, and_parts, and_from}
 use Rattle.std.proofs.lemmas.Bool.Decides.{nat_tests}
 use Rattle.std.proofs.lemmas.Int.{ints}
 use Rattle.time_calc.specs.declared.calendar.Date.{Date}
-use Rattle.time_calc.specs.Calendar.{is_leap, days_of_month, days_before_year, days_of_months, is_date, day_count, days_before_1970, greatest_passing, year_of_count, month_of_count, date_in_year, date_of_count, date_of_day}
+use Rattle.time_calc.specs.Calendar.{is_leap, days_of_month, days_before_year, days_of_months, is_date, day_count, days_before_1970}
+use Rattle.time_calc.specs.Calendar.{greatest_passing, year_of_count, month_of_count, date_in_year, date_of_count, date_of_day}
 use Rattle.time_calc.specs.CalendarLaws.{YearsFollow, MonthsMakeTheYear, DateOfItsDay, DaysHaveDates, DayOfItsDate}
 
 -- ---- the greatest number that passes
@@ -107,7 +109,8 @@ pub month_ends : (leap : Bool) (count : ℕ) → count < days_of_months leap 12 
 month_ends leap count h =
     elim (cases_lt (month_of_count leap count) 12) as (λ w. count < days_of_months leap (month_of_count leap count)) [
       | inl lt ↦
-          let after = leb-false _ _ (greatest_above (λ month. nat_le (days_of_months leap (month - 1)) count) 12 (month_of_count leap count + 1) (omega arith) (omega (arith, lt))) in
+          let after = leb-false _ _ (greatest_above (λ month. nat_le (days_of_months leap (month - 1)) count)
+          12 (month_of_count leap count + 1) (omega arith) (omega (arith, lt))) in
           let same : month_of_count leap count + 1 - 1 ≡ month_of_count leap count = omega arith in
           omega (arith, after, ap (days_of_months leap) same)
       | inr ge ↦
@@ -133,7 +136,8 @@ year_starts count = leb-true _ _ (greatest_passes (λ year. nat_le (days_before_
 pub year_ends : (count : ℕ) → count < days_before_year (year_of_count count + 1)
 year_ends count =
     elim (cases_lt (year_of_count count) (count / 365)) as (λ w. count < days_before_year (year_of_count count + 1)) [
-      | inl lt ↦ leb-false _ _ (greatest_above (λ year. nat_le (days_before_year year) count) (count / 365) (year_of_count count + 1) (omega arith) (omega (arith, lt)))
+      | inl lt ↦ leb-false _ _
+          (greatest_above (λ year. nat_le (days_before_year year) count) (count / 365) (year_of_count count + 1) (omega arith) (omega (arith, lt)))
       | inr ge ↦ omega (arith, ge, years_have_365 (year_of_count count + 1))
     ]
 
@@ -178,7 +182,12 @@ count_has_date count =
       month_low = range.0;
       month_high = range.1;
       day_low = omega arith;
-      day_high = omega (arith, month_ends leap (rest_of count) (rest_in_year count), month_starts leap (rest_of count), months_follow leap (month_of_count leap (rest_of count)) range.0);
+      day_high = omega (
+        arith,
+        month_ends leap (rest_of count) (rest_in_year count),
+        month_starts leap (rest_of count),
+        months_follow leap (month_of_count leap (rest_of count)) range.0,
+      );
     }
 
 pub count_of_its_date : (count : ℕ) → day_count (date_of_count count) ≡ count

@@ -1,5 +1,6 @@
 -- The first day of a month is in range exactly in the years 1 to 9998.
-use Rattle.std.proofs.Common.{◌≡◌, ℕ, zero, suc, ◌+◌, ◌-◌, ◌<◌, ◌≤◌, Bool, true, false, cond, int_le, refl, ap, arith, ℤ, pos, negsuc, neg_ℤ, ◌*ℤ◌, ◌≤ℤ◌, ◌<ℤ◌, Some, None, unsigned_abs}
+use Rattle.std.proofs.Common.{◌≡◌, ℕ, zero, suc, ◌+◌, ◌-◌, ◌<◌, ◌≤◌, Bool, true, false, cond, int_le, refl, ap, arith, ℤ, pos, negsuc}
+use Rattle.std.proofs.Common.{neg_ℤ, ◌*ℤ◌, ◌≤ℤ◌, ◌<ℤ◌, Some, None, unsigned_abs}
 use Rattle.std.proofs.lemmas.Bool.{and_from, and_left, and_right}
 use Rattle.std.proofs.lemmas.Int.{ints}
 use Rattle.time_calc.specs.declared.calendar.Date.{Date}
@@ -85,11 +86,13 @@ years_1_to_9998 year month h low high =
     (omega (arith, ints, late, ends_in_year year month h, year_9999)))
 
 -- such a day is near
-pub near_days : (year month : ℕ) → month ≤ 12 → year ≤ 9998 → (neg_ℤ (pos 719528) ≤ℤ day_of_date (first_of year month)) × (day_of_date (first_of year month) ≤ℤ pos 2932531)
+pub near_days : (year month : ℕ) → month ≤ 12 → year ≤ 9998
+    → (neg_ℤ (pos 719528) ≤ℤ day_of_date (first_of year month)) × (day_of_date (first_of year month) ≤ℤ pos 2932531)
 near_days year month h high =
     let late = years_grow (year + 1) 9999 (omega (arith, high)) in
     (omega (arith, ints), omega (arith, ints, late, ends_in_year year month h, year_9999))
 
-pub in_years : (year : ℤ) (month : ℕ) → month ≤ 12 → pos 1 ≤ℤ year → year ≤ℤ pos 9998 → first_day year month ≡ Some (day_of_date (first_of (unsigned_abs year) month))
+pub in_years : (year : ℤ) (month : ℕ) → month ≤ 12 → pos 1 ≤ℤ year → year ≤ℤ pos 9998
+    → first_day year month ≡ Some (day_of_date (first_of (unsigned_abs year) month))
 in_years (pos n) month h low high = years_1_to_9998 n month h (omega (arith, ints, low)) (omega (arith, ints, high))
 in_years (negsuc n) month h low high = absurd (omega (arith, ints, low))

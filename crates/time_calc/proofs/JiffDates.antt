@@ -76,7 +76,8 @@ before_10000 = refl
 pub before_year_10000 : (year : ℕ) → year ≡ 10000 → 3652425 ≡ days_before_year year
 before_year_10000 year is = before_10000 ∙ ap days_before_year (sym is)
 
-pub first_of_month : (year months : ℕ) → day_count (record { year = year; month = months + 1; day = 1 }) ≡ days_before_year year + days_of_months (is_leap year) months
+pub first_of_month : (year months : ℕ) →
+    day_count (record { year = year; month = months + 1; day = 1 }) ≡ days_before_year year + days_of_months (is_leap year) months
 unfolding day_count
 first_of_month year months =
     let back : months + 1 - 1 ≡ months = omega arith in

@@ -1,5 +1,6 @@
 -- Every time unit has an end.
-use Rattle.std.proofs.Common.{◌≡◌, ℕ, zero, suc, Bool, true, false, refl, sym, ap, ◌∙◌, subst, arith, inl, inr, List, [], ◌∷◌, ◌++◌, ℤ, pos, ◌≤ℤ◌, ◌<ℤ◌, Option, Some, None, option_map, slice_get}
+use Rattle.std.proofs.Common.{◌≡◌, ℕ, zero, suc, Bool, true, false, refl, sym, ap, ◌∙◌, subst, arith, List, [], ◌∷◌, ◌++◌, ℤ, Option, Some}
+use Rattle.std.proofs.Common.{None, option_map, slice_get}
 use Rattle.std.specs.List.{list_all}
 use Rattle.std.proofs.lemmas.Bool.{true≢false, and_parts}
 use Rattle.std.proofs.lemmas.Int.{ints}
@@ -7,11 +8,11 @@ use Rattle.case_table.specs.declared.unit.Unit.{Unit}
 use Rattle.case_table.specs.declared.unit.Unit.TheVariants.{Millisecond, Second, Minute, Hour, Day, Week, Month, Quarter, Year}
 use Rattle.case_table.specs.TimeUnits.{UnitRule, unit_rule, unit_rules}
 use Rattle.time_calc.specs.Calendar.{date_of_count, greatest_passing, days_before_year, days_of_months}
-use Rattle.time_calc.specs.Instants.{first_instant, last_instant, instant_number, day_of_instant, time_of_instant}
+use Rattle.time_calc.specs.Instants.{instant_number, day_of_instant, time_of_instant}
 use Rattle.time_calc.specs.Boundaries.{is_boundary, last_boundary, IsFirstBoundary, Follows}
 use Rattle.time_calc.specs.NextBoundary.{next_boundary}
-use Rattle.time_calc.specs.TimeUnits.{start_of, ends_of}
-use Rattle.time_calc.specs.TimeUnitLaws.{IsWhole, TimeUnitsAreWhole}
+use Rattle.time_calc.specs.TimeUnits.{start_of}
+use Rattle.time_calc.specs.TimeUnitLaws.{TimeUnitsAreWhole}
 use Rattle.time_calc.proofs.BoundaryUnits.{IsInstant, next_is_first}
 use Rattle.time_calc.proofs.TimeUnitLemmas.{start_is_instant}
 

@@ -1,5 +1,5 @@
 -- The start of a time unit is an instant in range.
-use Rattle.std.proofs.Common.{◌≡◌, ℕ, ◌+◌, ◌-◌, ◌*◌, ◌/◌, ◌<◌, ◌≤◌, Bool, true, false, cond, refl, ap, arith, List, ℤ, pos, neg_ℤ, ◌+ℤ◌, ◌-ℤ◌, ◌*ℤ◌, ◌≤ℤ◌, ◌<ℤ◌}
+use Rattle.std.proofs.Common.{◌≡◌, ℕ, ◌+◌, ◌-◌, ◌≤◌, Bool, true, false, cond, arith, List, ℤ, pos, neg_ℤ, ◌+ℤ◌, ◌≤ℤ◌}
 use Rattle.std.proofs.lemmas.Bool.{le-leb, and_from}
 use Rattle.std.proofs.lemmas.Bool.Decides.{nat_tests}
 use Rattle.std.proofs.lemmas.Int.{ints}
@@ -7,14 +7,14 @@ use Rattle.case_table.specs.declared.unit.PartOf.{PartOf}
 use Rattle.case_table.specs.declared.unit.PartOf.TheVariants as part
 use Rattle.time_calc.specs.declared.calendar.Date.{Date}
 use Rattle.time_calc.specs.declared.instants.TimeOfDay.{TimeOfDay}
-use Rattle.time_calc.specs.Calendar.{is_leap, is_date, days_of_month, days_before_year, days_of_months, day_count, day_of_date, weekday_of, date_of_count}
-use Rattle.time_calc.specs.Instants.{is_time, since_midnight, first_instant, last_instant, instant_of_day, day_of_instant, time_of_instant}
+use Rattle.time_calc.specs.Calendar.{is_leap, days_of_month, days_of_months, day_count, day_of_date, weekday_of}
+use Rattle.time_calc.specs.Instants.{is_time, day_of_instant, time_of_instant}
 use Rattle.time_calc.specs.Boundaries.{date_at}
 use Rattle.time_calc.specs.Parts.{part_of}
 use Rattle.time_calc.specs.TimeUnits.{keeps, kept_or, kept_month, kept_days, kept_time, start_day, start_of}
-use Rattle.time_calc.proofs.CalendarLemmas.{HasParts, date_of_parts, years_grow, years_follow, months_make_the_year, months_grow, months_follow, count_has_date}
-use Rattle.time_calc.proofs.DatetimeLemmas.{year_1, year_9999, starts_in_year}
-use Rattle.time_calc.proofs.InstantLemmas.{Shows, shows, instants_are_of_their_days}
+use Rattle.time_calc.proofs.CalendarLemmas.{HasParts, years_grow, years_follow, months_make_the_year, months_grow, months_follow}
+use Rattle.time_calc.proofs.DatetimeLemmas.{year_1, year_9999}
+use Rattle.time_calc.proofs.InstantLemmas.{shows, instants_are_of_their_days}
 use Rattle.time_calc.proofs.BoundaryDates.{some_days, count_of_day}
 use Rattle.time_calc.proofs.BoundaryUnits.{IsInstant, here, year_inside, year_from_1, weekday_at_most_6}
 
@@ -60,7 +60,8 @@ pub days_in_range : (kept : List PartOf) (d : Date) (weekday : ℕ) → IsDateIn
 unfolding below
 days_in_range kept d weekday h small =
     let last = h.has.day_high in
-    one_of (below 30) kept part.Date _ _ (omega (arith, last, few_days (is_leap d.year) d.month)) (one_of (below 30) kept part.Day _ _ (omega (arith, small)) (omega arith))
+    one_of (below 30) kept part.Date _ _ (omega (arith, last, few_days (is_leap d.year) d.month))
+    (one_of (below 30) kept part.Day _ _ (omega (arith, small)) (omega arith))
 
 pub time_in_range : (kept : List PartOf) (t : TimeOfDay) → is_time t ≡ true → is_time (kept_time kept t) ≡ true
 unfolding below
@@ -74,7 +75,8 @@ time_in_range kept t h =
 
 -- thirty days after the first of a month in range are in range
 pub start_in_range : (y m k : ℕ) → 1 ≤ y → y ≤ 9998 → 1 ≤ m → m ≤ 12 → k ≤ 30 →
-    (neg_ℤ (pos 719162) ≤ℤ (day_of_date (record { year = y; month = m; day = 1 }) +ℤ pos k)) × ((day_of_date (record { year = y; month = m; day = 1 }) +ℤ pos k) ≤ℤ pos 2932531)
+    (neg_ℤ (pos 719162) ≤ℤ (day_of_date (record { year = y; month = m; day = 1 }) +ℤ pos k))
+    × ((day_of_date (record { year = y; month = m; day = 1 }) +ℤ pos k) ≤ℤ pos 2932531)
 unfolding day_count
 start_in_range y m k low high from upto few =
     let leap : Bool = is_leap y in
@@ -99,7 +101,8 @@ small_part i part.Day in_range = omega (arith, weekday_at_most_6 (day_of_instant
 small_part i part.Hours in_range = let shown = shows (time_of_instant i) (instants_are_of_their_days i).time in let h = shown.hours in omega (arith, h)
 small_part i part.Minutes in_range = let shown = shows (time_of_instant i) (instants_are_of_their_days i).time in let h = shown.minutes in omega (arith, h)
 small_part i part.Seconds in_range = let shown = shows (time_of_instant i) (instants_are_of_their_days i).time in let h = shown.seconds in omega (arith, h)
-small_part i part.Milliseconds in_range = let shown = shows (time_of_instant i) (instants_are_of_their_days i).time in let h = shown.milliseconds in omega (arith, h)
+small_part i part.Milliseconds in_range = let shown =
+    shows (time_of_instant i) (instants_are_of_their_days i).time in let h = shown.milliseconds in omega (arith, h)
 
 -- the start of a time unit is an instant in range
 pub start_is_instant : (kept : List PartOf) (i : ℤ) → IsInstant i → IsInstant (start_of kept i)
@@ -107,8 +110,10 @@ unfolding start_of
 start_is_instant kept i in_range =
     let known = date_in_range i in_range in
     let month = month_in_range kept (date_at i) known in
-    let near = start_in_range (kept_month kept (date_at i)).year (kept_month kept (date_at i)).month (kept_days kept (date_at i) (weekday_of (day_of_instant i)))
-    month.low month.high month.has.month_low month.has.month_high (days_in_range kept (date_at i) (weekday_of (day_of_instant i)) known (weekday_at_most_6 (day_of_instant i))) in
+    let near = start_in_range (kept_month kept (date_at i)).year (kept_month kept (date_at i)).month
+    (kept_days kept (date_at i) (weekday_of (day_of_instant i)))
+    month.low month.high month.has.month_low month.has.month_high
+    (days_in_range kept (date_at i) (weekday_of (day_of_instant i)) known (weekday_at_most_6 (day_of_instant i))) in
     let from : neg_ℤ (pos 719162) ≤ℤ start_day kept i = near.0 in
     let upto : start_day kept i ≤ℤ pos 2932531 = near.1 in
     let time = shows (kept_time kept (time_of_instant i)) (time_in_range kept (time_of_instant i) (instants_are_of_their_days i).time) in

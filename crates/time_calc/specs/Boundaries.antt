@@ -1,12 +1,11 @@
 -- The boundaries of units of time: from which instants a unit is counted.
-use Rattle.std.specs.Prelude.{ℕ, ◌+◌, ◌-◌, ◌*◌, ◌/◌, ◌%◌, ◌==◌, ◌&&◌, ◌⊎◌, Bool, true, false, if◌then◌else◌, ℤ, pos, negsuc, ◌+ℤ◌, ◌-ℤ◌, ◌*ℤ◌, ◌≤ℤ◌, ◌<ℤ◌, unsigned_abs, Option, Some, None, option_map, ◌≡◌, refl}
-use Rattle.std.specs.Int.{int_div_euclid, int_rem_euclid}
+use Rattle.std.specs.Prelude.{ℕ, ◌-◌, ◌/◌, ◌%◌, ◌==◌, ◌&&◌, ◌⊎◌, Bool, true, false, ℤ, pos, negsuc, ◌+ℤ◌, ◌≤ℤ◌, ◌<ℤ◌, unsigned_abs, Option}
+use Rattle.std.specs.Prelude.{Some, None, ◌≡◌, refl}
 use Rattle.case_table.specs.declared.unit.Unit.{Unit}
 use Rattle.case_table.specs.declared.unit.Unit.TheVariants.{Millisecond, Second, Minute, Hour, Day, Week, Month, Quarter, Year}
 use Rattle.time_calc.specs.declared.calendar.Date.{Date}
-use Rattle.time_calc.specs.declared.instants.TimeOfDay.{TimeOfDay}
-use Rattle.time_calc.specs.Calendar.{is_leap, days_of_month, days_before_year, days_of_months, days_before_1970, date_of_day, date_of_count, greatest_passing, weekday_of, day_count}
-use Rattle.time_calc.specs.Instants.{day_length, first_instant, last_instant, instant_number, day_of_instant, time_of_instant}
+use Rattle.time_calc.specs.Calendar.{days_before_year, days_of_months, date_of_day, date_of_count, greatest_passing, weekday_of}
+use Rattle.time_calc.specs.Instants.{first_instant, last_instant, instant_number, day_of_instant, time_of_instant}
 
 -- the date of an instant
 abbrev pub date_at : ℤ → Date

@@ -1,5 +1,6 @@
 -- The forms in which a text gives an instant. In a form some letters stand for digits, and every other byte stands for itself.
-use Rattle.std.specs.Prelude.{ℕ, ◌==◌, ◌||◌, Bool, if◌then◌else◌, List, [], ◌∷◌, ◌++◌, map, filter, flat_map, find, length, codes, Option, Some, None, ◌≡◌, refl}
+use Rattle.std.specs.Prelude.{ℕ, ◌==◌, ◌||◌, Bool, if◌then◌else◌, List, [], ◌∷◌, ◌++◌, map, filter, flat_map, find, length, codes, Option}
+use Rattle.std.specs.Prelude.{Some, None, ◌≡◌, refl}
 use Rattle.std.specs.List.{list_any, zip}
 use Rattle.std.specs.Cmp.Lexicographic.{pointwise}
 use Rattle.std.specs.Char.{is_ascii_digit}

@@ -1,5 +1,6 @@
 -- The label of an instant by a pattern.
-use Rattle.std.specs.Prelude.{ℕ, zero, suc, ◌+◌, ◌/◌, ◌%◌, ◌==◌, ◌&&◌, nat_lt, Bool, true, false, if◌then◌else◌, List, [], ◌∷◌, ◌++◌, find, slice_get, codes, ℤ, pos, Option, Some, None, option_map, unwrap_or, Result, Ok, Err, ◌≡◌, refl}
+use Rattle.std.specs.Prelude.{ℕ, zero, suc, ◌+◌, ◌/◌, ◌%◌, ◌==◌, ◌&&◌, Bool, true, false, if◌then◌else◌, List, [], ◌∷◌, ◌++◌, find}
+use Rattle.std.specs.Prelude.{slice_get, codes, ℤ, pos, Option, Some, None, option_map, unwrap_or, Result, Ok, Err, ◌≡◌, refl}
 use Rattle.std.specs.Option.{option_and_then, is_some}
 use Rattle.std.specs.List.{flat_map, list_any}
 use Rattle.std.specs.Str.{chars}
@@ -8,9 +9,10 @@ use Rattle.case_table.specs.declared.unit.PartOf.TheVariants as part
 use Rattle.time_calc.specs.declared.labels.LabelError.{LabelError}
 use Rattle.time_calc.specs.declared.labels.LabelError.TheVariants as fault
 use Rattle.time_calc.specs.declared.directives.Directive.{Directive}
-use Rattle.time_calc.specs.declared.directives.Directive.TheVariants.{Year, Quarter, Month, Date, Hours, HoursOfTwelve, Minutes, Seconds, Milliseconds, ShortMonth, LongMonth, ShortDay, HalfOfDay, Percent}
+use Rattle.time_calc.specs.declared.directives.Directive.TheVariants.{Year, Quarter, Month, Date, Hours, HoursOfTwelve, Minutes, Seconds}
+use Rattle.time_calc.specs.declared.directives.Directive.TheVariants.{Milliseconds, ShortMonth, LongMonth, ShortDay, HalfOfDay, Percent}
 use Rattle.time_calc.specs.Instants.{instant_at, day_of_instant, time_of_instant}
-use Rattle.time_calc.specs.Calendar.{date_of_count, greatest_passing, days_before_year, days_of_months, weekday_of}
+use Rattle.time_calc.specs.Calendar.{date_of_count, greatest_passing, days_before_year, days_of_months}
 use Rattle.time_calc.specs.Parts.{part_of}
 use Rattle.time_calc.specs.Texts.{month_names}
 

@@ -1,12 +1,12 @@
 -- Where boundaries lie, by the parts of an instant. That these are the boundaries of `Boundaries` is what `truncate` and `next` promise.
-use Rattle.std.specs.Prelude.{ℕ, ◌+◌, ◌-◌, ◌*◌, ◌/◌, ◌%◌, min, int_le, Bool, true, false, if◌then◌else◌, ℤ, pos, ◌+ℤ◌, ◌-ℤ◌, ◌*ℤ◌, unsigned_abs, Option, Some, None, ◌≡◌, refl}
-use Rattle.std.specs.Int.{int_div_euclid, int_rem_euclid, int_max}
+use Rattle.std.specs.Prelude.{ℕ, ◌+◌, ◌-◌, ◌*◌, ◌/◌, ◌%◌, min, int_le, if◌then◌else◌, ℤ, pos, ◌+ℤ◌, ◌-ℤ◌, ◌*ℤ◌, unsigned_abs, Option, Some, None, ◌≡◌, refl}
+use Rattle.std.specs.Int.{int_rem_euclid, int_max}
 use Rattle.case_table.specs.declared.unit.Unit.{Unit}
-use Rattle.case_table.specs.declared.unit.Unit.TheVariants.{Millisecond, Second, Minute, Hour, Day, Week, Month, Quarter, Year}
+use Rattle.case_table.specs.declared.unit.Unit.TheVariants.{Millisecond, Second, Minute, Hour, Day, Week, Month, Quarter}
 use Rattle.time_calc.specs.declared.boundaries.Side.{Side}
 use Rattle.time_calc.specs.declared.boundaries.Side.TheVariants.{Before, After}
 use Rattle.time_calc.specs.declared.calendar.Date.{Date}
-use Rattle.time_calc.specs.Calendar.{is_leap, days_of_month, days_before_year, days_of_months, days_before_1970, date_of_day, date_of_count, greatest_passing, weekday_of}
+use Rattle.time_calc.specs.Calendar.{is_leap, days_of_month, days_before_year, days_of_months, days_before_1970, date_of_count, greatest_passing, weekday_of}
 use Rattle.time_calc.specs.Instants.{day_length, day_of_instant, first_instant}
 use Rattle.time_calc.specs.Boundaries.{last_boundary, date_at}
 

@@ -1,6 +1,7 @@
 -- The instant that a text gives. The letters of forms stand by their codes: Y 89, M 77, D 68, B 66, h 104, m 109, s 115, i 105, j 106,
 -- k 107, p 112, q 113, u 117, v 118.
-use Rattle.std.specs.Prelude.{ℕ, ◌+◌, ◌*◌, ◌==◌, ◌&&◌, nat_le, Bool, if◌then◌else◌, List, [], ◌∷◌, take, slice_index, codes, ℤ, pos, negsuc, ◌-ℤ◌, Option, Some, None, option_map, ◌≡◌, refl}
+use Rattle.std.specs.Prelude.{ℕ, ◌+◌, ◌*◌, ◌==◌, ◌&&◌, nat_le, Bool, if◌then◌else◌, List, [], ◌∷◌, take, slice_index, codes, ℤ, pos, negsuc}
+use Rattle.std.specs.Prelude.{◌-ℤ◌, Option, Some, None, option_map, ◌≡◌, refl}
 use Rattle.std.specs.Option.{option_and_then}
 use Rattle.std.specs.List.{list_any}
 use Rattle.case_table.specs.Names.{index_of}

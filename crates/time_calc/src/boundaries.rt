@@ -1,11 +1,12 @@
 //! The boundaries of units of time, before and after an instant.
-ghost use Rattle.std.specs.Prelude.{◌≡◌, ◌≤◌, ◌<◌, ◌*◌, ◌*ℤ◌, ◌+ℤ◌, ◌-ℤ◌, ◌≤ℤ◌, ◌<ℤ◌, ℤ, pos, neg_ℤ, Some, option_map, IfSome, IsTrue};
+ghost use Rattle.std.specs.Prelude.{◌≡◌, ◌≤◌, ◌<◌, ◌*◌, ◌≤ℤ◌, ℤ, pos, neg_ℤ, Some, option_map, IfSome, IsTrue};
 ghost use Rattle.std.specs.Option.{option_and_then};
 ghost use Rattle.case_table.specs.declared.unit.Unit.TheVariants.{Week};
 ghost use Rattle.time_calc.specs.Boundaries.{Truncates, Follows, last_boundary};
 ghost use Rattle.time_calc.specs.Calendar.{is_date};
 ghost use Rattle.time_calc.specs.Instants.{instant_at, instant_number, first_instant, last_instant};
-ghost use Rattle.time_calc.specs.NextBoundary.{picked, boundary_in_day, boundary_by_date, boundary_of_week, boundary_of_milliseconds, boundary_of_clock, boundary_of_dates, boundary_at, truncated, next_boundary};
+ghost use Rattle.time_calc.specs.NextBoundary.{picked, boundary_in_day, boundary_by_date, boundary_of_week, boundary_of_milliseconds};
+ghost use Rattle.time_calc.specs.NextBoundary.{boundary_of_clock, boundary_of_dates, boundary_at, truncated, next_boundary};
 
 use crate::calendar::{
     DAYS_BEFORE_1970, Date, date_of_day, days_before_month, days_before_year, days_of_month,

@@ -1,7 +1,8 @@
 //! The proleptic Gregorian calendar, which is `jiff`'s.
 ghost use Rattle.std.specs.Prelude.{◌≡◌, ◌+◌, ◌%◌, ◌≤◌, ◌+ℤ◌, ◌≤ℤ◌, ℤ, pos, neg_ℤ, IsTrue};
 ghost use Rattle.jiff_core.specs.Date.{epoch_day};
-ghost use Rattle.time_calc.specs.Calendar.{is_leap, days_of_month, days_before_year, days_of_months, is_date, day_count, day_of_date, date_of_count, date_of_day, weekday_of};
+ghost use Rattle.time_calc.specs.Calendar.{is_leap, days_of_month, days_before_year, days_of_months, is_date, day_count, day_of_date};
+ghost use Rattle.time_calc.specs.Calendar.{date_of_count, date_of_day, weekday_of};
 
 use jiff::civil;
 use jiff_core::civil::Date as PlainDate;

@@ -1,7 +1,8 @@
 //! The instant of a year, a month and further parts.
-ghost use Rattle.std.specs.Prelude.{◌≡◌, ◌≤◌, ◌≤ℤ◌, ℤ, pos, neg_ℤ, IfSome, Some};
+ghost use Rattle.std.specs.Prelude.{◌≡◌, ◌≤◌, pos, IfSome, Some};
 ghost use Rattle.std.specs.List.{list_all};
-ghost use Rattle.time_calc.specs.Datetime.{is_whole, whole_of, first_day, first_of_month, seconds_of, milliseconds_of, instant_after, instant_of_wholes, instant_of};
+ghost use Rattle.time_calc.specs.Datetime.{is_whole, whole_of, first_day, first_of_month, seconds_of, milliseconds_of, instant_after};
+ghost use Rattle.time_calc.specs.Datetime.{instant_of_wholes, instant_of};
 ghost use Rattle.time_calc.specs.inner.Datetime.{IsWithin};
 
 use crate::calendar::{Date, day_of_date};

@@ -1,5 +1,5 @@
 //! The directives of patterns.
-ghost use Rattle.std.specs.Prelude.{◌≡◌, ◌≤◌, ◌≤ℤ◌, map, find, option_map};
+ghost use Rattle.std.specs.Prelude.{◌≡◌, ◌≤◌, ◌≤ℤ◌, map};
 ghost use Rattle.time_calc.specs.Instants.{first_instant, last_instant};
 ghost use Rattle.time_calc.specs.Labels.{directive_of, directive_text, hour_of_twelve, named};
 ghost use Rattle.time_calc.specs.Parts.{part_of};

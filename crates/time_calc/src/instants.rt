@@ -1,7 +1,8 @@
 //! Instants: whole milliseconds since 1970-01-01T00:00Z.
-ghost use Rattle.std.specs.Prelude.{◌≡◌, ◌≤◌, ◌<◌, ◌≤ℤ◌, ◌*ℤ◌, ◌+ℤ◌, ℤ, pos, neg_ℤ, unsigned_abs, Some, IfSome, IsTrue};
+ghost use Rattle.std.specs.Prelude.{◌≡◌, ◌≤◌, ◌<◌, ◌≤ℤ◌, ◌+ℤ◌, ℤ, pos, neg_ℤ, unsigned_abs, Some, IfSome, IsTrue};
 ghost use Rattle.std.specs.Int.{int_rem_euclid};
-ghost use Rattle.time_calc.specs.Instants.{day_length, instant_number, is_in_range, instant_in_range, instant_at, since_midnight, is_time, day_of_instant, time_of_instant, first_instant, last_instant};
+ghost use Rattle.time_calc.specs.Instants.{day_length, instant_number, instant_in_range, instant_at, since_midnight, is_time};
+ghost use Rattle.time_calc.specs.Instants.{day_of_instant, time_of_instant, first_instant, last_instant};
 
 use fixed_num::Num;
 

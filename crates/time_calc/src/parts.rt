@@ -1,5 +1,5 @@
 //! The parts of an instant.
-ghost use Rattle.std.specs.Prelude.{◌≡◌, ◌≤◌, ◌≤ℤ◌, ℤ, pos};
+ghost use Rattle.std.specs.Prelude.{◌≡◌, ◌≤ℤ◌, ℤ};
 ghost use Rattle.time_calc.specs.Instants.{first_instant, last_instant};
 ghost use Rattle.time_calc.specs.Parts.{part_of, part};
 

@@ -1,9 +1,8 @@
 //! The start and the end of a time unit at an instant.
-ghost use Rattle.std.specs.Prelude.{◌≡◌, ◌≤◌, ◌<◌, ◌==◌, ◌≤ℤ◌, ℤ, pos, neg_ℤ, IsTrue};
-ghost use Rattle.std.specs.List.{list_any};
+ghost use Rattle.std.specs.Prelude.{◌≡◌, ◌≤◌, ◌==◌, ◌≤ℤ◌, ℤ, pos, neg_ℤ};
 ghost use Rattle.case_table.specs.TimeUnits.{rule_of};
-ghost use Rattle.time_calc.specs.Calendar.{is_date, day_of_date};
-ghost use Rattle.time_calc.specs.Instants.{is_time, first_instant, last_instant};
+ghost use Rattle.time_calc.specs.Calendar.{day_of_date};
+ghost use Rattle.time_calc.specs.Instants.{first_instant, last_instant};
 ghost use Rattle.time_calc.specs.TimeUnits.{part_number, keeps, kept_or, kept_month, kept_days, kept_time, start_day, start_time, start_of, span_of};
 
 use crate::boundaries::next_boundary;

@@ -2,7 +2,7 @@
 -- one for each unit, each row has beside its cells the key of the cell, by which these lists stand first. Where a field keeps the order of its first rows
 -- before one that has an order, its key is the number of the unit and that of the row. A listed cell has its rank as its key. Where an order is by rows,
 -- what its operation gives of each cell that the units' rows have is one list, and is looked up.
-use Rattle.std.specs.Prelude.{◌≡◌, refl, ℕ, Bool, true, false, Option, Some, None, List, [], ◌∷◌, ◌++◌, map, flat_map, codes, if◌then◌else◌}
+use Rattle.std.specs.Prelude.{◌≡◌, refl, ℕ, Bool, true, false, Option, None, List, [], ◌∷◌, ◌++◌, map, flat_map, codes, if◌then◌else◌}
 use Rattle.std.specs.List.{enumerate_from, list_any}
 use Rattle.std.specs.Option.{option_map_or}
 use Rattle.cell_value.specs.declared.cell.Cell.TheVariants as cell

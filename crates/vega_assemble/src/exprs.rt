@@ -1,7 +1,5 @@
 // Expressions that are made.
-ghost use Rattle.std.specs.Prelude.{◌≡◌, ◌∷◌, ◌*◌, [], pos, IfOk};
-ghost use Rattle.fixed_num.specs.Number.{million};
-ghost use Rattle.expr_syntax.specs.declared.expr.Expr.TheVariants as expr;
+ghost use Rattle.std.specs.Prelude.{◌≡◌, IfOk};
 ghost use Rattle.unit_plan.specs.Literals.{whole};
 ghost use Rattle.vega_assemble.specs.Cells.{cell_expr, field_expr};
 

@@ -1,5 +1,5 @@
 // Axes and legends.
-ghost use Rattle.std.specs.Prelude.{◌≡◌, ◌++◌, map, option_to_list, option_map, slice_get, Some, IfOk, OnOk};
+ghost use Rattle.std.specs.Prelude.{◌≡◌, ◌++◌, map, option_to_list, option_map, Some, IfOk, OnOk};
 ghost use Rattle.vega_assemble.specs.Names.{scale_name};
 ghost use Rattle.vega_assemble.specs.Steps.{counted};
 ghost use Rattle.vega_assemble.specs.Guides.{side_written, angle_written, edge_along, channel_of, axis_over, axis_written, name_if};

@@ -1,6 +1,5 @@
 // By what the panels of a facet stand.
 ghost use Rattle.std.specs.Prelude.{◌≡◌, ◌≤◌, ◌++◌, ◌∷◌, [], take, length, map, flat_map, IfOk, OnOk};
-ghost use Rattle.std.specs.List.{enumerate_from};
 ghost use Rattle.expr_syntax.specs.declared.expr.Expr.TheVariants as expr;
 ghost use Rattle.vega_spec.specs.declared.transforms.Transform.TheVariants as vega;
 ghost use Rattle.vega_assemble.specs.Names.{key_column, keys_name, unit_name};

@@ -1,6 +1,5 @@
 // The lists that are there for the domain of a scale.
 ghost use Rattle.std.specs.Prelude.{◌≡◌, ◌++◌, ◌∷◌, [], map, option_to_list, IfOk, OnOk};
-ghost use Rattle.std.specs.List.{enumerate_from};
 ghost use Rattle.chart_plan.specs.Shown.{is_among};
 ghost use Rattle.expr_syntax.specs.declared.expr.Expr.TheVariants as expr;
 ghost use Rattle.vega_assemble.specs.Names.{cells_name, cell_column, unit_name};

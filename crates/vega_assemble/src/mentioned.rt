@@ -1,9 +1,10 @@
 // The names that a specification mentions.
 ghost use Rattle.std.specs.Prelude.{◌≡◌, ◌++◌, ◌∷◌, [], map, flat_map, IfOk, OnOk};
-ghost use Rattle.vega_assemble.specs.Mentioned.{in_expr, in_test, in_cell, if_named, in_op, in_sort, in_group, in_stack, in_window, in_lookup, in_step};
-ghost use Rattle.vega_assemble.specs.Mentioned.{in_spot, in_spot_way, in_along, in_look, in_look_way, in_words_way, in_ends, in_looks, in_mark, in_unit};
-ghost use Rattle.vega_assemble.specs.Mentioned.{in_rows_order, in_order, in_column, in_domain, in_scale, in_field, in_facet, in_grid, in_kept, in_drag};
-ghost use Rattle.vega_assemble.specs.Mentioned.{in_selection, in_kind, in_param, in_plan, mentioned};
+ghost use Rattle.vega_assemble.specs.Mentioned.{in_expr, in_test, in_cell, if_named, in_op, in_sort, in_group, in_stack, in_window};
+ghost use Rattle.vega_assemble.specs.Mentioned.{in_lookup, in_step, in_spot, in_spot_way, in_along, in_look, in_look_way, in_words_way};
+ghost use Rattle.vega_assemble.specs.Mentioned.{in_ends, in_looks, in_mark, in_unit, in_rows_order, in_order, in_column, in_domain};
+ghost use Rattle.vega_assemble.specs.Mentioned.{in_scale, in_field, in_facet, in_grid, in_kept, in_drag, in_selection, in_param, in_plan};
+ghost use Rattle.vega_assemble.specs.Mentioned.{mentioned};
 ghost use Rattle.vega_assemble.specs.inner.Lent.{lent};
 
 use cell_value::SharedText;

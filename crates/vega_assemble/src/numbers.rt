@@ -1,5 +1,5 @@
 // Numbers that are written.
-ghost use Rattle.std.specs.Prelude.{◌≡◌, ◌*◌, ◌*ℤ◌, pos, neg_ℤ, IfOk};
+ghost use Rattle.std.specs.Prelude.{◌≡◌, ◌*◌, pos, neg_ℤ, IfOk};
 ghost use Rattle.fixed_num.specs.Number.{million};
 ghost use Rattle.vega_assemble.specs.Steps.{counted, bound_written};
 

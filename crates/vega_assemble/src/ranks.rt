@@ -1,6 +1,5 @@
 // By what cells stand.
-ghost use Rattle.std.specs.Prelude.{◌≡◌, ◌++◌, ◌∷◌, ◌+◌, [], map, Some, None, IfOk, OnOk};
-ghost use Rattle.std.specs.List.{enumerate_from};
+ghost use Rattle.std.specs.Prelude.{◌≡◌, ◌+◌, Some, None, IfOk};
 ghost use Rattle.expr_syntax.specs.declared.expr.Expr.TheVariants as expr;
 ghost use Rattle.expr_syntax.specs.declared.expr.BinOp.TheVariants.{Same, And, Or};
 ghost use Rattle.unit_plan.specs.Literals.{literal, whole};

@@ -1,5 +1,5 @@
 // Values that are made beside one that lives by then, which is let go in one step where memory is refused.
-ghost use Rattle.std.specs.Prelude.{◌≡◌, ◌∷◌, ◌++◌, [], map, IfOk, OnOk};
+ghost use Rattle.std.specs.Prelude.{◌≡◌, ◌∷◌, [], map, IfOk};
 ghost use Rattle.vega_assemble.specs.Sources.{if_any};
 
 use expr_syntax::Expr;

@@ -1,6 +1,5 @@
 // The sizes of plots.
-ghost use Rattle.std.specs.Prelude.{◌≡◌, ◌∷◌, [], IfOk};
-ghost use Rattle.expr_syntax.specs.declared.expr.Expr.TheVariants as expr;
+ghost use Rattle.std.specs.Prelude.{◌≡◌, IfOk};
 ghost use Rattle.vega_assemble.specs.Sizes.{space_expr, inner_of, outer_of, steps_expr, size_written, extent_of};
 
 use crate::made::Extent;

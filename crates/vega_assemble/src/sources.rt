@@ -1,5 +1,5 @@
 // Data sets.
-ghost use Rattle.std.specs.Prelude.{◌≡◌, [], map, None, Some, nat_eq, codes, IfOk, OnOk, if◌then◌else◌};
+ghost use Rattle.std.specs.Prelude.{◌≡◌, map, None, Some, IfOk};
 ghost use Rattle.std.specs.List.{ends_with};
 ghost use Rattle.std.specs.Option.{option_map};
 ghost use Rattle.vega_assemble.specs.Sources.{kind_written, kind_by_name, kind_of, parse_written, field_parsed, parse_of, format_of, source_written, list_made};

@@ -1,7 +1,7 @@
 // The stem of names that are made.
-ghost use Rattle.std.specs.Prelude.{◌≡◌, ◌++◌, max, map, suc, length, drop, replicate, nat_eq, IfOk, OnOk, if◌then◌else◌};
-ghost use Rattle.std.specs.List.{fold, list_any, list_all, starts_with};
-ghost use Rattle.vega_assemble.specs.Names.{words, is_tail, looks_like, looks_made, longer, longest, underscores, stem_for};
+ghost use Rattle.std.specs.Prelude.{◌≡◌, ◌++◌, max, map, suc, length, IfOk, OnOk};
+ghost use Rattle.std.specs.List.{list_any, list_all, starts_with};
+ghost use Rattle.vega_assemble.specs.Names.{words, is_tail, looks_like, looks_made, longest, underscores, stem_for};
 
 use std::alloc::Global;
 use text_kit::{OutOfMemory, Text};

@@ -1,5 +1,5 @@
 // Steps as transforms.
-ghost use Rattle.std.specs.Prelude.{◌≡◌, ◌++◌, ◌∷◌, [], map, Some, IfOk, OnOk};
+ghost use Rattle.std.specs.Prelude.{◌≡◌, ◌++◌, map, Some, IfOk, OnOk};
 ghost use Rattle.std.specs.Option.{option_map};
 ghost use Rattle.vega_spec.specs.declared.transforms.Transform.TheVariants as vega;
 ghost use Rattle.vega_assemble.specs.Steps.{direction, directed, some_sort, sort_written, extent_written, bin_written, unit_written};

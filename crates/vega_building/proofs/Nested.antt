@@ -1,6 +1,6 @@
 -- The marks inside a mark: what the rows of a tree give is what its lists of items and members give.
-use Rattle.std.proofs.Common.{◌≡◌, ℕ, List, [], ◌∷◌, map, refl, sym, ap, ◌∙◌}
-use Rattle.std.specs.Prelude.{Option, Some, None, Bool, true, false, if◌then◌else◌, codes}
+use Rattle.std.proofs.Common.{◌≡◌, List, [], ◌∷◌, map, refl, sym, ap, ◌∙◌}
+use Rattle.std.specs.Prelude.{Option, Some, Bool, true, false, if◌then◌else◌, codes}
 use Rattle.std.specs.Option.{option_map, option_and_then, unwrap_or}
 use Rattle.std.specs.Str.{bytes_eq}
 use Rattle.json_exact.specs.declared.json.Json.{Json, out-Json, out-roll-Json, Row_of-Json, end_of-Json, more_of-Json, items-the_row-Json}

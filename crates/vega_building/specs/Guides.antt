@@ -1,5 +1,5 @@
 -- Axes, legends and layouts.
-use Rattle.std.specs.Prelude.{ℕ, Option, List, codes}
+use Rattle.std.specs.Prelude.{List, codes}
 use Rattle.json_exact.specs.declared.json.Member.{Member}
 use Rattle.vega_spec.specs.declared.guides.Axis.{Axis}
 use Rattle.vega_spec.specs.declared.guides.Legend.{Legend}

@@ -1,5 +1,5 @@
 -- Where the items of marks come from.
-use Rattle.std.specs.Prelude.{ℕ, Option, Some, None, List, codes}
+use Rattle.std.specs.Prelude.{ℕ, Option, List, codes}
 use Rattle.std.specs.Option.{option_map, option_and_then, option_or}
 use Rattle.json_exact.specs.declared.json.Member.{Member}
 use Rattle.json_exact.specs.Inside.{members_in}

@@ -1,5 +1,5 @@
 -- What stands under the names of members.
-use Rattle.std.specs.Prelude.{◌≡◌, refl, ℕ, ℤ, Bool, true, false, Option, Some, None, List, [], ◌∷◌, map, codes}
+use Rattle.std.specs.Prelude.{◌≡◌, refl, ℕ, ℤ, Bool, Option, Some, None, List, [], ◌∷◌, map, codes}
 use Rattle.std.specs.Option.{option_map, option_and_then, unwrap_or, is_some}
 use Rattle.json_exact.specs.declared.json.Json.{Json, Json-F, out-Json}
 use Rattle.json_exact.specs.declared.json.Json.TheOpen as level

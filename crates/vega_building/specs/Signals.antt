@@ -1,5 +1,5 @@
 -- Signals.
-use Rattle.std.specs.Prelude.{ℕ, Option, List, codes}
+use Rattle.std.specs.Prelude.{List, codes}
 use Rattle.json_exact.specs.declared.json.Member.{Member}
 use Rattle.vega_spec.specs.declared.signals.Signal.{Signal}
 use Rattle.vega_spec.specs.declared.signals.EventUpdate.{EventUpdate}

@@ -1,5 +1,4 @@
 // Axes, legends and layouts.
-ghost use Rattle.std.specs.Prelude.{◌≡◌};
 ghost use Rattle.vega_building.specs.Parts.{members_of};
 ghost use Rattle.vega_building.specs.Guides.{axis_of, legend_of, layout_of};
 

@@ -1,5 +1,5 @@
 // What stands under the names of members.
-ghost use Rattle.std.specs.Prelude.{◌≡◌, map, IfOk, codes};
+ghost use Rattle.std.specs.Prelude.{◌≡◌, map, IfOk};
 ghost use Rattle.std.specs.Option.{option_copied};
 ghost use Rattle.json_exact.specs.Inside.{items_in, members_in};
 ghost use Rattle.json_exact.specs.Path.{member_value};

@@ -1,5 +1,4 @@
 // Signals.
-ghost use Rattle.std.specs.Prelude.{◌≡◌};
 ghost use Rattle.vega_building.specs.Parts.{members_of};
 ghost use Rattle.vega_building.specs.Signals.{event_update_of, signal_of};
 

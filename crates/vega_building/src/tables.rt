@@ -1,6 +1,6 @@
 // The codes that names stand for.
-ghost use Rattle.std.specs.Prelude.{◌≡◌, ℕ};
-ghost use Rattle.case_table.specs.Names.{index_of, operations, time_units, scale_kinds};
+ghost use Rattle.std.specs.Prelude.{◌≡◌};
+ghost use Rattle.case_table.specs.Names.{index_of, time_units, scale_kinds};
 ghost use Rattle.vega_building.specs.Names.{named_at, named_in, operation_named, operation_of, needed_operation, needed_time_unit, needed_scale_kind};
 
 use crate::parts::{Item, word_at};

@@ -18,7 +18,7 @@ use Rattle.scene_tree.specs.declared.shape.Point.{Point}
 use Rattle.scene_tree.specs.declared.shape.Shape.{Shape}
 use Rattle.vega_spec.specs.declared.marks.MarkType.{MarkType}
 use Rattle.mark_shapes.specs.declared.looks.Look.{Look}
-use Rattle.mark_shapes.specs.declared.runs.Stop.{Stop}
+use Rattle.mark_shapes.specs.declared.runs.PathStop.{PathStop}
 use Rattle.mark_shapes.specs.Runs.{points_of}
 use Rattle.mark_shapes.specs.Paths.{path_item}
 use Rattle.mark_shapes.specs.Items.{item_with}
@@ -64,7 +64,7 @@ module _ (unit : ℕ) where
   alone None is = All-nil IsOf
   alone (Some item) is = All-cons IsOf item [] is (All-nil IsOf)
 
-  path_drawn : (closed : Bool) (stops : Option (List (Option Stop))) (painted : Option (Option Look))
+  path_drawn : (closed : Bool) (stops : Option (List (Option PathStop))) (painted : Option (Option Look))
       → AllOf (stops >>= λ stops. painted >>= λ look. Some (option_to_list (path_item unit (points_of closed stops) look)))
   path_drawn closed None painted = tt
   path_drawn closed (Some stops) None = tt

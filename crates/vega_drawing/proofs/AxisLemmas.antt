@@ -7,14 +7,14 @@ use Rattle.std.proofs.lemmas.List.Elements.{All-nil, All-cons, All-head, All-tai
 use Rattle.vega_guides.specs.Shown.{IsAxis}
 use Rattle.vega_spec.specs.declared.guides.Axis.{Axis}
 use Rattle.vega_drawing.specs.declared.scales.AxisHere.{AxisHere as HeldAxis}
-use Rattle.vega_drawing.specs.declared.spots.Spot.{Spot}
+use Rattle.vega_drawing.specs.declared.spots.GridSpot.{GridSpot}
 use Rattle.vega_drawing.specs.Scales.{ScaleHere, AxisHere, scale_named, axis_here, axes_here, axis_past, stands}
 use Rattle.vega_drawing.specs.Guides.{axis_over, axes_over}
 use Rattle.vega_drawing.specs.inner.Kept.{axis_seen, IsFitHere, IsKeptAxis}
 use Rattle.vega_drawing.proofs.SeenLemmas.{IsMadeOf}
 use Rattle.vega_drawing.proofs.KeptLemmas.{named_kept}
 
-pub axes_kept_past : (spot : Spot) (axes : List AxisHere) → All IsKeptAxis axes → All IsKeptAxis (map (axis_past spot) axes)
+pub axes_kept_past : (spot : GridSpot) (axes : List AxisHere) → All IsKeptAxis axes → All IsKeptAxis (map (axis_past spot) axes)
 axes_kept_past spot axes kept = All-map IsKeptAxis (axis_past spot) axes kept
 
 -- an axis over a scale

@@ -26,7 +26,7 @@ use Rattle.vega_copies.proofs.OutlineLemmas.{plain_from, group_from, group_count
 use Rattle.vega_copies.proofs.StandLemmas.{few_first, few_rest}
 use Rattle.vega_drawing.specs.declared.frames.Frame.{Frame as HeldFrame}
 use Rattle.vega_drawing.specs.declared.spots.Grid.{Grid}
-use Rattle.vega_drawing.specs.declared.spots.Spot.{Spot}
+use Rattle.vega_drawing.specs.declared.spots.GridSpot.{GridSpot}
 use Rattle.vega_drawing.specs.Frames.{Frame, inside_of, of_no_chart}
 use Rattle.vega_drawing.specs.Grids.{frame_past, headers_of, with_size}
 use Rattle.vega_drawing.specs.Insides.{ItemsOfMarks}
@@ -273,7 +273,7 @@ module _ (items : ItemsOfMarks) (lists : ListsOnPaths) (f : HeldFrame) (grid : G
 
 -- ---- the copies of a group, one after the other
 
-headers_past : (o : Object) (spot : Spot) (outer : Frame) → (frame_past o spot outer).headers ≡ outer.headers
+headers_past : (o : Object) (spot : GridSpot) (outer : Frame) → (frame_past o spot outer).headers ≡ outer.headers
 headers_past o spot outer = by_facet (is_some o.facet)
   where
     by_facet : (b : Bool)
@@ -291,7 +291,7 @@ module _ (items : ItemsOfMarks) (frame : Frame) (grid : Grid) (unit number index
       })
       >>= view_inside items unit number m copy.inside
 
-  pub cell_at_spot : (spot : Spot) → spot ≡ spot_of grid.columns grid.cells index
+  pub cell_at_spot : (spot : GridSpot) → spot ≡ spot_of grid.columns grid.cells index
       → view_at items (frame_past (group_object number m) spot frame) unit number m copy ≡ cell_seen items frame grid unit number m (index, copy)
   cell_at_spot spot is =
       ap (λ spot. view_at items (frame_past (group_object number m) spot frame) unit number m copy) is
@@ -338,7 +338,7 @@ module _ (items : ItemsOfMarks) (lists : ListsOnPaths) (f : HeldFrame) (grid : G
       cell_here : after old whole ≡ and_others (cell_seen items (frame_seen lists f) grid unit number (out-VgMark m) (length cells, here_found))
       cell_here = sym left.views ∙ ap (λ copies. after cells (cell_views (length cells) n copies)) told_copy
 
-      module _ (spot : Spot) (is : spot ≡ spot_of grid.columns grid.cells (length cells)) where
+      module _ (spot : GridSpot) (is : spot ≡ spot_of grid.columns grid.cells (length cells)) where
         abbrev view_here : Option Placed
         view_here = view_at items (frame_past (group_object number (out-VgMark m)) spot (frame_seen lists f)) unit number (out-VgMark m) here_found
 

@@ -8,7 +8,7 @@ use Rattle.vega_scales.specs.declared.scaled.Scaled.{Scaled}
 use Rattle.vega_scales.specs.Scales.{is_built, FitsScale, KeepsBounds}
 use Rattle.vega_spec.specs.declared.scales.Scale.{Scale as VegaScale}
 use Rattle.vega_drawing.specs.declared.scales.ScaleKept.{ScaleKept}
-use Rattle.vega_drawing.specs.declared.spots.Spot.{Spot}
+use Rattle.vega_drawing.specs.declared.spots.GridSpot.{GridSpot}
 use Rattle.vega_drawing.specs.Scales.{ScaleHere, name_of, has_scale, and_outer, own_scale, own_scales, scale_named, past}
 use Rattle.vega_drawing.specs.inner.Kept.{kept_seen, IsKeptScale, IsFitHere}
 use Rattle.vega_drawing.proofs.SeenLemmas.{found_keeps}
@@ -19,7 +19,7 @@ kept_and_outer own outer kept round =
     let test = λ (s : ScaleHere). not (has_scale (map kept_seen own) (name_of s)) in
     All-append IsFitHere (map kept_seen own) (filter test outer) (All-map IsFitHere kept_seen own kept) (All-filter test IsFitHere outer round)
 
-pub kept_past : (spot : Spot) (scales : List ScaleHere) → All IsFitHere scales → All IsFitHere (map (past spot) scales)
+pub kept_past : (spot : GridSpot) (scales : List ScaleHere) → All IsFitHere scales → All IsFitHere (map (past spot) scales)
 kept_past spot scales kept = All-map IsFitHere (past spot) scales kept
 
 -- the scale that a name stands for

@@ -25,7 +25,7 @@ use Rattle.vega_copies.proofs.SeenFacts.{copy_opened}
 use Rattle.vega_drawing.specs.declared.frames.Frame.{Frame as HeldFrame}
 use Rattle.vega_drawing.specs.declared.scales.AxisHere.{AxisHere as HeldAxis}
 use Rattle.vega_drawing.specs.declared.scales.ScaleHere.{ScaleHere as HeldScale}
-use Rattle.vega_drawing.specs.declared.spots.Spot.{Spot}
+use Rattle.vega_drawing.specs.declared.spots.GridSpot.{GridSpot}
 use Rattle.vega_drawing.specs.Frames.{Frame, more_cells, of_no_chart, encoded_number, as_grid}
 use Rattle.vega_drawing.specs.Grids.{frame_past, grid_of, size_cut, sized}
 use Rattle.vega_drawing.specs.Insides.{ItemsOfMarks}
@@ -41,25 +41,25 @@ use Rattle.vega_drawing.proofs.ValueLemmas.{values_entered}
 
 -- ---- what stands round a copy that passes a spot
 
-abbrev past_by : Spot → Frame → Option Facet → Frame
+abbrev past_by : GridSpot → Frame → Option Facet → Frame
 past_by spot outer facet = cond (is_some facet) (record outer { scales = map (past spot) outer.scales; axes = map (axis_past spot) outer.axes }) outer
 
-pub not_past : (o : Object) (spot : Spot) (outer : Frame) → None ≡ o.facet → outer ≡ frame_past o spot outer
+pub not_past : (o : Object) (spot : GridSpot) (outer : Frame) → None ≡ o.facet → outer ≡ frame_past o spot outer
 not_past o spot outer e = ap (past_by spot outer) e
 
-pub is_past : (o : Object) (spot : Spot) (outer : Frame) (f : Facet) → Some f ≡ o.facet
+pub is_past : (o : Object) (spot : GridSpot) (outer : Frame) (f : Facet) → Some f ≡ o.facet
     → record outer { scales = map (past spot) outer.scales; axes = map (axis_past spot) outer.axes } ≡ frame_past o spot outer
 is_past o spot outer f e = ap (past_by spot outer) e
 
 -- a set of scales doesn't ask for the spots that they passed
-pub set_past : (width height : ℤ) (spot : Spot) (scales : List ScaleHere) → set_of width height (map (past spot) scales) ≡ set_of width height scales
+pub set_past : (width height : ℤ) (spot : GridSpot) (scales : List ScaleHere) → set_of width height (map (past spot) scales) ≡ set_of width height scales
 set_past width height spot scales = λ i. record { scales = each scales i }
   where
     each : (scales : List ScaleHere) → map (scale_in width height) (map (past spot) scales) ≡ map (scale_in width height) scales
     each [] = refl
     each (s ∷ others) = ap (λ made. scale_in width height s ∷ made) (each others)
 
-module _ (outer : HeldFrame) (spot : Spot) (scales : Bor (List HeldScale)) (axes : Bor (List HeldAxis))
+module _ (outer : HeldFrame) (spot : GridSpot) (scales : Bor (List HeldScale)) (axes : Bor (List HeldAxis))
     (read : map scale_seen scales.now ≡ map (past spot) (map scale_seen outer.scales.now)) where
   pub past_is_frame : IsFrame outer → AreKeptScales scales.now → AreKeptAxes axes.now → IsFrame (record outer { scales = scales; axes = axes })
   past_is_frame is kept axes_kept = record {

@@ -16,7 +16,7 @@ use Rattle.vega_guides.specs.Shown.{whole_of}
 use Rattle.plot_scenes.specs.declared.headers.Header.{Header}
 use Rattle.vega_copies.specs.Outlines.{Object}
 use Rattle.vega_copies.specs.Facts.{Facts, Found, NoneFound, FoundOf, copies_in}
-use Rattle.vega_drawing.specs.declared.spots.Spot.{Spot}
+use Rattle.vega_drawing.specs.declared.spots.GridSpot.{GridSpot}
 use Rattle.vega_drawing.specs.declared.spots.Grid.{Grid}
 use Rattle.vega_drawing.specs.Sizes.{size_in}
 use Rattle.vega_drawing.specs.Scales.{spot_of, past, axis_past}
@@ -69,7 +69,7 @@ headers_of o facts =
     option_map_or (λ (f : Facet). headers_by (unwrap_or f.headers []) (unwrap_or facts.cells [])) o.facet []
 
 -- what stands round a copy of a faceted group that stands at a spot of a grid; a group without a facet passes no spot
-abbrev pub frame_past : Object → Spot → Frame → Frame
+abbrev pub frame_past : Object → GridSpot → Frame → Frame
 frame_past o spot outer =
     if is_some o.facet
     then record outer { scales = map (past spot) outer.scales; axes = map (axis_past spot) outer.axes }
@@ -91,7 +91,7 @@ abbrev pub with_size : Object → Frame → Option Frame
 with_size o frame = if is_some o.layout then Some (as_grid o frame) else sized o frame
 
 -- the copy of a group that is a cell of a grid, before its size is known
-abbrev pub cell_copy : Frame → Object → Spot → Facts → Frame
+abbrev pub cell_copy : Frame → Object → GridSpot → Facts → Frame
 cell_copy outer o spot facts = record (inside_of of_no_chart (frame_past o spot outer) o facts) { headers = headers_of o facts ++ outer.headers }
 
 -- the copy of a group with these facts that is the cell of this index in a grid

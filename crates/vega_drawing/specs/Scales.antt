@@ -16,7 +16,7 @@ use Rattle.vega_spec.specs.declared.scales.Scale.{Scale as VegaScale}
 use Rattle.vega_scales.specs.declared.scaled.Scaled.{Scaled}
 use Rattle.vega_scales.specs.declared.scaled.Scaled.TheVariants.{Cells}
 use Rattle.vega_scales.specs.Scales.{scale_over, domain_size}
-use Rattle.vega_drawing.specs.declared.spots.Spot.{Spot}
+use Rattle.vega_drawing.specs.declared.spots.GridSpot.{GridSpot}
 use Rattle.cell_value.specs.declared.cell.Cell.TheVariants.{Null}
 use Rattle.expr_eval.specs.Plain.{no_values}
 use Rattle.vega_spec.specs.declared.domains.Domain.TheVariants as domain
@@ -25,7 +25,7 @@ use Rattle.vega_spec.specs.declared.scales.Range.{Range}
 use Rattle.vega_spec.specs.declared.scales.Range.TheVariants as range
 
 -- the spot of the cell of this index in a grid of so many cells in so many columns
-abbrev pub spot_of : ℕ → ℕ → ℕ → Spot
+abbrev pub spot_of : ℕ → ℕ → ℕ → GridSpot
 spot_of columns cells index = record {
   is_last_row = not (nat_lt (index + columns) cells);
   is_first_column = (index % columns) == 0;
@@ -47,7 +47,7 @@ pub record ScaleHere : Type 0 where
   -- whether it belongs to the whole chart, and not to each plot
   pub is_of_chart : Bool
   -- the spots, in their grids, of the copies of faceted groups between the object that has it and this one
-  pub passed : List Spot
+  pub passed : List GridSpot
 
 abbrev pub name_of : ScaleHere → List ℕ
 name_of s = s.scale.name
@@ -93,7 +93,7 @@ with_domains scales values = record values {
 }
 
 -- a scale behind one more copy of a faceted group
-abbrev pub past : Spot → ScaleHere → ScaleHere
+abbrev pub past : GridSpot → ScaleHere → ScaleHere
 past spot s = record s { passed = spot ∷ s.passed }
 
 -- An axis of an object, with the scale that its name stands for there.
@@ -107,11 +107,11 @@ axis_here scales a = option_map (λ s. record { axis = a; scale = s }) (scale_na
 abbrev pub axes_here : List ScaleHere → List Axis → List AxisHere
 axes_here scales axes = filter_map (axis_here scales) axes
 
-abbrev pub axis_past : Spot → AxisHere → AxisHere
+abbrev pub axis_past : GridSpot → AxisHere → AxisHere
 axis_past spot a = record a { scale = past spot a.scale }
 
 -- whether a spot is at an edge
-abbrev pub is_at : Edge → Spot → Bool
+abbrev pub is_at : Edge → GridSpot → Bool
 is_at edge.LastRow spot = spot.is_last_row
 is_at edge.FirstColumn spot = spot.is_first_column
 
@@ -178,7 +178,7 @@ an_axis scale e = record {
 }
 
 -- an axis stands where all copies that it passed are at its edge
-abbrev axis_at : Option Edge → List Spot → AxisHere
+abbrev axis_at : Option Edge → List GridSpot → AxisHere
 axis_at e spots = record { axis = an_axis (codes "x") e; scale = record (scale_of_nulls (codes "x") []) { passed = spots } }
 
 axes_at_edges : (stands (axis_at None (spot_of 3 5 1 ∷ [])) ≡ true) × (stands (axis_at (Some edge.LastRow) []) ≡ true)

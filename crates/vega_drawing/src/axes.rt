@@ -11,7 +11,7 @@ ghost use Rattle.vega_copies.specs.Outlines.{object_here};
 ghost use Rattle.vega_spec.specs.declared.spec.Group.{out-Group};
 
 use crate::scales::{AxisHere, ScaleHere, all_spots_at, laid_over, past, same_scale, scale_named};
-use crate::spots::Spot;
+use crate::spots::GridSpot;
 use fixed_num::Num;
 use plot_scenes::AxisShown;
 use std::alloc::Global;
@@ -89,7 +89,7 @@ fn same_axes<'s, 'a>(
 /// Axes behind one more copy of a faceted group.
 pub(crate) fn all_axes_past<'s, 'a>(
     alloc: Global,
-    spot: Spot,
+    spot: GridSpot,
     axes: &[AxisHere<'s, 'a>],
 ) -> Result<Seq<AxisHere<'s, 'a>>, OutOfMemory>
     requires kept { AreKeptAxes axes.now }

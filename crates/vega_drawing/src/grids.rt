@@ -32,7 +32,7 @@ use crate::legends::push_legends;
 use crate::plots::plot_of;
 use crate::scales::{OfChart, all_past, and_outer, own_set_of, set_of};
 use crate::sizes::size_cut;
-use crate::spots::{Grid, Spot, spot_of};
+use crate::spots::{Grid, GridSpot, spot_of};
 use crate::values::{ValuesAt, with_signals, with_step};
 use cell_value::Cell;
 use expr_eval::EvalError;
@@ -280,7 +280,7 @@ fn cell_view<'s, M: MarkItems>(
     alloc: Global,
     maker: &M,
     outer: &Frame<'s, '_, '_>,
-    spot: Spot,
+    spot: GridSpot,
     mark: &'s VgMark,
     copy: &CopyFacts,
     step: Step,

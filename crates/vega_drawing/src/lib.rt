@@ -23,5 +23,5 @@ pub use drawing::drawn;
 pub use frames::Frame;
 pub use items::MarkItems;
 pub use scales::{AxisHere, OfChart, ScaleHere, ScaleKept};
-pub use spots::{Grid, Spot};
+pub use spots::{Grid, GridSpot};
 pub use values::ValuesAt;

@@ -6,7 +6,7 @@ ghost use Rattle.scale_kit.specs.Scale.{IsPixel, IsScale, AreScales};
 ghost use Rattle.vega_drawing.specs.Scales.{name_of, has_scale, and_outer, scale_named, set_of, scale_in, laid_over, past, is_at, is_sized};
 ghost use Rattle.vega_drawing.specs.inner.Kept.{kept_seen, scale_seen, chart_has, IsKeptScale, AreKeptScales};
 
-use crate::spots::{Spot, is_at};
+use crate::spots::{GridSpot, is_at};
 use fixed_num::Num;
 use scale_kit::{ScaleIn, ScaleSet};
 use std::alloc::Global;
@@ -31,7 +31,7 @@ pub struct ScaleHere<'s, 'a> {
     /// The scale, as the object has it that gives the name.
     pub kept: &'a ScaleKept<'s>,
     /// The spots, in their grids, of the copies of faceted groups between that object and this one.
-    pub passed: Seq<Spot>,
+    pub passed: Seq<GridSpot>,
 }
 
 /// An axis of an object, with the scale that its name stands for there.
@@ -55,7 +55,7 @@ pub enum OfChart {
 }
 
 /// Whether all of some spots are at an edge.
-pub(crate) fn all_spots_at(edge: Edge, spots: &[Spot]) -> bool
+pub(crate) fn all_spots_at(edge: Edge, spots: &[GridSpot]) -> bool
     ensures { result ≡ list_all (is_at edge) spots.now }
 {
     spots.iter().all(|spot| is_at(edge, spot))
@@ -96,7 +96,7 @@ pub(crate) fn same_scale<'s, 'a>(
 }
 
 // The same spots once more.
-fn spots_copied(alloc: Global, spots: &[Spot]) -> Result<Seq<Spot>, OutOfMemory>
+fn spots_copied(alloc: Global, spots: &[GridSpot]) -> Result<Seq<GridSpot>, OutOfMemory>
     ensures { IfOk result (λ copy. copy ≡ spots.now) }
 {
     let mut out = Seq::with_capacity(alloc, spots.len())?;
@@ -264,7 +264,7 @@ pub(crate) fn scale_named<'b, 's, 'a>(
 /// A scale behind one more copy of a faceted group.
 pub(crate) fn past<'s, 'a>(
     alloc: Global,
-    spot: Spot,
+    spot: GridSpot,
     scale: &ScaleHere<'s, 'a>,
 ) -> Result<ScaleHere<'s, 'a>, OutOfMemory>
     ensures { IfOk result (λ behind. scale_seen behind ≡ past spot (scale_seen scale.now)) }
@@ -281,7 +281,7 @@ pub(crate) fn past<'s, 'a>(
 /// Scales behind one more copy of a faceted group.
 pub(crate) fn all_past<'s, 'a>(
     alloc: Global,
-    spot: Spot,
+    spot: GridSpot,
     scales: &[ScaleHere<'s, 'a>],
 ) -> Result<Seq<ScaleHere<'s, 'a>>, OutOfMemory>
     requires kept { AreKeptScales scales.now }

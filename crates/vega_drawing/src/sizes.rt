@@ -1,5 +1,5 @@
 // How wide and how high a plot is, and the space round it.
-ghost use Rattle.std.specs.Prelude.{◌≡◌, ◌≤ℤ◌, ◌*◌, pos, neg_ℤ, IfOk};
+ghost use Rattle.std.specs.Prelude.{◌≡◌, ◌≤ℤ◌, pos, neg_ℤ, IfOk};
 ghost use Rattle.fixed_num.specs.Number.{limit};
 ghost use Rattle.expr_eval.specs.Answers.{Evaluates};
 ghost use Rattle.scale_kit.specs.Scale.{IsPixel};

@@ -6,7 +6,7 @@ use vega_spec::Edge;
 
 /// Where a copy of a faceted group stands in its grid.
 #[derive(Clone, Copy, Debug, PartialEq, Eq)]
-pub struct Spot {
+pub struct GridSpot {
     /// Whether no cell of the grid is below it.
     pub is_last_row: bool,
     /// Whether it is in the first column.
@@ -23,19 +23,19 @@ pub struct Grid {
 }
 
 /// The spot of the cell of this index in a grid.
-pub(crate) fn spot_of(grid: Grid, index: u64) -> Spot
+pub(crate) fn spot_of(grid: Grid, index: u64) -> GridSpot
     requires columns { 0 < grid.columns }
     requires within { index < grid.cells }
     ensures { result ≡ spot_of grid.columns grid.cells index }
 {
-    Spot {
+    GridSpot {
         is_last_row: grid.cells - index <= grid.columns,
         is_first_column: index % grid.columns == 0,
     }
 }
 
 /// Whether a spot is at an edge.
-pub(crate) fn is_at(edge: Edge, spot: &Spot) -> bool
+pub(crate) fn is_at(edge: Edge, spot: &GridSpot) -> bool
     ensures { result ≡ is_at edge spot.now }
 {
     match edge {

@@ -1,5 +1,5 @@
 -- How many fields are read.
-use Rattle.std.proofs.Common.{◌≡◌, ℕ, ◌+◌, ◌≤◌, max, Option, Some, None, List, [], length, ap, arith}
+use Rattle.std.proofs.Common.{◌≡◌, ℕ, ◌+◌, ◌≤◌, Some, List, [], length, ap, arith}
 use Rattle.std.specs.Option.{unwrap_or}
 use Rattle.selection_events.specs.declared.selection.SelectionOf.{SelectionOf}
 use Rattle.vega_events.specs.Premises.{count_kept}

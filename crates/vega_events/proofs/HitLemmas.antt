@@ -1,6 +1,6 @@
 -- What is hit is one of the items of a panel, and its unit is one of the wanted.
-use Rattle.std.proofs.Common.{◌≡◌, ℕ, zero, suc, ℤ, ◌-ℤ◌, ◌<◌, Bool, true, false, cond, ◌&&◌, ◌||◌, eqb, Option, Some, None, List, [], ◌∷◌, length, get_or}
-use Rattle.std.proofs.Common.{refl, sym, ap, subst, ◌∙◌}
+use Rattle.std.proofs.Common.{◌≡◌, ℕ, zero, suc, ℤ, ◌-ℤ◌, Bool, true, false, cond, ◌&&◌, ◌||◌, eqb, Option, Some, None, List, [], ◌∷◌}
+use Rattle.std.proofs.Common.{get_or, refl, sym, ap, subst, ◌∙◌}
 use Rattle.std.specs.Option.{unwrap_or, option_map_or}
 use Rattle.std.specs.List.{All, filter, filter_map, cons_option, slice_get}
 use Rattle.std.proofs.lemmas.List.Elements.{All-head, All-tail, All-weaker}
@@ -19,7 +19,7 @@ use Rattle.selection_events.specs.Hits.{marked, is_among, hit_of, hit_at}
 use Rattle.selection_events.specs.Places.{has_unit, units_in, plot_of, units_in_panel}
 use Rattle.vega_selections.specs.declared.selections.VgSelection.{VgSelection}
 use Rattle.vega_events.specs.Events.{UnitLists, read_in}
-use Rattle.vega_events.specs.Premises.{IsRowOf, ItemIsOfRow, ItemsAreOfRows, AreKept, IsTold}
+use Rattle.vega_events.specs.Premises.{IsRowOf, ItemIsOfRow, AreKept, IsTold}
 
 -- ---- what is read
 

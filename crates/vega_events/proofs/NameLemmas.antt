@@ -1,5 +1,5 @@
 -- Selections by their names.
-use Rattle.std.proofs.Common.{◌≡◌, ◌≢◌, ℕ, zero, suc, ℤ, ◌<◌, Bool, true, false, cond, Option, Some, None, List, [], ◌∷◌, length, get_or, map}
+use Rattle.std.proofs.Common.{◌≡◌, ◌≢◌, ℕ, zero, suc, ◌<◌, Bool, true, false, cond, Option, Some, None, List, [], ◌∷◌, length, get_or, map}
 use Rattle.std.proofs.Common.{refl, sym, ap, ap₂, subst, ◌∙◌, arith}
 use Rattle.std.specs.Prelude.{find, zip, Contains, AllPairs}
 use Rattle.std.specs.Str.{bytes_eq}
@@ -8,7 +8,6 @@ use Rattle.std.proofs.lemmas.Slice.Eq.{bytes_eq-Decides}
 use Rattle.fixed_num.specs.Ranges.{◌>>=◌}
 use Rattle.cell_value.specs.declared.state.StoreOf.{StoreOf}
 use Rattle.scale_kit.specs.declared.scale.ScaleSet.{ScaleSet}
-use Rattle.scene_tree.specs.declared.scene.Scene.{Scene}
 use Rattle.scene_tree.specs.declared.scene.Panel.{Panel}
 use Rattle.param_flow.specs.declared.event.Event.{Event}
 use Rattle.param_flow.specs.declared.event.Event.TheVariants as mouse
@@ -16,14 +15,12 @@ use Rattle.selection_events.specs.declared.selection.DragOf.{DragOf}
 use Rattle.selection_events.specs.declared.selection.PlotOf.{PlotOf}
 use Rattle.selection_events.specs.declared.selection.SelectionOf.{SelectionOf}
 use Rattle.selection_events.specs.declared.drags.Drag.{Drag}
-use Rattle.selection_events.specs.declared.drags.ChannelHere.{ChannelHere}
 use Rattle.selection_events.specs.Places.{place_at, units_in_panel}
-use Rattle.selection_events.specs.Events.{Change, Inverts, Seen, with_units, store_changed, stores_changed, channel_here, dragged_over}
-use Rattle.selection_events.specs.Events.{dragged_at, clicked_at, toggled_at, cleared_at}
+use Rattle.selection_events.specs.Events.{Change, Inverts, with_units, store_changed, stores_changed, channel_here, dragged_over}
 use Rattle.vega_selections.specs.declared.selections.VgSelection.{VgSelection}
 use Rattle.vega_events.specs.Scales.{inverted_by}
-use Rattle.vega_events.specs.Events.{UnitLists, read_in, begin_of, change_on, store_after, stores_after}
-use Rattle.vega_events.specs.Laws.{is_named, inverted_in, seen_of, plain_of, EventsAreOfStores}
+use Rattle.vega_events.specs.Events.{UnitLists, read_in, change_on, store_after, stores_after}
+use Rattle.vega_events.specs.Laws.{is_named, inverted_in, plain_of, EventsAreOfStores}
 
 -- ---- a name of its own finds a selection
 

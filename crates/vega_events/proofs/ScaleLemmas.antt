@@ -9,7 +9,6 @@ use Rattle.scale_kit.specs.declared.scale.Scale.{Scale}
 use Rattle.scale_kit.specs.declared.scale.ScaleIn.{ScaleIn}
 use Rattle.scale_kit.specs.declared.scale.ScaleSet.{ScaleSet}
 use Rattle.scale_kit.specs.Scale.{IsScale, AreScales}
-use Rattle.selection_events.specs.declared.selection.DragOf.{DragOf}
 use Rattle.selection_events.specs.declared.drags.ChannelHere.{ChannelHere}
 use Rattle.selection_events.specs.Drags.{HasScale}
 use Rattle.selection_events.specs.Events.{channel_here}

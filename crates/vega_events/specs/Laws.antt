@@ -1,5 +1,5 @@
 -- What an event leaves over a Vega chart is what it leaves of the stores of selections, whatever the kind of the specification.
-use Rattle.std.specs.Prelude.{◌≡◌, ◌≢◌, ℕ, ℤ, Bool, List, map, find, AllPairs}
+use Rattle.std.specs.Prelude.{◌≡◌, ◌≢◌, ℕ, Bool, List, map, find, AllPairs}
 use Rattle.std.specs.Str.{bytes_eq}
 use Rattle.fixed_num.specs.Ranges.{◌>>=◌}
 use Rattle.cell_value.specs.declared.state.StoreOf.{StoreOf}

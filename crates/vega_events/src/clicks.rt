@@ -1,6 +1,5 @@
 // Clicks on selections of a Vega chart.
 ghost use Rattle.std.specs.Prelude.{◌≡◌, ◌≤◌, ◌+◌, ℕ, List, true, map, length, IfOk, All};
-ghost use Rattle.cell_value.specs.Row.{row_of};
 ghost use Rattle.selection_events.specs.Hits.{is_among};
 ghost use Rattle.selection_events.specs.Stores.{store_clicked as clicked_store, store_toggled as toggled_store};
 ghost use Rattle.selection_events.specs.Events.{tuple_of as tuple_in, tuple_at as tuple_there, clicked_at, toggled_at};

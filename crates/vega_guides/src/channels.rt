@@ -1,5 +1,5 @@
 // The channels that legends show.
-ghost use Rattle.std.specs.Prelude.{◌≡◌, option_copied, IsSome};
+ghost use Rattle.std.specs.Prelude.{◌≡◌, IsSome};
 ghost use Rattle.guide_kit.specs.Signs.{sign_kind_of};
 ghost use Rattle.vega_guides.specs.Legends.{channel_of, scale_shown};
 

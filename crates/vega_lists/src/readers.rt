@@ -1,5 +1,5 @@
 // What reads lists of rows by their names.
-ghost use Rattle.std.specs.Prelude.{◌≡◌, ℕ, List, [], IfOk, map};
+ghost use Rattle.std.specs.Prelude.{◌≡◌, ℕ, List, IfOk, map};
 ghost use Rattle.cell_value.specs.declared.state.Keyed.{Keyed};
 ghost use Rattle.vega_lists.specs.Held.{rows_named};
 

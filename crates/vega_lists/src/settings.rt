@@ -1,5 +1,5 @@
 // What the transforms of a Vega specification ask of rows, with what stands for the members that are absent.
-ghost use Rattle.std.specs.Prelude.{◌≡◌, ◌*◌, [], pos, IfOk, slice_get, unwrap_or, codes};
+ghost use Rattle.std.specs.Prelude.{◌≡◌, ◌*◌, [], pos, IfOk, slice_get, unwrap_or};
 ghost use Rattle.fixed_num.specs.Number.{million};
 ghost use Rattle.cell_value.specs.declared.cell.Cell.TheVariants.{Null};
 ghost use Rattle.expr_eval.specs.Answers.{Evaluates};

@@ -1,5 +1,5 @@
 // What several transforms make of rows, one after the other.
-ghost use Rattle.std.specs.Prelude.{◌≡◌, ◌∷◌, [], ◌++◌, ℕ, IsTrue, IfOk, map, All};
+ghost use Rattle.std.specs.Prelude.{◌∷◌, [], IsTrue, IfOk, map};
 ghost use Rattle.cell_value.specs.Datum.{datum_of};
 ghost use Rattle.plain_rows.specs.Rows.{AreRows};
 ghost use Rattle.plain_rows.specs.Answers.{GivesRows};

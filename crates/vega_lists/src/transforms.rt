@@ -15,7 +15,7 @@ ghost use Rattle.vega_lists.specs.Operations.{group_settings, window_settings};
 ghost use Rattle.vega_lists.specs.Settings.{bin_settings, stack_settings, lookup_settings, fold_settings, unit_settings};
 ghost use Rattle.vega_lists.specs.Products.{KeysFit, most_folded};
 ghost use Rattle.vega_lists.specs.Transforms.{is_kept, binned, transformed};
-ghost use Rattle.vega_lists.specs.Held.{rows_named, scope_in, AreLists, MayFold};
+ghost use Rattle.vega_lists.specs.Held.{scope_in, AreLists, MayFold};
 
 use crate::Lists;
 use crate::operations::{group_settings, window_settings};

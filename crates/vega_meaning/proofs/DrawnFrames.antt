@@ -23,7 +23,7 @@ use Rattle.vega_copies.specs.Outlines.{Object}
 use Rattle.vega_copies.specs.Facts.{Facts}
 use Rattle.vega_copies.specs.inner.Kept.{KeepsObject, IsSizeKept}
 use Rattle.vega_drawing.specs.declared.spots.Grid.{Grid}
-use Rattle.vega_drawing.specs.declared.spots.Spot.{Spot}
+use Rattle.vega_drawing.specs.declared.spots.GridSpot.{GridSpot}
 use Rattle.vega_drawing.specs.Sizes.{size_in, size_of}
 use Rattle.vega_drawing.specs.Scales.{ScaleHere, name_of, own_scale, own_scales, has_scale, and_outer, past, axis_past, spot_of}
 use Rattle.vega_drawing.specs.Frames.{Frame, more_cells, encoded_number, inside_of, as_grid, of_no_chart, sizing_values}
@@ -230,7 +230,7 @@ module _ (chart : List ScaleHere) (r : Round) where
         (each-filter IsKeptHere (λ s. not (has_scale (own_scales of_no_chart o.scales facts.domains) (name_of s))) outer.scales h.kept);
   }
 
-  past_found : (spot : Spot) (name : List ℕ) (scales : List ScaleHere)
+  past_found : (spot : GridSpot) (name : List ℕ) (scales : List ScaleHere)
       → option_map of_specification (find (named_here name) (map (past spot) scales)) ≡ option_map of_specification (find (named_here name) scales)
   past_found spot name [] = refl
   past_found spot name (s ∷ ss) = by_test (named_here name s) (past_found spot name ss)
@@ -242,12 +242,12 @@ module _ (chart : List ScaleHere) (r : Round) where
       by_test true rest = refl
       by_test false rest = rest
 
-  past_kept : (spot : Spot) (scales : List ScaleHere) → Each IsKeptHere scales → Each IsKeptHere (map (past spot) scales)
+  past_kept : (spot : GridSpot) (scales : List ScaleHere) → Each IsKeptHere scales → Each IsKeptHere (map (past spot) scales)
   past_kept spot [] h = tt
   past_kept spot (s ∷ ss) h = (record { built = h.0.built; bounds = h.0.bounds; fits = h.0.fits }, past_kept spot ss h.1)
 
   -- what stands round a copy that passes a spot
-  past_is : (o : Object) (spot : Spot) (outer : Frame) → FrameIs chart r outer → FrameIs chart r (frame_past o spot outer)
+  past_is : (o : Object) (spot : GridSpot) (outer : Frame) → FrameIs chart r outer → FrameIs chart r (frame_past o spot outer)
   past_is o spot outer h = by_facet (is_some o.facet)
     where
       by_facet : (b : Bool) → FrameIs chart r (cond b (record outer { scales = map (past spot) outer.scales; axes = map (axis_past spot) outer.axes }) outer)

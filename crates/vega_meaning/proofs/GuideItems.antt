@@ -8,7 +8,7 @@ use Rattle.scale_kit.specs.declared.scale.Scale.{Scale}
 use Rattle.scene_tree.specs.declared.scene.Item.{Item}
 use Rattle.guide_kit.specs.declared.axes.AxisOf.{AxisOf}
 use Rattle.guide_kit.specs.declared.axes.Guide.{Guide}
-use Rattle.guide_kit.specs.declared.frames.Frame.{Frame as Sides}
+use Rattle.guide_kit.specs.declared.frames.AxisFrame.{AxisFrame as Sides}
 use Rattle.guide_kit.specs.declared.legends.Block.{Block}
 use Rattle.guide_kit.specs.declared.signs.Sign.{Sign}
 use Rattle.guide_kit.specs.declared.signs.Sign.TheVariants as sign

@@ -1,6 +1,5 @@
 //! The first fault of a specification.
 ghost use Rattle.std.specs.Prelude.{◌≡◌, IfOk};
-ghost use Rattle.spec_schema.specs.Faults.{faults_in, first};
 ghost use Rattle.vega_schema.specs.Schema.{vega_schema};
 ghost use Rattle.vega_model.specs.Faults.{first_fault_of, fault_by_members, gathered, judged, fault_by_rules, with_path};
 

@@ -1,10 +1,10 @@
 //! Reading a specification.
-ghost use Rattle.std.specs.Prelude.{◌≡◌};
 ghost use Rattle.text_kit.specs.Answer.{GivesAs};
 ghost use Rattle.vega_model.specs.Reading.{read_of, cause};
 
 use crate::faults::first_fault_of;
-use json_exact::{Json, SpecError};
+use json_exact::Json;
+use spec_schema::SpecError;
 use std::alloc::Global;
 use vega_building::spec_of;
 use vega_spec::VgSpec;

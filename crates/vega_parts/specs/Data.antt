@@ -1,8 +1,8 @@
 -- What data sets give.
-use Rattle.std.specs.Prelude.{ℕ, ◌==◌, Bool, true, false, ◌&&◌, ◌||◌, if◌then◌else◌, List, [], ◌∷◌, ◌++◌, codes}
+use Rattle.std.specs.Prelude.{ℕ, ◌==◌, Bool, false, ◌&&◌, ◌||◌, if◌then◌else◌, List, [], ◌∷◌, ◌++◌, codes}
 use Rattle.std.specs.Option.{option_map_or}
 use Rattle.json_exact.specs.declared.json.Json.{Json}
-use Rattle.json_exact.specs.declared.spec_error.SpecKind.TheVariants.{Unsupported}
+use Rattle.spec_schema.specs.declared.spec_error.SpecKind.TheVariants.{Unsupported}
 use Rattle.vega_parts.specs.declared.part.Part.{Part}
 use Rattle.vega_parts.specs.declared.part.Part.TheVariants as part
 use Rattle.vega_parts.specs.declared.part.Given.TheVariants as give

@@ -1,9 +1,8 @@
 -- The rules at work.
-use Rattle.std.specs.Prelude.{◌≡◌, ℕ, true, false, Some, None, List, [], ◌∷◌, codes, refl}
+use Rattle.std.specs.Prelude.{◌≡◌, true, false, Some, None, List, [], ◌∷◌, codes, refl}
 use Rattle.json_exact.specs.declared.json.Json.{Json}
 use Rattle.json_exact.specs.declared.json.Json.TheOpen as level
 use Rattle.vega_schema.specs.declared.codes.TheConstants.{TOP, MARK, MARKS, DATA, DATA_LIST}
-use Rattle.vega_parts.specs.declared.around.Around.{Around}
 use Rattle.vega_parts.specs.declared.updates.Change.TheVariants.{Point, Toggle, Clear, Interval}
 use Rattle.vega_parts.specs.declared.part.ScaleType.TheVariants as type
 use Rattle.vega_parts.specs.Trails.{Trail, place_of, child, object_round, scope_of, is_plot, is_faceted, is_in_plot}

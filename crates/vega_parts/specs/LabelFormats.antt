@@ -3,7 +3,7 @@ use Rattle.std.specs.Prelude.{◌≡◌, ℕ, ◌==◌, nat_le, Bool, true, fals
 use Rattle.std.specs.Option.{option_map_or}
 use Rattle.std.specs.Str.{chars}
 use Rattle.json_exact.specs.declared.json.Json.{Json, out-Json}
-use Rattle.json_exact.specs.declared.spec_error.SpecKind.TheVariants.{Wrong}
+use Rattle.spec_schema.specs.declared.spec_error.SpecKind.TheVariants.{Wrong}
 use Rattle.json_exact.specs.Inside.{text_in}
 use Rattle.time_calc.specs.Labels.{is_pattern, pieces, directive_of}
 use Rattle.vega_parts.specs.declared.part.Part.{Part}

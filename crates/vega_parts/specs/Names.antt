@@ -4,13 +4,11 @@ use Rattle.std.specs.Option.{option_map_or}
 use Rattle.std.specs.List.{enumerate_from}
 use Rattle.json_exact.specs.declared.json.Json.{Json, out-Json}
 use Rattle.json_exact.specs.Inside.{text_in}
-use Rattle.json_exact.specs.declared.spec_error.SpecKind.{SpecKind}
+use Rattle.spec_schema.specs.declared.spec_error.SpecKind.{SpecKind}
 use Rattle.vega_parts.specs.declared.part.Part.{Part}
 use Rattle.vega_parts.specs.declared.part.Part.TheVariants as part
 use Rattle.vega_parts.specs.declared.part.Given.{Given}
 use Rattle.vega_parts.specs.declared.part.Used.{Used}
-use Rattle.vega_parts.specs.declared.part.GivenName.{GivenName}
-use Rattle.vega_parts.specs.declared.part.UsedName.{UsedName}
 use Rattle.vega_parts.specs.Members.{member_at, text_at}
 use Rattle.vega_parts.specs.Trails.{Trail, Place, place_of, child, grandchild, scope_of}
 

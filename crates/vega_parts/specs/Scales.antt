@@ -1,12 +1,11 @@
 -- What scales, and what uses them, give.
-use Rattle.std.specs.Prelude.{ℕ, if◌then◌else◌, Option, Some, List, [], ◌∷◌, ◌++◌, codes}
+use Rattle.std.specs.Prelude.{ℕ, if◌then◌else◌, Some, List, [], ◌∷◌, ◌++◌, codes}
 use Rattle.std.specs.Option.{option_map_or}
 use Rattle.std.specs.Str.{bytes_eq}
 use Rattle.json_exact.specs.declared.json.Json.{Json}
 use Rattle.vega_parts.specs.declared.part.Part.{Part}
 use Rattle.vega_parts.specs.declared.part.Part.TheVariants as part
 use Rattle.vega_parts.specs.declared.part.Given.TheVariants as give
-use Rattle.vega_parts.specs.declared.part.GivenName.{GivenName}
 use Rattle.vega_parts.specs.declared.part.Used.{Used}
 use Rattle.vega_parts.specs.declared.part.Used.TheVariants as for_
 use Rattle.vega_parts.specs.declared.part.ScaleTraits.{ScaleTraits}

@@ -4,7 +4,7 @@ use Rattle.std.specs.Option.{option_map, option_map_or, option_to_list}
 use Rattle.std.specs.List.{enumerate_from, list_any}
 use Rattle.std.specs.Str.{bytes_eq}
 use Rattle.json_exact.specs.declared.json.Json.{Json, out-Json}
-use Rattle.json_exact.specs.declared.spec_error.SpecKind.TheVariants.{Wrong}
+use Rattle.spec_schema.specs.declared.spec_error.SpecKind.TheVariants.{Wrong}
 use Rattle.json_exact.specs.Inside.{text_in}
 use Rattle.vega_parts.specs.declared.part.Part.{Part}
 use Rattle.vega_parts.specs.declared.part.Part.TheVariants as part

@@ -3,7 +3,7 @@ use Rattle.std.specs.Prelude.{ℕ, ◌&&◌, if◌then◌else◌, List, [], ◌�
 use Rattle.std.specs.Option.{option_map_or}
 use Rattle.std.specs.List.{enumerate_from}
 use Rattle.json_exact.specs.declared.json.Json.{Json}
-use Rattle.json_exact.specs.declared.spec_error.SpecKind.TheVariants.{Wrong}
+use Rattle.spec_schema.specs.declared.spec_error.SpecKind.TheVariants.{Wrong}
 use Rattle.vega_parts.specs.declared.part.Part.{Part}
 use Rattle.vega_parts.specs.declared.part.Given.TheVariants as give
 use Rattle.vega_parts.specs.declared.part.Used.TheVariants as for_

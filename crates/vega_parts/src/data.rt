@@ -6,7 +6,8 @@ use crate::around::{Around, child, is_faceted, object_round, place_of, scope_of}
 use crate::members::{has_member, text_at};
 use crate::names::{push_fault, push_fault_member, push_given, push_used_member};
 use crate::part::{Given, Part, Used};
-use json_exact::{Json, SpecKind};
+use json_exact::Json;
+use spec_schema::SpecKind;
 use std::alloc::Global;
 use text_kit::{OutOfMemory, Seq};
 

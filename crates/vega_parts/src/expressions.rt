@@ -11,7 +11,8 @@ use crate::names::{push_fault, push_used_names};
 use crate::part::{Part, Used};
 use expr_reading::{expression_of, parameters_of, scales_of, selections_of};
 use expr_syntax::{Expr, has_domain_length};
-use json_exact::{Json, SpecKind};
+use json_exact::Json;
+use spec_schema::SpecKind;
 use std::alloc::Global;
 use text_kit::{OutOfMemory, Seq};
 

@@ -8,7 +8,8 @@ use crate::around::{Around, child};
 use crate::members::{items_at, member_at};
 use crate::names::push_fault;
 use crate::part::Part;
-use json_exact::{Json, SpecKind};
+use json_exact::Json;
+use spec_schema::SpecKind;
 use std::alloc::Global;
 use text_kit::{OutOfMemory, Seq};
 

@@ -1,6 +1,5 @@
 //! What marks and groups give.
 ghost use Rattle.std.specs.Prelude.{◌≡◌, ◌++◌, reverse, IfOk, OnOk};
-ghost use Rattle.std.specs.Option.{option_map};
 ghost use Rattle.vega_parts.specs.Marks.{name_of, mark_itself, is_open_plot, plot_parts, beside_layout, layout_in_plot, mark_faults, mark_parts};
 
 use crate::around::{
@@ -9,7 +8,8 @@ use crate::around::{
 use crate::members::text_at;
 use crate::names::{push_fault, push_fault_member};
 use crate::part::Part;
-use json_exact::{Json, SpecKind};
+use json_exact::Json;
+use spec_schema::SpecKind;
 use std::alloc::Global;
 use text_kit::{OutOfMemory, Seq, Text};
 

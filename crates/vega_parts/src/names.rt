@@ -6,7 +6,8 @@ ghost use Rattle.vega_parts.specs.Names.{given, used, used_member, fault_member,
 use crate::around::{Around, child, grandchild, place_of, scope_of};
 use crate::members::{member_at, text_at, text_in};
 use crate::part::{Given, GivenName, Part, Place, Used, UsedName};
-use json_exact::{Json, SpecKind};
+use json_exact::Json;
+use spec_schema::SpecKind;
 use std::alloc::Global;
 use text_kit::{OutOfMemory, Seq, Text};
 

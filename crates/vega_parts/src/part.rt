@@ -1,5 +1,5 @@
 //! Parts of a specification.
-use json_exact::SpecKind;
+use spec_schema::SpecKind;
 use text_kit::{Seq, Text};
 
 /// A place in a specification: from the top on, the number of a child among its parent's children, counted from 0. The top

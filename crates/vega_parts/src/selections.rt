@@ -17,7 +17,8 @@ use crate::updates::{
     Update, channels_fit, clash, fields_of, is_drag, is_selector, is_update_of, stands_with,
     update_of,
 };
-use json_exact::{Json, SpecKind};
+use json_exact::Json;
+use spec_schema::SpecKind;
 use std::alloc::Global;
 use text_kit::{Copies, OutOfMemory, Seq, Text};
 

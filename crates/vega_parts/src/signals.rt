@@ -6,7 +6,8 @@ use crate::around::{Around, child, grandchild, is_top, object_round, place_of, s
 use crate::members::{has_member, items_at, text_at};
 use crate::names::{push_fault_member, push_given, push_used_items};
 use crate::part::{Given, Part, Used};
-use json_exact::{Json, SpecKind};
+use json_exact::Json;
+use spec_schema::SpecKind;
 use std::alloc::Global;
 use text_kit::{OutOfMemory, Seq};
 

@@ -8,7 +8,8 @@ use crate::lengths::push_other_length;
 use crate::members::{has_member, items_at, says_text, text_at};
 use crate::names::{push_fault, push_given, push_used_member};
 use crate::part::{Given, Part, Place, Used};
-use json_exact::{Json, SpecKind};
+use json_exact::Json;
+use spec_schema::SpecKind;
 use std::alloc::Global;
 use text_kit::{OutOfMemory, Seq};
 

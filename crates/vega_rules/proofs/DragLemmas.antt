@@ -7,7 +7,7 @@ use Rattle.std.specs.List.{list_any, list_all}
 use Rattle.std.specs.declared.alloc.Global.{Global}
 use Rattle.std.specs.BTreeMap.{BTreeMap}
 use Rattle.std.proofs.lemmas.Bool.Decides.{nat_tests}
-use Rattle.json_exact.specs.declared.spec_error.SpecKind.{SpecKind}
+use Rattle.spec_schema.specs.declared.spec_error.SpecKind.{SpecKind}
 use Rattle.vega_parts.specs.declared.part.Part.{Part}
 use Rattle.vega_parts.specs.declared.part.GivenName.{GivenName}
 use Rattle.vega_parts.specs.declared.part.Given.TheVariants as given

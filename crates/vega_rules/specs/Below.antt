@@ -1,7 +1,7 @@
 -- Marks that a signal names.
 use Rattle.std.specs.Prelude.{◌≡◌, ℕ, Bool, true, false, ◌&&◌, not, Option, Some, None, List, [], ◌∷◌, flat_map, bytes_eq, codes, refl}
 use Rattle.std.specs.List.{list_any}
-use Rattle.json_exact.specs.declared.spec_error.SpecKind.TheVariants.{Wrong}
+use Rattle.spec_schema.specs.declared.spec_error.SpecKind.TheVariants.{Wrong}
 use Rattle.vega_parts.specs.declared.part.Part.{Part}
 use Rattle.vega_parts.specs.declared.part.Part.TheVariants as part
 use Rattle.vega_parts.specs.declared.part.UsedName.{UsedName}

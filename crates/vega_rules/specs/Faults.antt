@@ -1,7 +1,7 @@
 -- Faults and the earliest of them.
 use Rattle.std.specs.Prelude.{◌≡◌, ℕ, if◌then◌else◌, Bool, Option, Some, None, List, [], ◌∷◌, refl}
-use Rattle.json_exact.specs.declared.spec_error.SpecKind.{SpecKind}
-use Rattle.json_exact.specs.declared.spec_error.SpecKind.TheVariants.{Unsupported, Wrong}
+use Rattle.spec_schema.specs.declared.spec_error.SpecKind.{SpecKind}
+use Rattle.spec_schema.specs.declared.spec_error.SpecKind.TheVariants.{Unsupported, Wrong}
 use Rattle.spec_schema.specs.Order.{is_before}
 use Rattle.vega_parts.specs.declared.part.Part.{Part}
 use Rattle.vega_parts.specs.declared.part.Part.TheVariants as part

@@ -1,7 +1,7 @@
 -- Scales that a drag inverts.
 use Rattle.std.specs.Prelude.{ℕ, ◌==◌, Bool, true, false, ◌&&◌, ◌||◌, not, if◌then◌else◌, Option, Some, None, List, [], flat_map, filter_map, bytes_eq}
 use Rattle.std.specs.List.{list_any, list_all}
-use Rattle.json_exact.specs.declared.spec_error.SpecKind.TheVariants.{Wrong}
+use Rattle.spec_schema.specs.declared.spec_error.SpecKind.TheVariants.{Wrong}
 use Rattle.vega_parts.specs.declared.part.Part.{Part}
 use Rattle.vega_parts.specs.declared.part.Part.TheVariants as part
 use Rattle.vega_parts.specs.declared.part.GivenName.{GivenName}

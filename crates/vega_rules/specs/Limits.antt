@@ -1,6 +1,6 @@
 -- How many marks and plots there may be.
 use Rattle.std.specs.Prelude.{ℕ, if◌then◌else◌, Option, Some, None, List, ◌++◌, filter_map, slice_get, option_to_list, option_map}
-use Rattle.json_exact.specs.declared.spec_error.SpecKind.TheVariants.{Wrong}
+use Rattle.spec_schema.specs.declared.spec_error.SpecKind.TheVariants.{Wrong}
 use Rattle.vega_parts.specs.declared.part.Part.{Part}
 use Rattle.vega_parts.specs.declared.part.Part.TheVariants as part
 use Rattle.vega_rules.specs.declared.fault.PlacedFault.{PlacedFault}

@@ -1,6 +1,6 @@
 -- Scales whose range is the size of a plot, where this has no meaning.
 use Rattle.std.specs.Prelude.{Bool, true, false, ◌&&◌, Option, Some, None, List, [], flat_map}
-use Rattle.json_exact.specs.declared.spec_error.SpecKind.TheVariants.{Unsupported}
+use Rattle.spec_schema.specs.declared.spec_error.SpecKind.TheVariants.{Unsupported}
 use Rattle.vega_parts.specs.declared.part.Part.{Part}
 use Rattle.vega_parts.specs.declared.part.Part.TheVariants as part
 use Rattle.vega_parts.specs.declared.part.GivenName.{GivenName}

@@ -6,7 +6,7 @@ use Rattle.vega_parts.specs.declared.part.Part.TheVariants as part
 use Rattle.vega_parts.specs.declared.part.GivenName.{GivenName}
 use Rattle.vega_parts.specs.declared.part.Given.{Given}
 use Rattle.vega_parts.specs.declared.part.Given.TheVariants as given
-use Rattle.json_exact.specs.declared.spec_error.SpecKind.TheVariants.{Wrong}
+use Rattle.spec_schema.specs.declared.spec_error.SpecKind.TheVariants.{Wrong}
 use Rattle.vega_rules.specs.declared.fault.PlacedFault.{PlacedFault}
 use Rattle.vega_rules.specs.Faults.{fault_at, fault_if}
 use Rattle.vega_rules.specs.Names.{has_given}

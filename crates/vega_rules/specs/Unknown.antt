@@ -1,6 +1,6 @@
 -- Names that nothing gives.
 use Rattle.std.specs.Prelude.{Bool, ◌&&◌, is_some, is_none, List, [], flat_map}
-use Rattle.json_exact.specs.declared.spec_error.SpecKind.TheVariants.{Wrong}
+use Rattle.spec_schema.specs.declared.spec_error.SpecKind.TheVariants.{Wrong}
 use Rattle.vega_parts.specs.declared.part.Part.{Part}
 use Rattle.vega_parts.specs.declared.part.Part.TheVariants as part
 use Rattle.vega_parts.specs.declared.part.UsedName.{UsedName}

@@ -1,5 +1,5 @@
 //! Marks that a signal names.
-ghost use Rattle.std.specs.Prelude.{◌≡◌, ℕ, List, Some, true, ◌&&◌, ◌||◌, take, length, is_some, slice_get, bytes_eq, IfOk, OnOk};
+ghost use Rattle.std.specs.Prelude.{◌≡◌, ℕ, List, Some, ◌&&◌, ◌||◌, is_some, slice_get, bytes_eq, IfOk, OnOk};
 ghost use Rattle.std.specs.List.{list_any};
 ghost use Rattle.vega_rules.specs.Faults.{sooner, earliest};
 ghost use Rattle.vega_rules.specs.Below.{lacks_mark, below_by, below};
@@ -12,7 +12,7 @@ use crate::fault::{PlacedFault, sooner_if};
 use crate::index::indexed;
 use crate::keyed::{Keyed, no_numbers, number_at, put};
 use crate::keys::{By, front, is_of_mark, mark_key};
-use json_exact::SpecKind;
+use spec_schema::SpecKind;
 use std::alloc::Global;
 use text_kit::{OutOfMemory, Seq};
 use vega_parts::{Part, UsedName};

@@ -3,7 +3,7 @@ ghost use Rattle.std.specs.Prelude.{◌≡◌, IfOk};
 ghost use Rattle.spec_schema.specs.Order.{is_before};
 ghost use Rattle.vega_rules.specs.Faults.{sooner, earliest, fault_at, fault_if};
 
-use json_exact::SpecKind;
+use spec_schema::SpecKind;
 use std::alloc::Global;
 use text_kit::{OutOfMemory, Seq};
 use vega_parts::Place;

@@ -12,7 +12,7 @@ use crate::fault::{PlacedFault, sooner_if};
 use crate::keyed::{Keyed, no_numbers, number_at, put};
 use crate::keys::used_by;
 use crate::resolve::resolved_use;
-use json_exact::SpecKind;
+use spec_schema::SpecKind;
 use std::alloc::Global;
 use text_kit::{OutOfMemory, Seq};
 use vega_parts::{Part, Place, UsedName};

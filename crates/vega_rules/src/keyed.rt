@@ -1,5 +1,5 @@
 //! Numbers under keys that are lists of numbers.
-ghost use Rattle.std.specs.Prelude.{◌≡◌, ℕ, List, cond, Some, None, OnOk, IfOk, bytes_eq};
+ghost use Rattle.std.specs.Prelude.{◌≡◌, ℕ, List, cond, Some, None, OnOk, bytes_eq};
 ghost use Rattle.vega_rules.specs.inner.Keyed.{number_at};
 
 use std::alloc::Global;

@@ -6,7 +6,7 @@ ghost use Rattle.vega_rules.specs.Limits.{plain_mark, plot, one_too_many, limits
 ghost use Rattle.vega_rules.specs.inner.Counted.{counted_by, left_behind};
 
 use crate::fault::{PlacedFault, fault_at, sooner};
-use json_exact::SpecKind;
+use spec_schema::SpecKind;
 use std::alloc::Global;
 use text_kit::OutOfMemory;
 use vega_parts::{Part, Place};

@@ -1,5 +1,5 @@
 //! Rows of what is needed.
-ghost use Rattle.std.specs.Prelude.{◌≡◌, ◌∷◌, [], IfOk, OnOk, replicate};
+ghost use Rattle.std.specs.Prelude.{◌≡◌, [], IfOk, OnOk, replicate};
 ghost use Rattle.vega_rules.specs.Edges.{need};
 ghost use Rattle.vega_rules.specs.inner.NeedRows.{with_need, with_needs};
 

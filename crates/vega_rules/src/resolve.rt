@@ -5,7 +5,7 @@ ghost use Rattle.vega_rules.specs.Places.{ends_before, fronts};
 ghost use Rattle.vega_rules.specs.Resolved.{giver, other_giver, asks_before, uses_in_data, served, served_by, given_as, given_in};
 ghost use Rattle.vega_rules.specs.Resolved.{first_found, fronts_round, nearest_given, behind_own, resolved, resolved_use};
 ghost use Rattle.vega_rules.specs.declared.keys.By.TheVariants as by;
-ghost use Rattle.vega_rules.specs.inner.Index.{name_key, key_of_given, IsIndex};
+ghost use Rattle.vega_rules.specs.inner.Index.{name_key, IsIndex};
 ghost use Rattle.vega_rules.specs.inner.Looked.{given_front, given_fronts};
 
 use crate::index::given_at;

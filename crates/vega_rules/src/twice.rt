@@ -9,7 +9,7 @@ ghost use Rattle.vega_rules.specs.inner.Index.{IsIndex};
 use crate::fault::{PlacedFault, sooner_if};
 use crate::keyed::{Keyed, number_at};
 use crate::keys::name_key;
-use json_exact::SpecKind;
+use spec_schema::SpecKind;
 use std::alloc::Global;
 use text_kit::OutOfMemory;
 use vega_parts::{Given, GivenName, Part};

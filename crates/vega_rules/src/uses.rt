@@ -10,7 +10,7 @@ ghost use Rattle.vega_rules.specs.inner.Index.{IsIndex};
 use crate::fault::{PlacedFault, sooner_if};
 use crate::keyed::Keyed;
 use crate::resolve::{giver, resolved_use};
-use json_exact::SpecKind;
+use spec_schema::SpecKind;
 use std::alloc::Global;
 use text_kit::OutOfMemory;
 use vega_parts::{GivenName, Part, RangeKind, ScaleTraits, Used, UsedName};

@@ -1,9 +1,8 @@
 -- The ranges and the paddings of scales.
-use Rattle.std.specs.Prelude.{◌≡◌, refl, Bool, true, false, ◌*◌, ℤ, pos, Option, Some, None, List, [], ◌∷◌, unwrap_or, if◌then◌else◌}
+use Rattle.std.specs.Prelude.{◌≡◌, refl, Bool, true, false, ℤ, pos, Option, Some, None, List, [], ◌∷◌, unwrap_or, if◌then◌else◌}
 use Rattle.std.specs.Option.{option_or}
-use Rattle.fixed_num.specs.Number.{million}
 use Rattle.cell_value.specs.declared.cell.Cell.{Cell}
-use Rattle.cell_value.specs.declared.cell.Cell.TheVariants.{Null, Flag, Number, Text, Pair}
+use Rattle.cell_value.specs.declared.cell.Cell.TheVariants.{Null, Number}
 use Rattle.vega_spec.specs.declared.scales.Range.{Range}
 use Rattle.vega_spec.specs.declared.scales.Range.TheVariants.{Cells, Width, Height, Category, Ramp, Symbol}
 use Rattle.fixed_num.specs.Ranges.{◌>>=◌}

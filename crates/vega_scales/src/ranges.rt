@@ -1,5 +1,5 @@
 // The ranges and the paddings of scales.
-ghost use Rattle.std.specs.Prelude.{◌≡◌, pos};
+ghost use Rattle.std.specs.Prelude.{◌≡◌};
 ghost use Rattle.vega_scales.specs.Ranges.{two_numbers, ends_in, turned, padding_of};
 
 use crate::numbers::{the_number, zero};

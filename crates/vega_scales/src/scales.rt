@@ -1,5 +1,5 @@
 // Scales.
-ghost use Rattle.std.specs.Prelude.{◌≡◌, ◌≤ℤ◌, false, pos, length, IfOk, IsTrue};
+ghost use Rattle.std.specs.Prelude.{◌≡◌, ◌≤ℤ◌, false, IfOk, IsTrue};
 ghost use Rattle.std.specs.Option.{option_map};
 ghost use Rattle.expr_eval.specs.Answers.{Evaluates};
 ghost use Rattle.vega_lists.specs.Held.{scope_read, AreAllRows};

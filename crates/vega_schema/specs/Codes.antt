@@ -2,9 +2,26 @@
 use Rattle.std.specs.Prelude.{◌≡◌, ℕ, ◌==◌, Bool, true, ◌&&◌, not, Some, None, List, [], ◌∷◌, find, slice_get, refl}
 use Rattle.std.specs.List.{list_any}
 use Rattle.spec_schema.specs.declared.form.Shape.{Shape}
-use Rattle.vega_schema.specs.declared.codes.TheConstants.{ANGLE, ANY_RANGE, AUTOSIZE, AUTOSIZE_NAMES, AXES, AXIS, BOUND, CELL, CELLS, CHANNEL, CHANNELS, CONTINUOUS_NAMES, CONTINUOUS_RANGE, COUNT, CROSS, DATA, DATA_LIST, DISCRETE_NAMES, DISCRETE_RANGE, DOMAIN, DOMAIN_ORDER, DOMAIN_SORT, EDGE, EDGE_NAMES, ENCODE, EVENTS, EVENT_NAMES, EXPRESSION, EXPRESSION_SIGNAL, EXTENT, EXTENT_SIGNAL, FACET, FLAG, FORMAT, FORMAT_NAMES, FORMAT_TYPE, FRAME, FREE, GROUP_CHANNELS, GROUP_ENCODE, GROUP_FROM, HEADER, HEADERS, HEADER_NAMES, LABEL_FORMAT, LAYOUT, LEGEND, LEGENDS, MARK, MARKS, MARK_FROM, NOTHING, NUMBER, OFFSET, OFFSET_NAMES, ON, ONE_TEXT, ON_LIST, OPERATION, OPERATIONS, OPERATION_NAMES, ORDER, ORDERS, ORDER_NAMES, ORDINAL_NAMES, ORDINAL_RANGE, PARAMETER, PARAMETERS, PARSE, PARSE_KIND, PARSE_NAMES, RANGE_ITEM, RANGE_NAMES, RANGE_NUMBER, REFERENCE, REFERENCES, SCALE, SCALES, SCALE_DOMAIN, SHARE, SIDE, SIDE_NAMES, SIGNAL, SIGNALS, SIZE, SIZE_CHANNEL, SIZE_EXPRESSION, SIZE_SIGNAL, SIZE_VALUE, SORT, SPACE, STEP, TEXT, TEXTS, TEXTS_OR_NULLS, TEXT_OR_NULL, TEXT_OR_TEXTS, TICK_COUNT, TIME_UNIT, TOP, TRANSFORM, TRANSFORMS, TWO_TEXTS, UNIT_NAMES, VALUE, WINDOW_NAMES, WINDOW_OPERATION, WINDOW_OPERATIONS, WORDS_CHANNEL, WORDS_VALUE}
+use Rattle.vega_schema.specs.declared.codes.TheConstants.{ANGLE, ANY_RANGE, AUTOSIZE, AUTOSIZE_NAMES, AXES, AXIS, BOUND, CELL, CELLS}
+use Rattle.vega_schema.specs.declared.codes.TheConstants.{CHANNEL, CHANNELS, CONTINUOUS_NAMES, CONTINUOUS_RANGE, COUNT, CROSS, DATA}
+use Rattle.vega_schema.specs.declared.codes.TheConstants.{DATA_LIST, DISCRETE_NAMES, DISCRETE_RANGE, DOMAIN, DOMAIN_ORDER, DOMAIN_SORT}
+use Rattle.vega_schema.specs.declared.codes.TheConstants.{EDGE, EDGE_NAMES, ENCODE, EVENTS, EVENT_NAMES, EXPRESSION, EXPRESSION_SIGNAL}
+use Rattle.vega_schema.specs.declared.codes.TheConstants.{EXTENT, EXTENT_SIGNAL, FACET, FLAG, FORMAT, FORMAT_NAMES, FORMAT_TYPE, FRAME}
+use Rattle.vega_schema.specs.declared.codes.TheConstants.{FREE, GROUP_CHANNELS, GROUP_ENCODE, GROUP_FROM, HEADER, HEADERS, HEADER_NAMES}
+use Rattle.vega_schema.specs.declared.codes.TheConstants.{LABEL_FORMAT, LAYOUT, LEGEND, LEGENDS, MARK, MARKS, MARK_FROM, NOTHING, NUMBER}
+use Rattle.vega_schema.specs.declared.codes.TheConstants.{OFFSET, OFFSET_NAMES, ON, ONE_TEXT, ON_LIST, OPERATION, OPERATIONS}
+use Rattle.vega_schema.specs.declared.codes.TheConstants.{OPERATION_NAMES, ORDER, ORDERS, ORDER_NAMES, ORDINAL_NAMES, ORDINAL_RANGE}
+use Rattle.vega_schema.specs.declared.codes.TheConstants.{PARAMETER, PARAMETERS, PARSE, PARSE_KIND, PARSE_NAMES, RANGE_ITEM, RANGE_NAMES}
+use Rattle.vega_schema.specs.declared.codes.TheConstants.{RANGE_NUMBER, REFERENCE, REFERENCES, SCALE, SCALES, SCALE_DOMAIN, SHARE, SIDE}
+use Rattle.vega_schema.specs.declared.codes.TheConstants.{SIDE_NAMES, SIGNAL, SIGNALS, SIZE, SIZE_CHANNEL, SIZE_EXPRESSION, SIZE_SIGNAL}
+use Rattle.vega_schema.specs.declared.codes.TheConstants.{SIZE_VALUE, SORT, SPACE, STEP, TEXT, TEXTS, TEXTS_OR_NULLS, TEXT_OR_NULL}
+use Rattle.vega_schema.specs.declared.codes.TheConstants.{TEXT_OR_TEXTS, TICK_COUNT, TIME_UNIT, TOP, TRANSFORM, TRANSFORMS, TWO_TEXTS}
+use Rattle.vega_schema.specs.declared.codes.TheConstants.{UNIT_NAMES, VALUE, WINDOW_NAMES, WINDOW_OPERATION, WINDOW_OPERATIONS}
+use Rattle.vega_schema.specs.declared.codes.TheConstants.{WORDS_CHANNEL, WORDS_VALUE}
 use Rattle.vega_schema.specs.Shapes.{leaves, named, lists, objects, shapes}
-use Rattle.vega_schema.specs.Words.{words, autosize_names, format_names, parse_names, operation_names, window_names, unit_names, offset_names, order_names, continuous_names, discrete_names, ordinal_names, event_names, header_names, side_names, edge_names, range_names}
+use Rattle.vega_schema.specs.Words.{words, autosize_names, format_names, parse_names, operation_names, window_names, unit_names}
+use Rattle.vega_schema.specs.Words.{offset_names, order_names, continuous_names, discrete_names, ordinal_names, event_names, header_names}
+use Rattle.vega_schema.specs.Words.{side_names, edge_names, range_names}
 
 -- no number stands twice
 abbrev pub are_distinct : List ℕ → Bool

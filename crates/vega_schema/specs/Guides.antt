@@ -3,7 +3,9 @@ use Rattle.std.specs.Prelude.{None, List, [], ◌∷◌, codes}
 use Rattle.spec_schema.specs.declared.layout.Layout.{Layout}
 use Rattle.spec_schema.specs.declared.layout.Test.TheVariants.{Says}
 use Rattle.spec_schema.specs.Tables.{must, may}
-use Rattle.vega_schema.specs.declared.codes.TheConstants.{ANGLE, AUTOSIZE, AXES, AXIS, CELLS, COUNT, DATA_LIST, EDGE, FLAG, GROUP_ENCODE, GROUP_FROM, LABEL_FORMAT, LAYOUT, LEGEND, LEGENDS, MARK, MARKS, SCALES, SIDE, SIGNALS, SIZE, SORT, SPACE, TEXT, TICK_COUNT, TOP}
+use Rattle.vega_schema.specs.declared.codes.TheConstants.{ANGLE, AUTOSIZE, AXES, AXIS, CELLS, COUNT, DATA_LIST, EDGE, FLAG, GROUP_ENCODE}
+use Rattle.vega_schema.specs.declared.codes.TheConstants.{GROUP_FROM, LABEL_FORMAT, LAYOUT, LEGEND, LEGENDS, MARK, MARKS, SCALES, SIDE}
+use Rattle.vega_schema.specs.declared.codes.TheConstants.{SIGNALS, SIZE, SORT, SPACE, TEXT, TICK_COUNT, TOP}
 
 -- a group
 unfoldable pub group_mark : Layout

@@ -3,7 +3,8 @@ use Rattle.std.specs.Prelude.{None, List, [], ◌∷◌, codes}
 use Rattle.spec_schema.specs.declared.layout.Layout.{Layout}
 use Rattle.spec_schema.specs.declared.layout.Test.TheVariants.{Has}
 use Rattle.spec_schema.specs.Tables.{may}
-use Rattle.vega_schema.specs.declared.codes.TheConstants.{CELL, CHANNEL, FREE, GROUP_CHANNELS, GROUP_ENCODE, NUMBER, SIZE_CHANNEL, SIZE_EXPRESSION, SIZE_SIGNAL, SIZE_VALUE, TEXT, WORDS_CHANNEL}
+use Rattle.vega_schema.specs.declared.codes.TheConstants.{CELL, CHANNEL, FREE, GROUP_CHANNELS, GROUP_ENCODE, NUMBER, SIZE_CHANNEL}
+use Rattle.vega_schema.specs.declared.codes.TheConstants.{SIZE_EXPRESSION, SIZE_SIGNAL, SIZE_VALUE, TEXT, WORDS_CHANNEL}
 
 -- the value of an expression that gives the size of a plot
 unfoldable pub size_signal : Layout

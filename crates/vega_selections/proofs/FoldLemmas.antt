@@ -1,5 +1,5 @@
 -- What is gathered of an object and of a mark, from what it has.
-use Rattle.std.proofs.Common.{◌≡◌, Bool, true, false, cond, Option, Some, None, List, [], ◌∷◌, ◌++◌, map, flat_map, refl, sym, ap, ◌∙◌}
+use Rattle.std.proofs.Common.{◌≡◌, true, false, cond, Option, Some, None, List, [], ◌∷◌, ◌++◌, map, flat_map, refl, sym, ap, ◌∙◌}
 use Rattle.std.specs.Prelude.{unwrap_or, is_some}
 use Rattle.vega_spec.specs.declared.spec.Group.{Group, out-Group, map-Group, fold_out-Group}
 use Rattle.vega_spec.specs.declared.spec.Group.TheShapes.{former-Group-marks}

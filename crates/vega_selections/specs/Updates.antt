@@ -1,6 +1,6 @@
 -- What the entries of `on` say. An entry stands with one of four selectors of events; in a specification without fault each selector stands once,
 -- with the call that belongs to it, whose first text is the name of the signal.
-use Rattle.std.specs.Prelude.{◌≡◌, refl, ℕ, ◌==◌, Bool, if◌then◌else◌, Option, Some, None, List, [], ◌∷◌, ◌++◌, drop, find, codes}
+use Rattle.std.specs.Prelude.{◌≡◌, refl, ℕ, ◌==◌, Bool, if◌then◌else◌, Option, List, [], ◌∷◌, ◌++◌, drop, find, codes}
 use Rattle.std.specs.Option.{option_map}
 use Rattle.std.specs.List.{list_any}
 use Rattle.std.specs.Str.{bytes_eq}

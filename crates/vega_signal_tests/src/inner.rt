@@ -3,7 +3,7 @@
 ghost use Rattle.std.specs.Prelude.{◌≡◌, All, IfOk, map};
 ghost use Rattle.vega_signal_tests.specs.Plain.{IsListed, IsPlainSet};
 
-use crate::signals::{Stop, bare, sets_of, signals_of, word_of};
+use crate::signals::{TestStop, bare, sets_of, signals_of, word_of};
 use cell_value::{Cell, Keyed, Rows};
 use expr_eval::{NoParams, ParamReader};
 use std::alloc::Global;
@@ -97,7 +97,7 @@ fn values_of<P: ParamReader>(
     rows: &[Keyed],
     outer: &P,
     line: &str,
-) -> Result<Seq<(Text, Option<Cell>)>, Stop>
+) -> Result<Seq<(Text, Option<Cell>)>, TestStop>
     requires { IsListed rows.now }
 {
     let (signals, sets) = line.split_once("| ").unwrap_or((line, ""));
@@ -129,9 +129,9 @@ fn settled(alloc: Global, values: &[(Text, Option<Cell>)]) -> Result<Text, OutOf
     Ok(out)
 }
 
-fn answered(alloc: Global, line: &str) -> Result<Text, Stop> {
+fn answered(alloc: Global, line: &str) -> Result<Text, TestStop> {
     let rows = three_rows(alloc)?;
-    let (round, line) = line.split_once("& ").ok_or(Stop::Shape)?;
+    let (round, line) = line.split_once("& ").ok_or(TestStop::Shape)?;
     let outer = values_of(alloc, rows.as_slice(), &NoParams, round.trim_end())?;
     let round = Inside {
         own: outer.as_slice(),

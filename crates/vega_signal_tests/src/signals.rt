@@ -3,7 +3,7 @@
 // has one, and its transforms: an expression alone is a filter, one under a name a formula, `extent F S` the extent of F as the signal S,
 // `bins F S` the bins of F over the signal S as `b` and `c`, and `look N` a lookup of `a` in the list N, whose rows have the same `k`. Behind
 // ` -> ` stand the values, which were found apart.
-ghost use Rattle.std.specs.Prelude.{◌≡◌, All, IfOk, length, unwrap_or, []};
+ghost use Rattle.std.specs.Prelude.{◌≡◌, All, IfOk, length, unwrap_or};
 ghost use Rattle.vega_spec.specs.declared.spec.Group.{out-Group};
 ghost use Rattle.vega_lists.specs.Held.{AreSources};
 ghost use Rattle.vega_signals.specs.Signals.{data_of};
@@ -80,37 +80,37 @@ fn sources(alloc: Global) -> Result<Seq<Named>, OutOfMemory>
 
 // Why a line has no answer.
 #[derive(Drop)]
-pub(crate) enum Stop {
+pub(crate) enum TestStop {
     Shape,
     Overflow,
     Memory,
 }
 
-impl From<OutOfMemory> for Stop {
-    fn from(_: OutOfMemory) -> Stop {
-        Stop::Memory
+impl From<OutOfMemory> for TestStop {
+    fn from(_: OutOfMemory) -> TestStop {
+        TestStop::Memory
     }
 }
 
-impl From<EvalError> for Stop {
-    fn from(e: EvalError) -> Stop {
+impl From<EvalError> for TestStop {
+    fn from(e: EvalError) -> TestStop {
         match e {
-            EvalError::Overflow => Stop::Overflow,
-            EvalError::Memory => Stop::Memory,
+            EvalError::Overflow => TestStop::Overflow,
+            EvalError::Memory => TestStop::Memory,
         }
     }
 }
 
-impl From<ExprError> for Stop {
-    fn from(e: ExprError) -> Stop {
+impl From<ExprError> for TestStop {
+    fn from(e: ExprError) -> TestStop {
         match e {
-            ExprError::Shape => Stop::Shape,
-            ExprError::Memory => Stop::Memory,
+            ExprError::Shape => TestStop::Shape,
+            ExprError::Memory => TestStop::Memory,
         }
     }
 }
 
-fn expression(alloc: Global, text: &str) -> Result<Expr, Stop> {
+fn expression(alloc: Global, text: &str) -> Result<Expr, TestStop> {
     Ok(read(alloc, text)?)
 }
 
@@ -135,20 +135,20 @@ fn lookup_in(alloc: Global, from: &str) -> Result<Transform, OutOfMemory>
     }))
 }
 
-fn extent_of(alloc: Global, words: &str) -> Result<Transform, Stop>
+fn extent_of(alloc: Global, words: &str) -> Result<Transform, TestStop>
     ensures { IfOk result IsPlain }
 {
-    let (field, signal) = words.split_once(' ').ok_or(Stop::Shape)?;
+    let (field, signal) = words.split_once(' ').ok_or(TestStop::Shape)?;
     Ok(Transform::Extent(Extent {
         field: Text::of(alloc, field)?,
         signal: Text::of(alloc, signal)?,
     }))
 }
 
-fn bins_of(alloc: Global, words: &str) -> Result<Transform, Stop>
+fn bins_of(alloc: Global, words: &str) -> Result<Transform, TestStop>
     ensures { IfOk result IsPlain }
 {
-    let (field, signal) = words.split_once(' ').ok_or(Stop::Shape)?;
+    let (field, signal) = words.split_once(' ').ok_or(TestStop::Shape)?;
     Ok(Transform::Bin(Bin {
         field: Text::of(alloc, field)?,
         extent: BinExtent::Signal(Text::of(alloc, signal)?),
@@ -158,7 +158,7 @@ fn bins_of(alloc: Global, words: &str) -> Result<Transform, Stop>
     }))
 }
 
-fn formula_of(alloc: Global, name: &str, text: &str) -> Result<Transform, Stop>
+fn formula_of(alloc: Global, name: &str, text: &str) -> Result<Transform, TestStop>
     ensures { IfOk result IsPlain }
 {
     Ok(Transform::Formula(Formula {
@@ -167,7 +167,7 @@ fn formula_of(alloc: Global, name: &str, text: &str) -> Result<Transform, Stop>
     }))
 }
 
-fn filter_of(alloc: Global, text: &str) -> Result<Transform, Stop>
+fn filter_of(alloc: Global, text: &str) -> Result<Transform, TestStop>
     ensures { IfOk result IsPlain }
 {
     Ok(Transform::Filter(Filter {
@@ -175,7 +175,7 @@ fn filter_of(alloc: Global, text: &str) -> Result<Transform, Stop>
     }))
 }
 
-fn transform_of(alloc: Global, step: &str) -> Result<Transform, Stop>
+fn transform_of(alloc: Global, step: &str) -> Result<Transform, TestStop>
     ensures { IfOk result IsPlain }
 {
     if let Some(from) = step.strip_prefix("look ") {
@@ -193,7 +193,7 @@ fn transform_of(alloc: Global, step: &str) -> Result<Transform, Stop>
     }
 }
 
-fn transforms_of(alloc: Global, steps: &str) -> Result<Seq<Transform>, Stop>
+fn transforms_of(alloc: Global, steps: &str) -> Result<Seq<Transform>, TestStop>
     ensures { IfOk result (All IsPlain) }
 {
     let mut transforms = Seq::new(alloc);
@@ -206,7 +206,7 @@ fn transforms_of(alloc: Global, steps: &str) -> Result<Seq<Transform>, Stop>
     Ok(transforms)
 }
 
-fn set_of(alloc: Global, words: &str) -> Result<DataSet, Stop>
+fn set_of(alloc: Global, words: &str) -> Result<DataSet, TestStop>
     ensures { IfOk result IsPlainSet }
 {
     let (head, steps) = words.split_once(": ").unwrap_or((words, ""));
@@ -225,7 +225,7 @@ fn set_of(alloc: Global, words: &str) -> Result<DataSet, Stop>
     })
 }
 
-pub(crate) fn sets_of(alloc: Global, line: &str) -> Result<Seq<DataSet>, Stop>
+pub(crate) fn sets_of(alloc: Global, line: &str) -> Result<Seq<DataSet>, TestStop>
     ensures { IfOk result (All IsPlainSet) }
 {
     let mut sets = Seq::new(alloc);
@@ -254,15 +254,15 @@ fn push_signal(
     words: &str,
     signals: &mut Seq<Signal>,
     params: &mut Seq<(Text, Cell)>,
-) -> Result<(), Stop> {
+) -> Result<(), TestStop> {
     if let Some((name, text)) = words.split_once(" = ") {
         signals.push(signal_of(alloc, name, Some(expression(alloc, text)?))?)?;
         return Ok(());
     }
-    let (name, text) = words.split_once(": ").ok_or(Stop::Shape)?;
+    let (name, text) = words.split_once(": ").ok_or(TestStop::Shape)?;
     signals.push(signal_of(alloc, name, None)?)?;
-    let number = text.parse::<i32>().map_err(|_| Stop::Shape)?;
-    let number = Num::of_millionths(i128::from(number) * 1_000_000).ok_or(Stop::Shape)?;
+    let number = text.parse::<i32>().map_err(|_| TestStop::Shape)?;
+    let number = Num::of_millionths(i128::from(number) * 1_000_000).ok_or(TestStop::Shape)?;
     params.push((Text::of(alloc, name)?, Cell::Number(number)))?;
     Ok(())
 }
@@ -271,7 +271,7 @@ pub(crate) fn signals_of(
     alloc: Global,
     words: &str,
     params: &mut Seq<(Text, Cell)>,
-) -> Result<Seq<Signal>, Stop> {
+) -> Result<Seq<Signal>, TestStop> {
     let mut signals = Seq::new(alloc);
     if words.is_empty() {
         return Ok(signals);
@@ -310,7 +310,7 @@ fn shown(alloc: Global, values: &[(Text, Cell)]) -> Result<Text, OutOfMemory> {
 }
 
 #[tactic(auto, using(crate::proofs::TestSources::plain_kept, crate::proofs::TestSources::plain_folds))]
-fn answered(alloc: Global, line: &str) -> Result<Text, Stop> {
+fn answered(alloc: Global, line: &str) -> Result<Text, TestStop> {
     let sources = sources(alloc)?;
     let (signals, sets) = line.split_once("| ").unwrap_or((line, ""));
     let mut params = Seq::new(alloc);
@@ -326,12 +326,12 @@ fn answered(alloc: Global, line: &str) -> Result<Text, Stop> {
     Ok(shown(alloc, values.as_slice())?)
 }
 
-pub(crate) fn word_of(alloc: Global, answer: Result<Text, Stop>) -> Result<Text, OutOfMemory> {
+pub(crate) fn word_of(alloc: Global, answer: Result<Text, TestStop>) -> Result<Text, OutOfMemory> {
     match answer {
         Ok(values) => Ok(values),
-        Err(Stop::Shape) => Text::of(alloc, " unread"),
-        Err(Stop::Overflow) => Text::of(alloc, " overflow"),
-        Err(Stop::Memory) => Err(OutOfMemory),
+        Err(TestStop::Shape) => Text::of(alloc, " unread"),
+        Err(TestStop::Overflow) => Text::of(alloc, " overflow"),
+        Err(TestStop::Memory) => Err(OutOfMemory),
     }
 }
 

@@ -1,5 +1,5 @@
 -- The sources and the parameters of a specification, by their names.
-use Rattle.std.specs.Prelude.{◌≡◌, refl, ℕ, Option, Some, None, List, [], ◌∷◌, ◌++◌, map, flat_map, unwrap_or, is_some, codes, if◌then◌else◌}
+use Rattle.std.specs.Prelude.{ℕ, List, [], ◌∷◌, ◌++◌, map, flat_map, unwrap_or, is_some, if◌then◌else◌}
 use Rattle.vega_spec.specs.declared.data.DataSet.{DataSet}
 use Rattle.vega_spec.specs.declared.signals.Signal.{Signal}
 use Rattle.vega_spec.specs.declared.names.Parameter.{Parameter}

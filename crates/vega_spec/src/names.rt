@@ -1,5 +1,5 @@
 // The sources and the parameters of a specification.
-ghost use Rattle.std.specs.Prelude.{◌≡◌, ◌++◌, map, flat_map, unwrap_or, [], IfOk, OnOk};
+ghost use Rattle.std.specs.Prelude.{◌≡◌, ◌++◌, map, flat_map, IfOk, OnOk};
 ghost use Rattle.vega_spec.specs.Names.{kind_of, parameter_of, parameters_of, own_source, own_sources, sources_in, mark_sources, sources_of};
 
 use crate::{DataSet, Group, Signal, VgMark, VgSpec};

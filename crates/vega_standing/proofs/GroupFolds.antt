@@ -7,7 +7,7 @@ use Rattle.std.proofs.lemmas.List.Elements.{All-nil}
 use Rattle.json_exact.specs.declared.json.Json.{Json, out-Json}
 use Rattle.json_exact.specs.declared.json.Json.TheOpen as level
 use Rattle.json_exact.specs.declared.json.Member.{Member}
-use Rattle.json_exact.specs.declared.spec_error.SpecKind.TheVariants.{Unsupported}
+use Rattle.spec_schema.specs.declared.spec_error.SpecKind.TheVariants.{Unsupported}
 use Rattle.json_exact.specs.Inside.{text_in, items_in, members_in}
 use Rattle.json_exact.specs.Path.{member_value}
 use Rattle.spec_schema.specs.declared.layout.Rule.{Rule}

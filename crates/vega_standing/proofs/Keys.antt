@@ -4,8 +4,8 @@ use Rattle.std.specs.Prelude.{Option, Some, None, Bool, true, false, not, is_non
 use Rattle.std.specs.Option.{option_map_or}
 use Rattle.std.specs.List.{enumerate_from}
 use Rattle.json_exact.specs.declared.json.Json.{Json, out-Json}
-use Rattle.json_exact.specs.declared.spec_error.SpecKind.{SpecKind}
-use Rattle.json_exact.specs.declared.spec_error.SpecKind.TheVariants.{Wrong, Unsupported}
+use Rattle.spec_schema.specs.declared.spec_error.SpecKind.{SpecKind}
+use Rattle.spec_schema.specs.declared.spec_error.SpecKind.TheVariants.{Wrong, Unsupported}
 use Rattle.json_exact.specs.Inside.{text_in}
 use Rattle.expr_syntax.specs.declared.expr.Expr.{Expr}
 use Rattle.expr_syntax.specs.Expressions.{has_domain_length}

@@ -53,7 +53,7 @@ use Rattle.vega_scales.specs.Scales as scaling
 use Rattle.vega_guides.specs.Shown.{IsCount, IsAxis}
 use Rattle.vega_copies.specs.Outlines.{Object, Marks, NoMarks, AMark, AGroup, numbered, count_marks, count_groups, object_here}
 use Rattle.vega_copies.specs.inner.Kept.{KeepsObject, KeepsMarks}
-use Rattle.vega_copies.specs.inner.Outlined.{is_group, is_group_type, before_of, marks_of, group_object, plain_of}
+use Rattle.vega_copies.specs.inner.Outlined.{is_group_type, before_of, marks_of, group_object}
 use Rattle.vega_copies.specs.inner.Outlined as outlined
 use Rattle.vega_copies.proofs.OutlineLemmas.{plain_first, group_first}
 use Rattle.vega_standing.proofs.Trees.{Each, Inner, of_each, list_of, object_of}

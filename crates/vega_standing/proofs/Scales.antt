@@ -49,7 +49,7 @@ use Rattle.vega_building.specs.Names.{needed_scale_kind}
 use Rattle.vega_building.specs.Domains.{domain_in}
 use Rattle.vega_building.specs.Scales.{range_in, range_named, needed_range, scale_of}
 use Rattle.scale_kit.specs.Scale.{IsPadding, IsRange, IsPixel}
-use Rattle.vega_scales.specs.Scales.{is_ramp, has_ends, has_entries, fits_range, given_ends, is_discrete, is_ordinal, is_domain_built, KeepsBounds}
+use Rattle.vega_scales.specs.Scales.{is_ramp, has_ends, has_entries, fits_range, given_ends, is_domain_built, KeepsBounds}
 use Rattle.vega_scales.specs.Scales as scaling
 use Rattle.vega_standing.specs.OwnNames.{AreOwn}
 use Rattle.vega_standing.proofs.Stands.{Stands, StandsObject, formed, list_stands}

@@ -14,7 +14,7 @@ use Rattle.spec_schema.specs.declared.layout.Layout.{Layout}
 use Rattle.spec_schema.specs.declared.layout.Rule.{Rule}
 use Rattle.spec_schema.specs.Layouts.{shape_in}
 use Rattle.spec_schema.specs.Forms.{taken_form, items_shape, layout_of}
-use Rattle.json_exact.specs.declared.spec_error.SpecKind.TheVariants.{Missing}
+use Rattle.spec_schema.specs.declared.spec_error.SpecKind.TheVariants.{Missing}
 use Rattle.spec_schema.specs.Faults.{Judged, faults_in, unless_wrong, list_faults, object_faults, item_faults, member_faults, faults_by}
 use Rattle.spec_schema.specs.Faults.{below, here, missing_faults, missing_fault, is_missing, judged_members, members_of}
 use Rattle.spec_walk.specs.Walk.{Seen, seen_in, seen_members, where_formed, list_parts, object_parts, member_parts}

@@ -35,7 +35,7 @@ use Rattle.vega_schema.specs.Channels.{channel_members, value, words_value}
 use Rattle.vega_schema.specs.Sizes.{size_signal, group_encode, group_channels, size_value}
 use Rattle.vega_parts.specs.declared.part.Used.TheVariants as for_
 use Rattle.vega_parts.specs.declared.part.Part.TheVariants as part
-use Rattle.json_exact.specs.declared.spec_error.SpecKind.TheVariants.{Wrong}
+use Rattle.spec_schema.specs.declared.spec_error.SpecKind.TheVariants.{Wrong}
 use Rattle.vega_parts.specs.Trails.{Trail, noted, child}
 use Rattle.vega_parts.specs.Members.{named, member_at, items_at, says_text}
 use Rattle.vega_parts.specs.Names.{used_member}

@@ -1,5 +1,5 @@
 -- What holds of specifications that are read.
-use Rattle.std.specs.Prelude.{◌≡◌, ◌≤◌, ℕ, List, length, true, IsTrue, Ok, ◌+◌, ◌^◌, ◌<◌, None}
+use Rattle.std.specs.Prelude.{◌≡◌, ◌≤◌, ℕ, List, length, IsTrue, Ok, ◌+◌, ◌^◌, ◌<◌, None}
 use Rattle.json_exact.specs.declared.json.Json.{Json}
 use Rattle.json_exact.specs.Reading.{Reads}
 use Rattle.vega_spec.specs.declared.spec.VgSpec.{VgSpec}

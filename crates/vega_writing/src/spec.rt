@@ -1,5 +1,5 @@
 // The trees of marks, groups and whole specifications.
-ghost use Rattle.std.specs.Prelude.{◌≡◌, ◌∷◌, IfOk, map, option_map};
+ghost use Rattle.std.specs.Prelude.{◌≡◌, IfOk, map};
 ghost use Rattle.vega_writing.specs.Spec.{autosize_tree, size_tree, group_slots, mark_tree, own_slots, tree_of};
 ghost use Rattle.json_exact.specs.declared.json.Json.TheVariants as json;
 

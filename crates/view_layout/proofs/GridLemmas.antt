@@ -9,7 +9,7 @@ use native.Mathlib.Numerals.{unary_clauses}
 use Rattle.fixed_num.specs.Number.{limit}
 use Rattle.view_layout.specs.declared.spans.Span.{Span}
 use Rattle.view_layout.specs.Lengths.{plus}
-use Rattle.view_layout.specs.Grid.{larger, greatest, every, groups_within, groups_of, whole, positions, extent}
+use Rattle.view_layout.specs.Grid.{larger, greatest, every, groups_within, groups_of, whole, positions}
 
 -- every n-th from the one at k on begins behind the first k
 pub every-drop : {X : Type 0} (n k : ℕ) (xs : List X) → every n k xs ≡ every n 0 (drop k xs)

@@ -1,5 +1,5 @@
 -- Plans and cells, one form after another.
-use Rattle.std.proofs.Common.{◌≡◌, ℕ, ◌+◌, List, [], ◌∷◌, ◌++◌, length, refl, sym, ap, ◌∙◌, arith, append-nil, inl, inr, subst}
+use Rattle.std.proofs.Common.{◌≡◌, ℕ, List, [], ◌∷◌, ◌++◌, length, sym, ap, ◌∙◌, arith, append-nil, inl, inr, subst}
 use Rattle.std.specs.Prelude.{map, max, ℤ, Bool, ◌⊎◌, Result, IfOk}
 use Rattle.view_layout.specs.declared.spans.Span.{Span}
 use Rattle.view_layout.specs.declared.boxes.BoxTree.{BoxTree, fold-roll-BoxTree}

@@ -1,6 +1,5 @@
 -- What the columns and rows of a grid take up, and where its cells stand.
-use Rattle.std.specs.Prelude.{◌≡◌, refl, ℕ, zero, suc, ◌+◌, ◌-◌, ◌*◌, min, max, List, [], ◌∷◌, ◌++◌, take, drop, length, map, flat_map}
-use Rattle.std.specs.Prelude.{fold}
+use Rattle.std.specs.Prelude.{◌≡◌, refl, ℕ, zero, suc, ◌+◌, ◌-◌, ◌*◌, min, max, List, [], ◌∷◌, take, drop, length, map, flat_map, fold}
 use Rattle.std.specs.List.{range_with_len, sum_by}
 use Rattle.fixed_num.specs.Number.{limit}
 use Rattle.view_layout.specs.declared.spans.Span.{Span}

@@ -1,5 +1,5 @@
 -- Lengths: whole counts of millionths of a pixel, from 0.
-use Rattle.std.specs.Prelude.{◌≡◌, refl, ℕ, ◌+◌, ◌-◌, ◌*◌, ◌^◌, min, ℤ, pos, negsuc, Bool, true, false, if◌then◌else◌}
+use Rattle.std.specs.Prelude.{◌≡◌, refl, ℕ, ◌+◌, ◌-◌, ◌*◌, min, ℤ, pos, negsuc, Bool, true, if◌then◌else◌}
 use Rattle.fixed_num.specs.Number.{limit, million}
 
 -- a sum of lengths, which is cut at 10^15 pixels

@@ -1,5 +1,5 @@
 // What columns and rows take up, and where their plots begin.
-ghost use Rattle.std.specs.Prelude.{◌≡◌, ◌<◌, [], ◌∷◌, ◌++◌, take, drop, map, IfOk, OnOk};
+ghost use Rattle.std.specs.Prelude.{◌≡◌, ◌<◌, [], take, drop, IfOk};
 ghost use Rattle.view_layout.specs.Grid.{larger, greatest, whole, every, columns_of, rows_of, positions, extent};
 
 use crate::lengths::plus;

@@ -1,6 +1,5 @@
 // What names stand for.
 ghost use Rattle.std.specs.Prelude.{◌≡◌};
-ghost use Rattle.vl_spec.specs.declared.params.SelectType.TheVariants as select_type;
 ghost use Rattle.vl_building.specs.Names.{named_at, named_in, order_named, offset_named, format_kind_named, parse_kind_named, mark_type_named, align_named};
 ghost use Rattle.vl_building.specs.Names.{baseline_named, interpolate_named, select_type_named, select_event_named, field_type_named, scheme_named};
 ghost use Rattle.vl_building.specs.Names.{sharing_named, side_named, autosize_named};

@@ -11,7 +11,8 @@ use Rattle.vl_spec.specs.declared.definitions.Definition.{Definition}
 use Rattle.vl_compose.specs.Definitions.{channel_here, conditions_here, condition_here, definitions_of}
 use Rattle.vl_compose.specs.inner.Conditioned.{of_condition, of_conditions}
 
-pub condition_opens : (c : Condition) → fold-Condition (List Definition) (List Definition) (List Definition) conditions_here channel_here condition_here c ≡ of_condition c
+pub condition_opens : (c : Condition) →
+    fold-Condition (List Definition) (List Definition) (List Definition) conditions_here channel_here condition_here c ≡ of_condition c
 condition_opens c = fold_out-Condition (List Definition) (List Definition) (List Definition) conditions_here channel_here condition_here c
 
 each_opens : (cs : List Condition) →
@@ -26,7 +27,8 @@ conditions_at (level.One c) = of_condition c
 conditions_at (level.Several cs) = flat_map of_condition cs
 
 conditions_open : (k : Conditions) → of_conditions k ≡ conditions_at (out-Conditions k)
-conditions_open k = fold_out-Conditions (List Definition) (List Definition) (List Definition) conditions_here channel_here condition_here k ∙ by (out-Conditions k)
+conditions_open k =
+    fold_out-Conditions (List Definition) (List Definition) (List Definition) conditions_here channel_here condition_here k ∙ by (out-Conditions k)
   where
     by : (o : Conditions-F Conditions Channel Condition) →
         conditions_here (map-Conditions Conditions Channel Condition (List Definition) (List Definition) (List Definition) of_conditions definitions_of

@@ -161,7 +161,8 @@ none_before : {X : Type 0} (f : X → ℕ) (front back : List X) (x : X) → Apa
     list_any (λ m. eqb m (f x)) (map f front) ≡ false
 none_before f [] back x apart = refl
 none_before f (y ∷ front) back x apart =
-    let here = none_here (λ m. eqb m (f y)) (map f front) (map f back) (f x) (ap (list_any (λ m. eqb m (f y))) (sym (map-append f front (x ∷ back))) ∙ apart.0) in
+    let here = none_here (λ m. eqb m (f y)) (map f front) (map f back) (f x)
+    (ap (list_any (λ m. eqb m (f y))) (sym (map-append f front (x ∷ back))) ∙ apart.0) in
     (λ i. (same_either_way (f y) (f x) ∙ here) i || none_before f front back x apart.1 i)
 
 none_after : {X : Type 0} (f : X → ℕ) (front back : List X) (x : X) → Apart (map f (front ++ x ∷ back)) →

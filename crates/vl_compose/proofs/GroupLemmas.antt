@@ -1,5 +1,6 @@
 -- Rows of numbers by homes, and groups out of them.
-use Rattle.std.proofs.Common.{◌≡◌, ℕ, zero, suc, ◌+◌, ◌<◌, Bool, true, false, List, [], ◌∷◌, ◌++◌, map, cond, drop, eqb, get_or, length, take, refl, sym, ap, ◌∙◌, arith}
+use Rattle.std.proofs.Common.{◌≡◌, ℕ, zero, suc, ◌+◌, ◌<◌, Bool, true, false, List, [], ◌∷◌, ◌++◌, map, cond, drop, eqb, get_or, length}
+use Rattle.std.proofs.Common.{take, refl, sym, ap, ◌∙◌, arith}
 use Rattle.std.specs.Prelude.{filter, slice_set}
 use Rattle.std.proofs.lemmas.Bool.{eqb-true, eqb-false}
 use Rattle.std.proofs.lemmas.List.{append-nil, append_assoc, drop_more, get_or-set_same, get_or-set_other, map-append, take_more}
@@ -33,7 +34,8 @@ pub row_with : (rows : List (List ℕ)) (home number h : ℕ) (d : List ℕ) →
     row_at (slice_set rows home (get_or rows home d ++ number ∷ [])) h ≡ (cond (eqb home h) (row_at rows h ++ number ∷ []) (row_at rows h))
 row_with rows home number h d within = by (eqb home h) refl
   where
-    by : (t : Bool) → eqb home h ≡ t → row_at (slice_set rows home (get_or rows home d ++ number ∷ [])) h ≡ cond t (row_at rows h ++ number ∷ []) (row_at rows h)
+    by : (t : Bool) → eqb home h ≡ t →
+        row_at (slice_set rows home (get_or rows home d ++ number ∷ [])) h ≡ cond t (row_at rows h ++ number ∷ []) (row_at rows h)
     by true e =
         ap (row_at (slice_set rows home (get_or rows home d ++ number ∷ []))) (sym (eqb-true home h e))
         ∙ row_got (slice_set rows home (get_or rows home d ++ number ∷ [])) home
@@ -91,7 +93,8 @@ pub one_group : (code : ℕ) (all : List Homed) (n : ℕ) (x : Homed) (row : Lis
     row ≡ sharing_at all x.home → new ≡ old ++ cond (is_first x.number row) (record { channel = code; views = row } ∷ []) [] →
     old ++ groups_left code all (drop n all) ≡ whole → new ++ groups_left code all (drop (n + 1) all) ≡ whole
 one_group code all n x row old new whole within is row_is added so_far =
-    ap (λ gs. gs ++ groups_left code all (drop (n + 1) all)) (added ∙ ap (λ row. old ++ cond (is_first x.number row) (record { channel = code; views = row } ∷ []) []) row_is)
+    ap (λ gs. gs ++ groups_left code all (drop (n + 1) all))
+    (added ∙ ap (λ row. old ++ cond (is_first x.number row) (record { channel = code; views = row } ∷ []) []) row_is)
     ∙ append_assoc old (cond (leads all x) (group_at code all x ∷ []) []) (groups_left code all (drop (n + 1) all))
     ∙ ap (λ gs. old ++ gs) (sym (led (leads all x) code all x (filter (leads all) (drop (n + 1) all))))
     ∙ ap (λ (y : Homed). old ++ groups_left code all (y ∷ drop (n + 1) all)) is

@@ -32,7 +32,8 @@ opened_layer : Layer → Opened
 opened_layer = fold-Layer Opened Opened Opened Opened Inside kind_here faceted_here joined_here layer_here view_here
 
 by_level : (o : ViewKind-F ViewKind Faceted Joined Layer View) →
-    kind_here (map-ViewKind ViewKind Faceted Joined Layer View Opened Opened Opened Opened Inside opened_kind opened_faceted opened_joined opened_layer rounds_in o)
+    kind_here (map-ViewKind ViewKind Faceted Joined Layer View Opened Opened Opened Opened
+    Inside opened_kind opened_faceted opened_joined opened_layer rounds_in o)
     ≡ record { kind = kind_at o; inside = inside_at o }
 unfolding opened_kind opened_faceted opened_joined opened_layer
 by_level (level.Unit u) = refl

@@ -1,5 +1,6 @@
 -- What stands round a unit, view by view.
-use Rattle.std.proofs.Common.{◌≡◌, ℕ, ◌+◌, ◌<◌, Bool, true, false, Option, Some, None, List, [], ◌∷◌, ◌++◌, cond, drop, get_or, length, unwrap_or, refl, sym, ap, ◌∙◌}
+use Rattle.std.proofs.Common.{◌≡◌, ℕ, ◌+◌, ◌<◌, Bool, true, false, Option, Some, None, List, [], ◌∷◌, ◌++◌, cond, drop, get_or, length}
+use Rattle.std.proofs.Common.{unwrap_or, refl, sym, ap, ◌∙◌}
 use Rattle.std.specs.Option.{option_or}
 use Rattle.std.specs.List.{cons_option, filter_map, last_or}
 use Rattle.std.proofs.lemmas.List.{append_assoc}
@@ -21,7 +22,8 @@ abbrev pub source_from : Option (List ℕ) → Round → Option (List ℕ)
 source_from source round = last_or source (filter_map (λ (v : ViewAt). v.data_) round)
 
 pub source_more : (round : List ViewHere) (n : ℕ) (here : ViewHere) (old new whole : Option (List ℕ)) → n < length round → here ≡ get_or round n here →
-    new ≡ option_or (view_shown here).data_ old → source_from old (drop n (round_shown round)) ≡ whole → source_from new (drop (n + 1) (round_shown round)) ≡ whole
+    new ≡ option_or (view_shown here).data_ old → source_from old (drop n (round_shown round)) ≡ whole →
+    source_from new (drop (n + 1) (round_shown round)) ≡ whole
 source_more round n here old new whole within is added so_far =
     ap (λ o. source_from o (drop (n + 1) (round_shown round))) added
     ∙ sym (either (view_shown here).data_ old (filter_map (λ (v : ViewAt). v.data_) (drop (n + 1) (round_shown round))))

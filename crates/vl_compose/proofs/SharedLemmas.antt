@@ -1,5 +1,6 @@
 -- Each unit shares each of its scales once.
-use Rattle.std.proofs.Common.{◌≡◌, ℕ, zero, suc, ◌+◌, ◌<◌, Bool, true, false, ◌&&◌, ◌||◌, Some, List, [], ◌∷◌, ◌++◌, map, cond, eqb, refl, sym, ap, ◌∙◌, subst, arith}
+use Rattle.std.proofs.Common.{◌≡◌, ℕ, zero, suc, ◌+◌, ◌<◌, Bool, true, false, ◌&&◌, ◌||◌, Some, List, [], ◌∷◌, ◌++◌, map, cond, eqb, refl}
+use Rattle.std.proofs.Common.{sym, ap, ◌∙◌, subst, arith}
 use Rattle.std.specs.Prelude.{filter, flat_map, slice_get}
 use Rattle.std.specs.Option.{option_map_or}
 use Rattle.std.specs.List.{enumerate_from, list_any}
@@ -88,9 +89,11 @@ shared_once : (code : ℕ) (front back : List Homed) (h : Homed) → Apart (map 
     filter (is_shared_by code h.number) (groups_among code (front ++ h ∷ back)) ≡ group_at code (front ++ h ∷ back) h ∷ []
 shared_once code front back h apart =
     let all : List Homed = front ++ h ∷ back in
-    let found : Leads (λ (h : Homed). h.number) (λ (h : Homed). h.home) all h = one_leads (λ (h : Homed). h.number) (λ (h : Homed). h.home) front back h apart in
+    let found : Leads (λ (h : Homed). h.number) (λ (h : Homed). h.home) all h =
+    one_leads (λ (h : Homed). h.number) (λ (h : Homed). h.home) front back h apart in
     filter_behind_map (group_at code all) (is_shared_by code h.number) (filter (leads all) all)
-    ∙ (λ i. map (group_at code all) (filter (λ (y : Homed). eq-eqb code code refl i && list_any (λ m. eqb m h.number) (sharing_at all y.home)) (filter (leads all) all)))
+    ∙ (λ i. map (group_at code all)
+    (filter (λ (y : Homed). eq-eqb code code refl i && list_any (λ m. eqb m h.number) (sharing_at all y.home)) (filter (leads all) all)))
     ∙ ap (map (group_at code all)) found.alone
     ∙ (λ i. record { channel = code; views = sharing_at all (found.home_is i) } ∷ [])
 
@@ -109,7 +112,8 @@ none_among : (code number : ℕ) (units : List UnitAt) (channels : List ℕ) →
 none_among code number units [] none = refl
 none_among code number units (c ∷ cs) none =
     filter-append (is_shared_by code number) (shared_by units c) (flat_map (shared_by units) cs)
-    ∙ (λ i. none_of_another code c number (homed_for c units) (filter (leads (homed_for c units)) (homed_for c units)) (or_left (eqb c code) (list_any (λ m. eqb m code) cs) none) i
+    ∙ (λ i. none_of_another code c number (homed_for c units) (filter (leads (homed_for c units)) (homed_for c units))
+    (or_left (eqb c code) (list_any (λ m. eqb m code) cs) none) i
     ++ none_among code number units cs (or_right (eqb c code) (list_any (λ m. eqb m code) cs) none) i)
 
 one_among : (code number : ℕ) (units : List UnitAt) (channels : List ℕ) → Apart channels → list_any (λ m. eqb m code) channels ≡ true →
@@ -120,7 +124,8 @@ one_among code number units (c ∷ cs) apart among =
     ∙ here (eqb c code) refl (one_among code number units cs apart.1)
   where
     here : (t : Bool) → eqb c code ≡ t →
-        (list_any (λ m. eqb m code) cs ≡ true → filter (is_shared_by code number) (flat_map (shared_by units) cs) ≡ filter (is_shared_by code number) (shared_by units code)) →
+        (list_any (λ m. eqb m code) cs ≡ true →
+        filter (is_shared_by code number) (flat_map (shared_by units) cs) ≡ filter (is_shared_by code number) (shared_by units code)) →
         filter (is_shared_by code number) (shared_by units c) ++ filter (is_shared_by code number) (flat_map (shared_by units) cs)
         ≡ filter (is_shared_by code number) (shared_by units code)
     here true e next =
@@ -157,7 +162,8 @@ channels_apart = (refl, (refl, (refl, (refl, (refl, (refl, tt))))))
 
 -- ---- the law
 
-of_its_channel : (code : ℕ) (units : List UnitAt) (unit : UnitAt) → Parts units unit → Apart (map (λ (u : UnitAt). u.number) units) → has_scale code unit ≡ true →
+of_its_channel : (code : ℕ) (units : List UnitAt) (unit : UnitAt) → Parts units unit →
+    Apart (map (λ (u : UnitAt). u.number) units) → has_scale code unit ≡ true →
     filter (is_shared_by code unit.number) (shared_by units code) ≡ group_at code (homed_for code units) (homed code unit) ∷ []
 of_its_channel code units unit parts apart has =
     let are : homed_for code units ≡ homed_for code parts.front ++ homed code unit ∷ homed_for code parts.back =

@@ -20,7 +20,8 @@ next_unit xs n x within is =
     drop_more (map unit_shown xs) n (unit_shown x) here
     ∙ (λ i. (at_place unit_shown xs n x ∙ ap unit_shown (sym is)) i ∷ drop (n + 1) (map unit_shown xs))
 
-pub view_more : (units : List UnitHere) (n : ℕ) (unit : UnitHere) (view : UnitView) (old new whole : List UnitView) → n < length units → unit ≡ get_or units n unit →
+pub view_more : (units : List UnitHere) (n : ℕ) (unit : UnitHere) (view : UnitView) (old new whole : List UnitView) →
+    n < length units → unit ≡ get_or units n unit →
     view ≡ unit_view (unit_shown unit) → new ≡ old ++ view ∷ [] → old ++ map unit_view (drop n (map unit_shown units)) ≡ whole →
     new ++ map unit_view (drop (n + 1) (map unit_shown units)) ≡ whole
 view_more units n unit view old new whole within is seen added so_far =

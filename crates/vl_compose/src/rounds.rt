@@ -4,7 +4,8 @@ ghost use Rattle.std.specs.Option.{option_map, option_or};
 ghost use Rattle.std.specs.Fmt.{decimal};
 ghost use Rattle.vl_spec.specs.declared.views.View.{out-View};
 ghost use Rattle.vl_compose.specs.Shown.{kind_of, round_shown, view_shown};
-ghost use Rattle.vl_compose.specs.Views.{joined_word, step_of, path_from, path_of, source_of, transforms_of, is_faceted, facets_of, parts_plots, first_number, plot_of};
+ghost use Rattle.vl_compose.specs.Views.{joined_word, step_of, path_from, path_of, source_of, transforms_of, is_faceted, facets_of};
+ghost use Rattle.vl_compose.specs.Views.{parts_plots, first_number, plot_of};
 
 use crate::here::ViewHere;
 use std::alloc::Global;

@@ -1,5 +1,5 @@
 // The units of a specification.
-ghost use Rattle.std.specs.Prelude.{◌≡◌, ◌+◌, ◌∷◌, ◌++◌, [], map, IfOk, OnOk};
+ghost use Rattle.std.specs.Prelude.{◌≡◌, ◌∷◌, ◌++◌, [], map, IfOk, OnOk};
 ghost use Rattle.vl_compose.specs.Rounds.{rounds_in, in_order};
 ghost use Rattle.vl_compose.specs.Shown.{kind_of, round_shown, unit_shown, view_shown};
 ghost use Rattle.vl_compose.specs.Units.{own_channels, channels_at, units_of};

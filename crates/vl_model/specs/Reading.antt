@@ -1,9 +1,9 @@
 -- What is read of a tree as a Vega-Lite specification.
 use Rattle.std.specs.Prelude.{ℕ, List, Option, Some, None, Result, Ok, Err}
 use Rattle.json_exact.specs.declared.json.Json.{Json}
-use Rattle.json_exact.specs.declared.spec_error.SpecKind.{SpecKind}
-use Rattle.json_exact.specs.declared.spec_error.SpecError.{SpecError}
-use Rattle.json_exact.specs.declared.spec_error.SpecError.TheVariants as error
+use Rattle.spec_schema.specs.declared.spec_error.SpecKind.{SpecKind}
+use Rattle.spec_schema.specs.declared.spec_error.SpecError.{SpecError}
+use Rattle.spec_schema.specs.declared.spec_error.SpecError.TheVariants as error
 use Rattle.spec_schema.specs.declared.fault.Fault.{Fault}
 use Rattle.vl_spec.specs.declared.spec.VlSpec.{VlSpec}
 use Rattle.vl_building.specs.Spec.{spec_of}

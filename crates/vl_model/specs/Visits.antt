@@ -2,7 +2,7 @@
 use Rattle.std.specs.Prelude.{ℕ, Option, List, [], ◌∷◌, drop, map, reverse}
 use Rattle.std.specs.Option.{option_and_then, option_map_or}
 use Rattle.json_exact.specs.declared.json.Json.{Json, out-Json}
-use Rattle.json_exact.specs.declared.spec_error.SpecKind.{SpecKind}
+use Rattle.spec_schema.specs.declared.spec_error.SpecKind.{SpecKind}
 use Rattle.json_exact.specs.Inside.{text_in}
 use Rattle.spec_walk.specs.Walk.{seen_in}
 use Rattle.vl_schema.specs.Schema.{vl_schema}

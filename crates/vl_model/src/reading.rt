@@ -1,11 +1,12 @@
 //! Reading a specification.
-ghost use Rattle.std.specs.Prelude.{◌≡◌, IfOk};
+ghost use Rattle.std.specs.Prelude.{IfOk};
 ghost use Rattle.text_kit.specs.Answer.{GivesAs};
 ghost use Rattle.vl_rules.specs.Kept.{IsKept};
 ghost use Rattle.vl_model.specs.Reading.{read_of, cause};
 
 use crate::faults::fault_beside;
-use json_exact::{Json, SpecError};
+use json_exact::Json;
+use spec_schema::SpecError;
 use std::alloc::Global;
 use vl_building::spec_of;
 use vl_rules::kept_where_faultless;

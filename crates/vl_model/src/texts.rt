@@ -8,7 +8,7 @@ ghost use Rattle.vl_model.specs.Texts.{wrong_unless, unsupported_if, plain_fault
 use expr_reading::expression_of;
 use expr_syntax::has_domain_length;
 use guide_text::number_format_of;
-use json_exact::SpecKind;
+use spec_schema::SpecKind;
 use std::alloc::Global;
 use text_kit::OutOfMemory;
 use time_calc::is_pattern;

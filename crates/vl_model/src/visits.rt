@@ -3,7 +3,8 @@ ghost use Rattle.std.specs.Prelude.{◌≡◌, ◌++◌, map, reverse, IfOk, OnO
 ghost use Rattle.vl_model.specs.Visits.{place_of, fault_in, faults_by, faults_seen, text_faults};
 
 use crate::texts::text_fault;
-use json_exact::{Json, SpecKind};
+use json_exact::Json;
+use spec_schema::SpecKind;
 use spec_walk::{Visitor, walk};
 use std::alloc::Global;
 use text_kit::{OutOfMemory, Seq};

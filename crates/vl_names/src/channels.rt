@@ -15,7 +15,7 @@ ghost use Rattle.vl_trails.specs.Trails.{to_item, to_member};
 
 use crate::filters::{judge_filter, judge_param_test};
 use crate::known::{ParamNames, knows_param};
-use json_exact::SpecKind;
+use spec_schema::SpecKind;
 use std::alloc::Global;
 use text_kit::{OutOfMemory, Text};
 use vl_spec::{

@@ -9,7 +9,7 @@ ghost use Rattle.vl_trails.specs.Trails.{to_item, to_member};
 
 use crate::known::{ParamNames, knows, knows_param};
 use expr_syntax::Expr;
-use json_exact::SpecKind;
+use spec_schema::SpecKind;
 use std::alloc::Global;
 use text_kit::OutOfMemory;
 use vl_spec::{Filter, ParamTest};

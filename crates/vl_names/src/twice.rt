@@ -8,8 +8,8 @@ ghost use Rattle.vl_trails.specs.Faults.{earliest_placed, wrong_if};
 
 use crate::given::Given;
 use crate::index::name_numbers;
-use json_exact::{Json, SpecKind};
-use spec_schema::Fault;
+use json_exact::Json;
+use spec_schema::{Fault, SpecKind};
 use std::alloc::Global;
 use std::collections::BTreeMap;
 use text_kit::{OutOfMemory, Seq};

@@ -1,5 +1,6 @@
 -- Channels that a mark has a use for.
-use Rattle.std.proofs.Common.{◌≡◌, ℕ, ◌==◌, Bool, true, false, ◌&&◌, Option, Some, None, List, [], ◌∷◌, cond, find, refl, ap, sym, ◌∙◌, append-nil, eqb-true, true≢false}
+use Rattle.std.proofs.Common.{◌≡◌, ℕ, ◌==◌, Bool, true, false, ◌&&◌, Option, Some, None, List, [], ◌∷◌, cond, find, refl, ap, sym, ◌∙◌}
+use Rattle.std.proofs.Common.{append-nil, eqb-true, true≢false}
 use Rattle.std.specs.Prelude.{filter}
 use Rattle.std.specs.Option.{option_and_then}
 use Rattle.vl_spec.specs.declared.channels.ChannelOf.{ChannelOf}

@@ -29,7 +29,17 @@ use Rattle.vl_normalize.proofs.ChannelLemmas.{filtered_twice, no_facet, alone, l
 pub of_view : (head : Head) (k : ViewKind) (around : List ChannelOf) → normal_view (view_of head k) around ≡ normal_kind k around head
 of_view head k around = ap (λ (f : Around View). f around)
     (fold-roll-View KindForm (Around Faceted) (Around Joined) (Around Layer) (Around View) kind_here faceted_here joined_here layer_here view_here
-    (record { name = head.name; title = head.title; data_ = head.data_; transform = head.transform; params = head.params; width = head.width; height = head.height; resolve = head.resolve; kind = k }))
+    (record {
+      name = head.name;
+      title = head.title;
+      data_ = head.data_;
+      transform = head.transform;
+      params = head.params;
+      width = head.width;
+      height = head.height;
+      resolve = head.resolve;
+      kind = k;
+    }))
 
 of_kind : (k : ViewKind-F ViewKind Faceted Joined Layer View) → normal_kind (roll-ViewKind k)
     ≡ kind_here (map-ViewKind ViewKind Faceted Joined Layer View KindForm (Around Faceted) (Around Joined) (Around Layer) (Around View)
@@ -38,18 +48,26 @@ of_kind k = fold-roll-ViewKind KindForm (Around Faceted) (Around Joined) (Around
 
 pub of_unit : (u : Unit) (around : List ChannelOf) (head : Head)
     → normal_kind (kind.Unit u) around head ≡ unit_form u.mark (with_around (channels_in u.encoding) around) head
-of_unit u around head = ap (λ (k : ViewKind). normal_kind k around head) (sym (kind.rolls-Unit u)) ∙ ap (λ (f : KindForm). f around head) (of_kind (level.Unit u))
+of_unit u around head = ap (λ (k : ViewKind). normal_kind k around head) (sym (kind.rolls-Unit u))
+    ∙ ap (λ (f : KindForm). f around head) (of_kind (level.Unit u))
 
-pub of_layered : (l : Layer) (around : List ChannelOf) (head : Head) → normal_kind (kind.Layer l) around head ≡ view_of head (kind.Layer (normal_layer l around))
-of_layered l around head = ap (λ (k : ViewKind). normal_kind k around head) (sym (kind.rolls-Layer l)) ∙ ap (λ (f : KindForm). f around head) (of_kind (level.Layer l))
+pub of_layered : (l : Layer) (around : List ChannelOf) (head : Head)
+    → normal_kind (kind.Layer l) around head ≡ view_of head (kind.Layer (normal_layer l around))
+of_layered l around head =
+    ap (λ (k : ViewKind). normal_kind k around head) (sym (kind.rolls-Layer l)) ∙ ap (λ (f : KindForm). f around head) (of_kind (level.Layer l))
 
-pub of_parted : (f : Faceted) (around : List ChannelOf) (head : Head) → normal_kind (kind.Facet f) around head ≡ view_of head (kind.Facet (normal_faceted f around))
-of_parted f around head = ap (λ (k : ViewKind). normal_kind k around head) (sym (kind.rolls-Facet f)) ∙ ap (λ (g : KindForm). g around head) (of_kind (level.Facet f))
+pub of_parted : (f : Faceted) (around : List ChannelOf) (head : Head)
+    → normal_kind (kind.Facet f) around head ≡ view_of head (kind.Facet (normal_faceted f around))
+of_parted f around head =
+    ap (λ (k : ViewKind). normal_kind k around head) (sym (kind.rolls-Facet f)) ∙ ap (λ (g : KindForm). g around head) (of_kind (level.Facet f))
 
-pub of_beside : (j : Joined) (around : List ChannelOf) (head : Head) → normal_kind (kind.Joined j) around head ≡ view_of head (kind.Joined (normal_joined j around))
-of_beside j around head = ap (λ (k : ViewKind). normal_kind k around head) (sym (kind.rolls-Joined j)) ∙ ap (λ (f : KindForm). f around head) (of_kind (level.Joined j))
+pub of_beside : (j : Joined) (around : List ChannelOf) (head : Head)
+    → normal_kind (kind.Joined j) around head ≡ view_of head (kind.Joined (normal_joined j around))
+of_beside j around head =
+    ap (λ (k : ViewKind). normal_kind k around head) (sym (kind.rolls-Joined j)) ∙ ap (λ (f : KindForm). f around head) (of_kind (level.Joined j))
 
-pub all_views : (around : List ChannelOf) (views : List View) → map (λ (view : Around View). view around) (map normal_view views) ≡ map (λ view. normal_view view around) views
+pub all_views : (around : List ChannelOf) (views : List View)
+    → map (λ (view : Around View). view around) (map normal_view views) ≡ map (λ view. normal_view view around) views
 all_views around [] = refl
 all_views around (v ∷ vs) = ap (λ rest. normal_view v around ∷ rest) (all_views around vs)
 
@@ -140,11 +158,13 @@ again : (v w : View) → v ≡ w → normal_view w [] ≡ w → normal_view v []
 again v w e same = ap (λ x. normal_view x []) e ∙ same ∙ sym e
 
 views_again : (inside : List ChannelOf) (views : List ((v : View) × SameView v))
-    → map (λ view. normal_view view []) (map (λ view. normal_view view inside) (map (λ e. e.0) views)) ≡ map (λ view. normal_view view inside) (map (λ e. e.0) views)
+    → map (λ view. normal_view view []) (map (λ view. normal_view view inside) (map (λ e. e.0) views))
+    ≡ map (λ view. normal_view view inside) (map (λ e. e.0) views)
 views_again inside [] = refl
 views_again inside (e ∷ views) = λ i. e.1 inside i ∷ views_again inside views i
 
-kind_step : (y : ViewKind-F ((k : ViewKind) × SameKind k) ((f : Faceted) × SameFaceted f) ((j : Joined) × SameJoined j) ((l : Layer) × SameLayer l) ((v : View) × SameView v))
+kind_step : (y : ViewKind-F ((k : ViewKind) × SameKind k) ((f : Faceted) × SameFaceted f)
+    ((j : Joined) × SameJoined j) ((l : Layer) × SameLayer l) ((v : View) × SameView v))
     → SameKind (roll-ViewKind (map-ViewKind _ _ _ _ _ ViewKind Faceted Joined Layer View (λ e. e.0) (λ e. e.0) (λ e. e.0) (λ e. e.0) (λ e. e.0) y))
 kind_step (level.Unit u) around head =
     again _ _ (ap (λ (f : KindForm). f around head) (of_kind (level.Unit u))) (unit_again u.mark (with_around (channels_in u.encoding) around) head)
@@ -161,19 +181,22 @@ kind_step (level.Joined j) around head =
     again _ (view_of head (kind.Joined inside)) (ap (λ (f : KindForm). f around head) (of_kind (level.Joined j.0)))
     (of_view head (kind.Joined inside) [] ∙ of_beside inside [] head ∙ ap (λ x. view_of head (kind.Joined x)) (j.1 around))
 
-layer_step : (y : Layer-F ((k : ViewKind) × SameKind k) ((f : Faceted) × SameFaceted f) ((j : Joined) × SameJoined j) ((l : Layer) × SameLayer l) ((v : View) × SameView v))
+layer_step : (y : Layer-F ((k : ViewKind) × SameKind k) ((f : Faceted) × SameFaceted f)
+    ((j : Joined) × SameJoined j) ((l : Layer) × SameLayer l) ((v : View) × SameView v))
     → SameLayer (roll-Layer (map-Layer _ _ _ _ _ ViewKind Faceted Joined Layer View (λ e. e.0) (λ e. e.0) (λ e. e.0) (λ e. e.0) (λ e. e.0) y))
 layer_step y around =
     let inside : List ChannelOf = with_around (channels_in y.encoding) around in
     let views : List View = map (λ view. normal_view view inside) (map (λ e. e.0) y.layer) in
-    let here : normal_layer (roll-Layer (record { layer = map (λ e. e.0) y.layer; encoding = y.encoding })) around ≡ roll-Layer (record { layer = views; encoding = None }) =
+    let here : normal_layer (roll-Layer (record { layer = map (λ e. e.0) y.layer; encoding = y.encoding })) around
+    ≡ roll-Layer (record { layer = views; encoding = None }) =
     of_layer (record { layer = map (λ e. e.0) y.layer; encoding = y.encoding }) around in
     ap (λ l. normal_layer l []) here
     ∙ of_layer (record { layer = views; encoding = None }) []
     ∙ ap (λ vs. roll-Layer (record { layer = vs; encoding = None })) (views_again inside y.layer)
     ∙ sym here
 
-faceted_step : (y : Faceted-F ((k : ViewKind) × SameKind k) ((f : Faceted) × SameFaceted f) ((j : Joined) × SameJoined j) ((l : Layer) × SameLayer l) ((v : View) × SameView v))
+faceted_step : (y : Faceted-F ((k : ViewKind) × SameKind k) ((f : Faceted) × SameFaceted f)
+    ((j : Joined) × SameJoined j) ((l : Layer) × SameLayer l) ((v : View) × SameView v))
     → SameFaceted (roll-Faceted (map-Faceted _ _ _ _ _ ViewKind Faceted Joined Layer View (λ e. e.0) (λ e. e.0) (λ e. e.0) (λ e. e.0) (λ e. e.0) y))
 faceted_step y around =
     let here : normal_faceted (roll-Faceted (record { facet = y.facet; columns = y.columns; spacing = y.spacing; spec = y.spec.0 })) around
@@ -184,7 +207,8 @@ faceted_step y around =
     ∙ ap (λ v. roll-Faceted (record { facet = y.facet; columns = y.columns; spacing = y.spacing; spec = v })) (y.spec.1 around)
     ∙ sym here
 
-joined_step : (y : Joined-F ((k : ViewKind) × SameKind k) ((f : Faceted) × SameFaceted f) ((j : Joined) × SameJoined j) ((l : Layer) × SameLayer l) ((v : View) × SameView v))
+joined_step : (y : Joined-F ((k : ViewKind) × SameKind k) ((f : Faceted) × SameFaceted f)
+    ((j : Joined) × SameJoined j) ((l : Layer) × SameLayer l) ((v : View) × SameView v))
     → SameJoined (roll-Joined (map-Joined _ _ _ _ _ ViewKind Faceted Joined Layer View (λ e. e.0) (λ e. e.0) (λ e. e.0) (λ e. e.0) (λ e. e.0) y))
 joined_step y around =
     let views : List View = map (λ view. normal_view view around) (map (λ e. e.0) y.views) in
@@ -196,7 +220,8 @@ joined_step y around =
     ∙ ap (λ vs. roll-Joined (record { joining = y.joining; columns = y.columns; spacing = y.spacing; views = vs })) (views_again around y.views)
     ∙ sym here
 
-view_step : (y : View-F ((k : ViewKind) × SameKind k) ((f : Faceted) × SameFaceted f) ((j : Joined) × SameJoined j) ((l : Layer) × SameLayer l) ((v : View) × SameView v))
+view_step : (y : View-F ((k : ViewKind) × SameKind k) ((f : Faceted) × SameFaceted f)
+    ((j : Joined) × SameJoined j) ((l : Layer) × SameLayer l) ((v : View) × SameView v))
     → SameView (roll-View (map-View _ _ _ _ _ ViewKind Faceted Joined Layer View (λ e. e.0) (λ e. e.0) (λ e. e.0) (λ e. e.0) (λ e. e.0) y))
 view_step y around = again _ (normal_kind y.kind.0 around (head_in y)) (of_view (head_in y) y.kind.0 around) (y.kind.1 around (head_in y))
 

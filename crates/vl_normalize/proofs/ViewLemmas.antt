@@ -11,10 +11,14 @@ use Rattle.vl_normalize.specs.Normal.{normal_view, normal_layer, normal_joined}
 use Rattle.vl_normalize.proofs.NormalLemmas.{all_views}
 
 layer_opens : (l : Layer) (around : List ChannelOf) → normal_layer l around
-    ≡ roll-Layer (record { layer = map (λ view. normal_view view (with_around (channels_in (out-Layer l).encoding) around)) (out-Layer l).layer; encoding = None })
+    ≡ roll-Layer (record {
+      layer = map (λ view. normal_view view (with_around (channels_in (out-Layer l).encoding) around)) (out-Layer l).layer;
+      encoding = None;
+    })
 layer_opens l around = ap (λ (f : Around Layer). f around)
     (fold_out-Layer KindForm (Around Faceted) (Around Joined) (Around Layer) (Around View) kind_here faceted_here joined_here layer_here view_here l)
-    ∙ ap (λ views. roll-Layer (record { layer = views; encoding = None })) (all_views (with_around (channels_in (out-Layer l).encoding) around) (out-Layer l).layer)
+    ∙ ap (λ views. roll-Layer (record { layer = views; encoding = None }))
+    (all_views (with_around (channels_in (out-Layer l).encoding) around) (out-Layer l).layer)
 
 -- a layer of the normal forms of its views, among its channels and those round it
 pub layer_is : (l : Layer) (around inside : List ChannelOf) (inner views : List View) →
@@ -40,7 +44,8 @@ joined_opens j around = ap (λ (f : Around Joined). f around)
 -- joined views of their normal forms
 pub joined_is : (j : Joined) (around : List ChannelOf) (inner views : List View) → inner ≡ (out-Joined j).views →
     views ≡ map (λ view. normal_view view around) inner →
-    roll-Joined (record { joining = (out-Joined j).joining; columns = (out-Joined j).columns; spacing = (out-Joined j).spacing; views = views }) ≡ normal_joined j around
+    roll-Joined (record { joining = (out-Joined j).joining; columns = (out-Joined j).columns; spacing = (out-Joined j).spacing; views = views })
+    ≡ normal_joined j around
 joined_is j around inner views there each =
     ap (λ vs. roll-Joined (record { joining = (out-Joined j).joining; columns = (out-Joined j).columns; spacing = (out-Joined j).spacing; views = vs }))
     (each ∙ ap (λ inner. map (λ view. normal_view view around) inner) there)

@@ -1,7 +1,8 @@
 // Which channels a mark has a use for, and lines with points.
 ghost use Rattle.std.specs.Prelude.{◌≡◌, ◌++◌, map, Some, IfOk, OnOk, if◌then◌else◌, [], ◌∷◌};
 ghost use Rattle.std.specs.Option.{option_copied};
-ghost use Rattle.vl_normalize.specs.Marks.{is_point_type, is_line_type, is_text_type, is_point, is_text, is_used, used, has_points, pointed, line_of, points_of};
+ghost use Rattle.vl_normalize.specs.Marks.{is_point_type, is_line_type, is_text_type, is_point, is_text, is_used, used, has_points};
+ghost use Rattle.vl_normalize.specs.Marks.{pointed, line_of, points_of};
 
 use crate::codes::{SHAPE, TEXT};
 use crate::facets::is_facet;

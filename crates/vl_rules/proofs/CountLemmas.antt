@@ -1,11 +1,10 @@
 -- The unit that is counted behind some.
-use Rattle.std.proofs.Common.{◌≡◌, ℕ, zero, suc, ◌+◌, ◌-◌, ◌<◌, ◌≤◌, Bool, true, false, Option, Some, None, List, [], ◌∷◌, ◌++◌, cond}
-use Rattle.std.proofs.Common.{flat_map, length, take, refl, sym, ap, ◌∙◌, arith}
+use Rattle.std.proofs.Common.{◌≡◌, ℕ, zero, suc, ◌-◌, ◌<◌, ◌≤◌, Bool, true, false, Option, Some, None, List, [], ◌∷◌, ◌++◌, cond, flat_map}
+use Rattle.std.proofs.Common.{take, refl, sym, ap, ◌∙◌, arith}
 use Rattle.std.proofs.lemmas.Bool.Decides.{nat_tests}
 use Rattle.std.specs.Prelude.{is_some, nat_lt, slice_get}
 use Rattle.std.specs.Option.{option_map, option_map_or}
 use Rattle.vl_normalize.specs.Marks.{pointed}
-use Rattle.vl_trails.specs.declared.fault.RuleFault.{RuleFault}
 use Rattle.vl_trails.specs.Faults.{wrong_at}
 use Rattle.vl_trails.specs.Trails.{Trail}
 use Rattle.vl_rules.specs.declared.marked.TheConstants.{MOST_UNITS}

@@ -1,10 +1,8 @@
 -- How many rows folds make.
-use Rattle.std.proofs.Common.{◌≡◌, ℕ, ◌+◌, ◌-◌, ◌*◌, ◌<◌, ◌≤◌, Bool, true, false, Option, Some, None, List, [], ◌∷◌, cond, length, min}
-use Rattle.std.proofs.Common.{unwrap_or, refl, sym, ap, ◌∙◌, arith}
+use Rattle.std.proofs.Common.{◌≡◌, ℕ, ◌+◌, ◌-◌, ◌*◌, ◌<◌, ◌≤◌, true, false, Some, List, [], ◌∷◌, cond, length, unwrap_or, sym, ◌∙◌, arith}
 use Rattle.std.specs.Prelude.{nat_lt}
 use Rattle.std.proofs.lemmas.Bool.Decides.{nat_tests}
 use Rattle.vl_spec.specs.declared.transforms.Transform.{Transform}
-use Rattle.vl_trails.specs.Trails.{Trail}
 use Rattle.vl_rules.specs.Folds.{fold_among, fold_trail, passing_from, rows_from}
 use Rattle.vl_rules.specs.Leads.{LedAt}
 

@@ -4,13 +4,11 @@ use Rattle.std.specs.Prelude.{None}
 use Rattle.std.specs.List.{All}
 use Rattle.std.proofs.lemmas.List.Elements.{All-nil, All-cons, All-head, All-tail}
 use Rattle.json_exact.specs.declared.json.Json.{Json}
-use Rattle.vl_spec.specs.declared.spec.VlSpec.{VlSpec}
 use Rattle.vl_names.specs.Names.{name_faults}
 use Rattle.vl_trails.specs.declared.fault.RuleFault.{RuleFault}
-use Rattle.vl_trails.specs.Faults.{earliest_placed}
 use Rattle.vl_trails.proofs.OrderLemmas.{none_is_empty}
 use Rattle.vl_rules.specs.Folds.{too_many_rows}
-use Rattle.vl_rules.specs.Kept.{UnitIsKept, IsKeptAs, WithoutFaultsKept, KeptWithoutFaults}
+use Rattle.vl_rules.specs.Kept.{UnitIsKept, WithoutFaultsKept, KeptWithoutFaults}
 use Rattle.vl_rules.specs.Marked.{MarkedAt, judged, marked}
 use Rattle.vl_rules.specs.Rules.{faults_of_unit, rule_faults, unit_and_view_faults}
 use Rattle.vl_rules.specs.Units.{lone_ends, one_too_many, useless_size, without_data}

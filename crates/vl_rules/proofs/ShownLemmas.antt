@@ -2,7 +2,6 @@
 use Rattle.std.proofs.Common.{◌≡◌, ℕ, zero, suc, ◌+◌, ◌<◌, List, [], ◌∷◌, ◌++◌, drop, get_or, length, map, refl, sym, ap, ◌∙◌, arith}
 use Rattle.std.proofs.lemmas.List.{append_assoc, drop_more, length-map}
 use Rattle.vl_compose.specs.declared.here.ViewHere.{ViewHere}
-use Rattle.vl_compose.specs.Rounds.{ViewAt}
 use Rattle.vl_compose.specs.Shown.{round_shown, view_shown}
 
 pub at_place : {X A : Type 0} (shown : X → A) (xs : List X) (n : ℕ) (d : X) → get_or (map shown xs) n (shown d) ≡ shown (get_or xs n d)

@@ -1,7 +1,6 @@
 -- How far folds multiply the rows of a unit.
 use Rattle.std.specs.Prelude.{◌≡◌, refl, ℕ, ◌+◌, ◌-◌, ◌*◌, nat_lt, Option, Some, None, List, [], ◌∷◌, codes, length, unwrap_or, if◌then◌else◌}
 use Rattle.std.specs.Option.{option_map_or}
-use Rattle.vl_spec.specs.declared.transforms.FoldTransform.{FoldTransform}
 use Rattle.vl_spec.specs.declared.transforms.Transform.{Transform}
 use Rattle.vl_spec.specs.declared.transforms.Transform.TheVariants as transform
 use Rattle.vl_compose.specs.Views.{transforms_of}

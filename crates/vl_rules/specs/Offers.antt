@@ -1,5 +1,5 @@
 -- What the units of a specification have that selections may keep.
-use Rattle.std.specs.Prelude.{ℕ, Bool, ◌&&◌, List, [], ◌∷◌, ◌++◌, codes, filter_map, flat_map, map, if◌then◌else◌}
+use Rattle.std.specs.Prelude.{ℕ, ◌&&◌, List, [], ◌∷◌, ◌++◌, codes, filter_map, flat_map, map, if◌then◌else◌}
 use Rattle.std.specs.List.{list_any}
 use Rattle.vl_spec.specs.declared.channels.ChannelOf.{ChannelOf}
 use Rattle.vl_spec.specs.declared.definitions.Definition.{Definition}
@@ -9,7 +9,7 @@ use Rattle.vl_compose.specs.Rounds.{ViewAt}
 use Rattle.vl_compose.specs.Views.{plot_of}
 use Rattle.vl_rules.specs.declared.offers.Asked.{Asked}
 use Rattle.vl_rules.specs.declared.offers.Offer.{Offer}
-use Rattle.vl_rules.specs.declared.offers.Spot.{Spot}
+use Rattle.vl_rules.specs.declared.offers.OfferedPlace.{OfferedPlace}
 use Rattle.vl_rules.specs.declared.standings.Standing.{Standing}
 use Rattle.vl_rules.specs.Marked.{MarkedAt, judged}
 use Rattle.vl_rules.specs.Names.{cells_name, definition_groups, extent_name}
@@ -61,7 +61,7 @@ view_names u = filter_map (λ (v : ViewAt). v.name) u.round
 
 -- Up to where the scale of a place is shared, and whether an interval may span it: where the own cells and those of the scale lie on a line. Here all units
 -- stand so to the scales of the channel.
-abbrev pub spot_among : ℕ → List Standing → PartAt → Spot
+abbrev pub spot_among : ℕ → List Standing → PartAt → OfferedPlace
 spot_among code standings p = record { home = home_at code p; spans = lies_on_line code p && on_line standings (home_at code p) }
 
 -- a unit as selections see it, where all units stand so to the scales of x and of y

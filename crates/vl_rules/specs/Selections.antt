@@ -14,7 +14,7 @@ use Rattle.vl_compose.specs.Sharing.{is_filled}
 use Rattle.vl_trails.specs.Trails.{Trail}
 use Rattle.vl_rules.specs.declared.offers.Asked.{Asked}
 use Rattle.vl_rules.specs.declared.offers.Offer.{Offer}
-use Rattle.vl_rules.specs.declared.offers.Spot.{Spot}
+use Rattle.vl_rules.specs.declared.offers.OfferedPlace.{OfferedPlace}
 use Rattle.vl_rules.specs.declared.selections.Asking.{Asking}
 use Rattle.vl_rules.specs.Offers.{channel_codes}
 use Rattle.vl_rules.specs.Standings.{same_home}
@@ -110,7 +110,7 @@ abbrev pub is_place : ℕ → Bool
 is_place code = code == X || code == Y
 
 -- the place of a code
-abbrev pub spot_for : ℕ → Offer → Spot
+abbrev pub spot_for : ℕ → Offer → OfferedPlace
 spot_for code o = if code == X then o.x else o.y
 
 -- whether an interval may not span one of some places of a unit

@@ -4,7 +4,7 @@ use Rattle.std.specs.Prelude.{flat_map, is_none, is_some, slice_get, ifâ—Œthenâ—
 use Rattle.std.specs.Option.{option_map_or}
 use Rattle.json_exact.specs.Inside.{text_in}
 use Rattle.json_exact.specs.declared.json.Json.{Json, out-Json}
-use Rattle.json_exact.specs.declared.spec_error.SpecKind.TheVariants.{Unsupported}
+use Rattle.spec_schema.specs.declared.spec_error.SpecKind.TheVariants.{Unsupported}
 use Rattle.vl_spec.specs.declared.marks.Mark.{Mark}
 use Rattle.vl_spec.specs.declared.marks.Mark.TheVariants as mark
 use Rattle.vl_spec.specs.declared.marks.MarkType.{MarkType}

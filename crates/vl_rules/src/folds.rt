@@ -8,8 +8,8 @@ ghost use Rattle.vl_rules.specs.inner.Shown.{led_shown, marked_shown};
 
 use crate::leads::{LedView, led};
 use crate::marked::Marked;
-use json_exact::{Json, SpecKind};
-use spec_schema::Fault;
+use json_exact::Json;
+use spec_schema::{Fault, SpecKind};
 use spec_walk::Step;
 use std::alloc::Global;
 use text_kit::{OutOfMemory, Seq};

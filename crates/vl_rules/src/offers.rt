@@ -31,7 +31,7 @@ pub struct Asked {
 
 /// A place of a unit, as intervals see it.
 #[derive(Clone, Copy)]
-pub struct Spot {
+pub struct OfferedPlace {
     /// Up to where its scale is shared.
     pub home: Home,
     /// Whether an interval may span it.
@@ -47,9 +47,9 @@ pub struct Offer {
     /// The number of its plot among all views.
     pub plot: usize,
     /// Its x.
-    pub x: Spot,
+    pub x: OfferedPlace,
     /// Its y.
-    pub y: Spot,
+    pub y: OfferedPlace,
     /// What a point keeps that says neither fields nor channels.
     pub kept: Seq<Text>,
     /// What it has for each channel, in the order of their codes.
@@ -243,12 +243,12 @@ fn spot_at(
     code: u16,
     standings: &[Standing],
     part: &Part,
-) -> Result<Spot, OutOfMemory>
+) -> Result<OfferedPlace, OutOfMemory>
     ensures { IfOk result (λ spot. spot ≡ spot_among code standings.now (part_shown part.now)) }
 {
     let definitions = meant(alloc, code, part)?;
     let home = home_at(code, part);
-    Ok(Spot {
+    Ok(OfferedPlace {
         home,
         spans: all_on_line(definitions.as_slice()) && on_line(standings, home),
     })

@@ -6,8 +6,8 @@ ghost use Rattle.vl_trails.specs.Trails.{place_of as place_led, to_member as mem
 ghost use Rattle.vl_rules.specs.Resting.{is_aside, item_at, member_at, named_child, lies_aside, lies_in, lies_in_own, is_more, takes_away};
 ghost use Rattle.vl_rules.specs.Resting.{place_steps, select_by, select_at};
 
-use json_exact::{Json, Member, SpecKind};
-use spec_schema::Fault;
+use json_exact::{Json, Member};
+use spec_schema::{Fault, SpecKind};
 use spec_walk::Step;
 use std::alloc::Global;
 use text_kit::{OutOfMemory, Seq};

@@ -13,9 +13,9 @@ ghost use Rattle.vl_rules.specs.Scales.{unfit_type, unfit_range, unfit_scheme, s
 use crate::fits::{has_fit_type, has_unfit_range, has_unfit_scheme, has_unfit_type, is_ordinal};
 use crate::leads::holds;
 use crate::named::has_bins;
-use json_exact::{Json, SpecKind};
+use json_exact::Json;
 use scale_infer::{ORDINAL, type_of};
-use spec_schema::Fault;
+use spec_schema::{Fault, SpecKind};
 use spec_walk::Step;
 use std::alloc::Global;
 use text_kit::{OutOfMemory, Seq, Text};

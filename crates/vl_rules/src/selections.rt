@@ -9,7 +9,7 @@ ghost use Rattle.vl_rules.specs.Selections.{cant_span, is_no_span, of_neighbours
 ghost use Rattle.vl_rules.specs.Selections.{keep_same_extents, keep_same, is_unlike, part_scales, is_parted, is_wrong_for};
 ghost use Rattle.vl_rules.specs.Standings.{same_home as same_up_to};
 
-use crate::offers::{CHANNEL_CODES, Offer, Spot};
+use crate::offers::{CHANNEL_CODES, Offer, OfferedPlace};
 use crate::same::same_names;
 use crate::standings::same_home;
 use spec_walk::Step;
@@ -375,7 +375,7 @@ fn any_is_no_place(codes: &[u16]) -> bool
 }
 
 // The place of a code.
-fn spot_for(code: u16, offer: &Offer) -> Spot
+fn spot_for(code: u16, offer: &Offer) -> OfferedPlace
     ensures { result ≡ spot_for code offer.now }
 {
     if code == X { offer.x } else { offer.y }

@@ -1,6 +1,6 @@
 //! Which scales units share, and whether these have places for intervals.
 ghost use Rattle.std.specs.Prelude.{◌≡◌, false, map, option_map, IfOk};
-ghost use Rattle.std.specs.Option.{option_and_then, option_map_or};
+ghost use Rattle.std.specs.Option.{option_map_or};
 ghost use Rattle.std.specs.List.{list_all};
 ghost use Rattle.vl_compose.specs.Sharing.{is_independent as is_independent_sharing, sharing_said};
 ghost use Rattle.vl_compose.specs.Shown.{round_shown, view_shown};

@@ -1,7 +1,7 @@
 //! What is asked of each unit, with all that stands round it.
 ghost use Rattle.std.specs.Prelude.{◌≡◌, ◌∷◌, ◌&&◌, [], true, not, codes, map, flat_map, is_some, IfOk};
 ghost use Rattle.std.specs.Option.{option_map};
-ghost use Rattle.json_exact.specs.declared.spec_error.SpecKind.TheVariants.{Unsupported};
+ghost use Rattle.spec_schema.specs.declared.spec_error.SpecKind.TheVariants.{Unsupported};
 ghost use Rattle.spec_schema.specs.Order.{earlier as earlier_fault};
 ghost use Rattle.vl_normalize.specs.Channels.{has_channel};
 ghost use Rattle.vl_normalize.specs.Marks.{pointed};
@@ -17,8 +17,8 @@ ghost use Rattle.vl_rules.specs.inner.Counted.{times_counted, trail_behind, wron
 use crate::folds::sooner_folds;
 use crate::leads::{LedView, channel_in, channel_trail, has_encoding, holds, led, may_hold};
 use crate::marked::{MOST_UNITS, Marked};
-use json_exact::{Json, SpecKind};
-use spec_schema::Fault;
+use json_exact::Json;
+use spec_schema::{Fault, SpecKind};
 use spec_walk::Step;
 use std::alloc::Global;
 use text_kit::{OutOfMemory, Seq, Text};

@@ -1,5 +1,5 @@
 -- There and back by one step, and more faults behind others.
-use Rattle.std.proofs.Common.{◌≡◌, ℕ, ◌+◌, ◌-◌, Option, List, [], ◌∷◌, ◌++◌, length, length-append, take, refl, ap, arith}
+use Rattle.std.proofs.Common.{◌≡◌, ◌+◌, ◌-◌, Option, List, [], ◌∷◌, ◌++◌, length, length-append, take, refl, ap, arith}
 use Rattle.std.proofs.lemmas.List.{take_at}
 use Rattle.spec_schema.specs.declared.fault.Fault.{Fault}
 use Rattle.spec_walk.specs.declared.places.Step.{Step}

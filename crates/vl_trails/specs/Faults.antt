@@ -3,8 +3,8 @@ use Rattle.std.specs.Prelude.{◌≡◌, ℕ, ◌+◌, Bool, if◌then◌else◌
 use Rattle.std.specs.Option.{option_map}
 use Rattle.json_exact.specs.declared.json.Json.{Json}
 use Rattle.json_exact.specs.declared.json.Member.{Member}
-use Rattle.json_exact.specs.declared.spec_error.SpecKind.{SpecKind}
-use Rattle.json_exact.specs.declared.spec_error.SpecKind.TheVariants.{Unsupported, Missing, Wrong}
+use Rattle.spec_schema.specs.declared.spec_error.SpecKind.{SpecKind}
+use Rattle.spec_schema.specs.declared.spec_error.SpecKind.TheVariants.{Unsupported, Missing, Wrong}
 use Rattle.spec_schema.specs.declared.fault.Fault.{Fault}
 use Rattle.spec_schema.specs.Faults.{path_word}
 use Rattle.spec_schema.specs.Order.{earlier}

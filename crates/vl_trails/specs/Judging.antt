@@ -1,6 +1,5 @@
 -- What goes through a specification by its parts.
-use Rattle.std.specs.Prelude.{ℕ, ◌-◌, Option, Some, List, [], ◌∷◌, ◌++◌, length, take}
-use Rattle.spec_schema.specs.declared.fault.Fault.{Fault}
+use Rattle.std.specs.Prelude.{◌-◌, List, [], ◌∷◌, ◌++◌, length, take}
 use Rattle.spec_schema.specs.Order.{earlier}
 use Rattle.spec_walk.specs.declared.places.Step.{Step}
 use Rattle.vl_trails.specs.declared.fault.RuleFault.{RuleFault}

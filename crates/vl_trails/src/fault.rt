@@ -1,5 +1,5 @@
 //! Faults of rules.
-use json_exact::SpecKind;
+use spec_schema::SpecKind;
 use spec_walk::Step;
 use text_kit::{Seq, Text};
 

@@ -8,8 +8,8 @@ ghost use Rattle.vl_trails.specs.Trails.{to_item, to_member};
 
 use crate::fault::Broken;
 use crate::placing::placed_as;
-use json_exact::{Json, SpecKind};
-use spec_schema::{Fault, earlier};
+use json_exact::Json;
+use spec_schema::{Fault, SpecKind, earlier};
 use spec_walk::Step;
 use std::alloc::Global;
 use text_kit::{OutOfMemory, Seq, Text};

@@ -9,8 +9,8 @@ ghost use Rattle.vl_trails.specs.Faults.{missing_place, placed_as};
 ghost use Rattle.vl_trails.specs.Trails.{behind_all, child_numbered, members_at, place_of, value_at, value_under};
 
 use crate::fault::Broken;
-use json_exact::{Json, Member, SpecKind};
-use spec_schema::{Fault, path_word};
+use json_exact::{Json, Member};
+use spec_schema::{Fault, SpecKind, path_word};
 use spec_walk::{Step, path_of, place_at};
 use std::alloc::Global;
 use text_kit::{OutOfMemory, Seq, Text};

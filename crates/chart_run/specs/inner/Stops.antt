@@ -1,8 +1,7 @@
 -- The causes that the program's functions hand up, as ends of a run. No public clause cites this.
-use Rattle.std.specs.Prelude.{◌≡◌, ◌⊎◌, ℕ, Option, Some, None, List, Result, Ok, Err}
-use Rattle.std.specs.Result.{result_err, result_map_both}
+use Rattle.std.specs.Prelude.{◌≡◌, ◌⊎◌, Option, Some, None, Result, Ok, Err}
+use Rattle.std.specs.Result.{result_map_both}
 use Rattle.text_kit.specs.Answer.{GivesAs}
-use Rattle.chart_io.specs.Outside.{Files}
 use Rattle.cell_value.specs.State.{state_of}
 use Rattle.play_script.specs.Meaning.{Meaning}
 use Rattle.play_script.specs.declared.errors.PlayError.{PlayError}
@@ -11,8 +10,6 @@ use Rattle.chart_opening.specs.declared.opened.Opened.{Opened}
 use Rattle.chart_opening.specs.declared.refusal.Refusal.{Refusal}
 use Rattle.chart_opening.specs.declared.refusal.OpenStop.{OpenStop}
 use Rattle.chart_opening.specs.declared.refusal.OpenStop.TheVariants as opening
-use Rattle.chart_opening.specs.Charts.{drawn_of, drawn_by}
-use Rattle.chart_opening.specs.inner.Reading.{the_reading}
 use Rattle.chart_run.specs.declared.stop.RunStop.{RunStop}
 use Rattle.chart_run.specs.declared.stop.RunStop.TheVariants as stop
 use Rattle.chart_run.specs.Ends.{End, Done, Words, Refused, ReadFault, WriteFault, NoMemory, LongScript}

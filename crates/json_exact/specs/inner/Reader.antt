@@ -8,15 +8,15 @@ use Rattle.fixed_num.specs.JsonNumber.{decimal_value}
 use Rattle.fixed_num.specs.Ranges.{in_range}
 use Rattle.fixed_num.specs.Steps.{◌>>=◌}
 use Rattle.fixed_num.specs.Front.{Read, first, stop, parts_at}
-use Rattle.json_exact.specs.declared.error.Stop.{Stop}
-use Rattle.json_exact.specs.declared.error.Stop.TheVariants as errors
+use Rattle.json_exact.specs.declared.error.ReadStop.{ReadStop}
+use Rattle.json_exact.specs.declared.error.ReadStop.TheVariants as errors
 use Rattle.json_exact.specs.declared.json.Json.{Json}
 use Rattle.json_exact.specs.declared.json.Json.TheVariants as json
 use Rattle.json_exact.specs.declared.json.Member.{Member}
 use Rattle.json_exact.specs.Reading.{is_white, short_escape, hex_value, of_pair}
 
 -- which fault an error stands for
-abbrev pub cause : Stop → Option ℕ
+abbrev pub cause : ReadStop → Option ℕ
 cause (errors.Fault place) = Some place
 cause errors.Memory = None
 

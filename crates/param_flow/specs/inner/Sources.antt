@@ -1,6 +1,5 @@
 -- What a change makes of one of the sources of a state, by its index.
-use Rattle.std.specs.Prelude.{◌≡◌, ◌≢◌, ℕ, zero, suc, ◌+◌, ◌-◌, nat_lt, ◌||◌, Bool, Option, Some, None, List, [], ◌∷◌, ◌++◌, length, map}
-use Rattle.std.specs.Prelude.{flat_map}
+use Rattle.std.specs.Prelude.{◌≢◌, ℕ, zero, suc, ◌+◌, ◌-◌, nat_lt, ◌||◌, Bool, Option, List, [], ◌∷◌, ◌++◌, length, map, flat_map}
 use Rattle.std.specs.Option.{option_map}
 use Rattle.std.specs.List.{AllPairs}
 use Rattle.json_exact.specs.declared.json.Json.{Json}

@@ -1,6 +1,6 @@
 -- What operations see from the rows of a partition, by places.
-use Rattle.std.specs.Prelude.{◌≡◌, ℕ, ◌+◌, ◌-◌, ◌<◌, ◌≤◌, not, Bool, Option, List, [], ◌∷◌, map, take, drop, length, zip, All}
-use Rattle.std.specs.Prelude.{slice_get, if◌then◌else◌}
+use Rattle.std.specs.Prelude.{ℕ, ◌+◌, ◌-◌, ◌<◌, ◌≤◌, not, Bool, Option, List, [], ◌∷◌, map, take, drop, length, zip, All, slice_get}
+use Rattle.std.specs.Prelude.{if◌then◌else◌}
 use Rattle.std.specs.Option.{option_map, option_map_or}
 use Rattle.std.specs.Ordering.{is_lt}
 use Rattle.fixed_num.specs.Ranges.{all_found}
@@ -14,7 +14,7 @@ use Rattle.plain_rows.specs.Rows.{most_listed}
 use Rattle.plain_groups.specs.GroupRows.{read_by}
 use Rattle.plain_orders.specs.Partitions.{data_at}
 use Rattle.plain_windows.specs.declared.frames.Frame.{Frame}
-use Rattle.plain_windows.specs.Frames.{peer_order, are_peers, frame_at, widened}
+use Rattle.plain_windows.specs.Frames.{peer_order, frame_at, widened}
 use Rattle.plain_windows.specs.Windows.{View, windows, window_of}
 use Rattle.plain_windows.specs.inner.Rising.{Rises}
 

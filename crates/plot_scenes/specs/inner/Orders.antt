@@ -1,6 +1,5 @@
 -- That legends stand in an order.
 use Rattle.std.specs.Prelude.{ℕ}
-use Rattle.std.specs.Ordering.{nat_cmp}
 use Rattle.std.specs.Cmp.{IsTotalOrder, then_total, on_total, nat_cmp_total}
 use Rattle.plot_scenes.specs.declared.legends.LegendShown.{LegendShown}
 use Rattle.plot_scenes.specs.Legends.{legend_order}

@@ -1,5 +1,5 @@
 -- The last of what is found on the way through a list.
-use Rattle.std.specs.Prelude.{ℕ, ◌+◌, Bool, cond, Option, Some, None, List, [], ◌∷◌}
+use Rattle.std.specs.Prelude.{ℕ, ◌+◌, Bool, cond, Option, Some, List, [], ◌∷◌}
 use Rattle.std.specs.Option.{option_or}
 
 -- the last place at which an element passes, counted from a number on; the one found before where none does

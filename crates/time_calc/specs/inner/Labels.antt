@@ -6,7 +6,7 @@ use Rattle.time_calc.specs.declared.labels.LabelError.{LabelError}
 use Rattle.time_calc.specs.declared.labels.LabelError.TheVariants as fault
 use Rattle.time_calc.specs.declared.directives.Written.{Written}
 use Rattle.time_calc.specs.declared.directives.Written.TheVariants.{Digits, Name}
-use Rattle.time_calc.specs.Labels.{Piece, pieces, piece_text, digits}
+use Rattle.time_calc.specs.Labels.{pieces, piece_text, digits}
 
 -- what is written of a directive
 abbrev pub written_text : Written → List ℕ

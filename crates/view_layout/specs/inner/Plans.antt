@@ -1,5 +1,5 @@
 -- What a plan and the cells of a grid stand for.
-use Rattle.std.specs.Prelude.{◌≡◌, ℕ, List, [], ◌∷◌, map}
+use Rattle.std.specs.Prelude.{◌≡◌, List, [], ◌∷◌, map}
 use Rattle.view_layout.specs.declared.plan.Plan.{Plan, Plan-F, fold-Plan}
 use Rattle.view_layout.specs.declared.plan.Plan.TheOpen as form
 use Rattle.view_layout.specs.declared.plan.Standing.TheVariants as standing

@@ -1,12 +1,9 @@
-use Rattle.std.proofs.Common.{◌≡◌, ◌↔◌, ◌⊎◌, IfSome, ap, subst, ◌∙◌}
+use Rattle.std.proofs.Common.{IfSome, subst}
 use Rattle.std.specs.Result.{result_err}
-use Rattle.chart_io.specs.Outside.{Rose, Kept}
 use Rattle.chart_opening.specs.declared.refusal.Refusal.{Refusal}
-use Rattle.chart_opening.specs.Texts.{Reading}
 use Rattle.chart_run.specs.Words.{asked_in}
-use Rattle.chart_run.specs.Refusals.{refusal_status, IsRefused}
-use Rattle.chart_run.specs.Wanted.{IsAccepted, IsAnswered, MayFail, script_for}
-use Rattle.chart_run.specs.Ends.{End, end_status, end_note, IsEnd, IsNoted, Told}
+use Rattle.chart_run.specs.Refusals.{IsRefused}
+use Rattle.chart_run.specs.Ends.{end_note, IsNoted}
 use Rattle.chart_run.proofs.Ended.{told_end, told_refused, told_answered, words_status, Comes}
 use Rattle.chart_run.proofs.Readings.{at_every}
 use Rattle.chart_tool.proofs.tool.chart_main.Goals as goal

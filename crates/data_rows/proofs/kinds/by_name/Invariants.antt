@@ -1,4 +1,4 @@
-use Rattle.std.proofs.Common.{◌≡◌, ℕ, List, drop}
+use Rattle.std.proofs.Common.{◌≡◌, drop}
 use Rattle.std.specs.Str.{bytes_eq}
 use Rattle.std.specs.Map.{update_all}
 use Rattle.data_rows.specs.Parse.{kind_of}

@@ -7,4 +7,5 @@ pub with_row-found-requires : goal.with_row-found-requires
 with_row-found-requires c = small_id c.args.rows.now c.loop-row.row-index _ c.requires c.loop-row-test.true c.row-item.is
 
 pub returns : goal.returns
-returns c = found_at_the_end c.args.name.now c.args.rows.now c.loop-row.found c.loop-row.row-index (omega (arith, c.loop-row.auto.row-index-end)) c.loop-row.invariant
+returns c = found_at_the_end c.args.name.now c.args.rows.now c.loop-row.found
+    c.loop-row.row-index (omega (arith, c.loop-row.auto.row-index-end)) c.loop-row.invariant

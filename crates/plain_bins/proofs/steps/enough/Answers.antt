@@ -1,6 +1,3 @@
-use Rattle.std.proofs.Common.{◌≡◌, Option, sym, subst}
-use Rattle.std.specs.Prelude.{IfSome, ◌<◌, ◌≤◌}
-use Rattle.fixed_num.specs.Number.{limit}
 use Rattle.plain_bins.proofs.StepLemmas.{above_zero, within_range}
 use Rattle.plain_bins.proofs.steps.enough.Goals as goal
 

@@ -1,4 +1,4 @@
-use Rattle.std.proofs.Common.{◌≡◌, ◌++◌, length, arith, ap, ◌∙◌}
+use Rattle.std.proofs.Common.{◌++◌, length, arith, ap, ◌∙◌}
 use Rattle.plain_engine.specs.inner.Edits.{edited}
 use Rattle.plain_engine.specs.inner.Undo.{marked, restored}
 use Rattle.plain_engine.proofs.SettleLemmas.{marks_restore, marks_count}

@@ -12,9 +12,13 @@ calculated_row-requires g c = small_id c.args.rows.now c.loop-row.row-index _ c.
 
 pub returns-in-Err : goal.returns-in-Err
 returns-in-Err g c =
-    stops_all (λ (row : Keyed). option_map (λ cell. with_cell c.args.name.now cell row) (value_of (cell_at row) (g.P.ParamReader.values c.args.params.now) c.args.e.now)) c.args.rows.now c.loop-row.row-index _ c.loop-row-test.true c.row-item.is c.in-Err.error c.in-Err.ensures
+    stops_all (λ (row : Keyed).
+    option_map (λ cell. with_cell c.args.name.now cell row) (value_of (cell_at row) (g.P.ParamReader.values c.args.params.now) c.args.e.now))
+    c.args.rows.now c.loop-row.row-index _ c.loop-row-test.true c.row-item.is c.in-Err.error c.in-Err.ensures
 
 pub loop-row-preserved : goal.loop-row-preserved
 loop-row-preserved g c =
-    all_more (λ (row : Keyed). option_map (λ cell. with_cell c.args.name.now cell row) (value_of (cell_at row) (g.P.ParamReader.values c.args.params.now) c.args.e.now)) c.args.rows.now c.loop-row.row-index _ c.loop-row.out c.in-Ok.copy c.loop-row-test.true c.row-item.is c.loop-row.invariant c.in-Ok.ensures
+    all_more (λ (row : Keyed).
+    option_map (λ cell. with_cell c.args.name.now cell row) (value_of (cell_at row) (g.P.ParamReader.values c.args.params.now) c.args.e.now))
+    c.args.rows.now c.loop-row.row-index _ c.loop-row.out c.in-Ok.copy c.loop-row-test.true c.row-item.is c.loop-row.invariant c.in-Ok.ensures
     ∙ ap Some (sym c.in_ok-push-in-Ok.ensures.ok)

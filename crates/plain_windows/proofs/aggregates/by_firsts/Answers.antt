@@ -1,4 +1,4 @@
-use Rattle.std.proofs.Common.{◌≡◌, ◌∙◌, ap, sym, subst, map, Some, arith}
+use Rattle.std.proofs.Common.{◌∙◌, ap, sym, map, Some, arith}
 use Rattle.std.proofs.lemmas.List.{length-map}
 use Rattle.cell_value.specs.declared.cell.Cell.{Cell}
 use Rattle.cell_value.specs.Datum.{Datum, datum_of}

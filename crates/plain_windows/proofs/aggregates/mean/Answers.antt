@@ -1,10 +1,8 @@
-use Rattle.std.proofs.Common.{◌≡◌, ◌-◌, ◌∙◌, ap, map, subst, Some, arith}
-use Rattle.std.proofs.lemmas.List.{length-map}
+use Rattle.std.proofs.Common.{◌∙◌, ap, map, Some}
 use Rattle.cell_value.specs.declared.cell.Cell.{Cell}
 use Rattle.cell_value.specs.Datum.{Datum, datum_of}
-use Rattle.expr_eval.specs.Answers.{Evaluates}
 use Rattle.plain_groups.specs.GroupRows.{read_by}
-use Rattle.plain_orders.specs.Partitions.{datum_at, data_at}
+use Rattle.plain_orders.specs.Partitions.{data_at}
 use Rattle.plain_windows.specs.inner.Views.{part}
 use Rattle.plain_windows.proofs.TotalLemmas.{means_numbers, averages_numbers}
 use Rattle.plain_windows.proofs.aggregates.mean.Goals as goal

@@ -1,8 +1,7 @@
-use Rattle.std.proofs.Common.{◌≡◌, ◌-◌, ◌∙◌, ap, map, subst, Some, arith}
+use Rattle.std.proofs.Common.{◌∙◌, ap, map, Some, arith}
 use Rattle.std.proofs.lemmas.List.{length-map}
 use Rattle.cell_value.specs.declared.cell.Cell.{Cell}
 use Rattle.cell_value.specs.Datum.{Datum, datum_of}
-use Rattle.expr_eval.specs.Answers.{Evaluates}
 use Rattle.plain_groups.specs.Aggregates.{count_cell}
 use Rattle.plain_groups.specs.GroupRows.{read_by}
 use Rattle.plain_orders.specs.Partitions.{datum_at, data_at}

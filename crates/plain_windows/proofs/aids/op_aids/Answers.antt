@@ -1,11 +1,6 @@
-use Rattle.std.proofs.Common.{◌≡◌, ◌∙◌, ap, sym, subst, map, take, take_all, Some, arith}
-use Rattle.std.specs.List.{AllZip}
-use Rattle.std.proofs.lemmas.List.{length-map}
-use Rattle.cell_value.specs.declared.cell.Cell.{Cell}
-use Rattle.cell_value.specs.Datum.{Datum, datum_of}
-use Rattle.plain_groups.specs.Aggregates.{aggregate_of}
-use Rattle.plain_groups.specs.GroupRows.{read_by}
-use Rattle.plain_orders.specs.Partitions.{datum_at, data_at}
+use Rattle.std.proofs.Common.{map}
+use Rattle.cell_value.specs.Datum.{datum_of}
+use Rattle.plain_orders.specs.Partitions.{data_at}
 use Rattle.plain_windows.specs.inner.Aids.{IsAid}
 use Rattle.plain_windows.proofs.AidLemmas.{zip_more}
 use Rattle.plain_windows.proofs.aids.op_aids.Goals as goal

@@ -1,4 +1,4 @@
-use Rattle.std.proofs.Common.{◌∙◌, ap, sym, Some, map, get_or, zip, take_all, subst, arith}
+use Rattle.std.proofs.Common.{◌∙◌, ap, sym, Some, map, get_or, zip, take_all, arith}
 use Rattle.std.proofs.lemmas.Slice.Zip.{AllZip-long}
 use Rattle.fixed_num.specs.Ranges.{all_found}
 use Rattle.cell_value.specs.Datum.{datum_of}

@@ -1,16 +1,14 @@
-use Rattle.std.proofs.Common.{◌≡◌, ◌∙◌, ap, sym, subst, map, get_or, Option, Err, Some, option_map}
+use Rattle.std.proofs.Common.{◌∙◌, ap, sym, subst, map, Err, Some, option_map}
 use Rattle.std.specs.List.{AllZip}
-use Rattle.cell_value.specs.declared.cell.Cell.{Cell}
 use Rattle.cell_value.specs.declared.state.Keyed.{Keyed}
 use Rattle.cell_value.specs.Datum.{datum_of}
 use Rattle.expr_eval.specs.Answers.{Evaluates}
 use Rattle.expr_eval.proofs.Several.{stops_all, all_more}
 use Rattle.plain_rows.specs.Lookups.{with_cells}
 use Rattle.plain_rows.proofs.Keys.{small_id}
-use Rattle.plain_orders.specs.Partitions.{datum_at, data_at}
+use Rattle.plain_orders.specs.Partitions.{data_at}
 use Rattle.plain_windows.specs.Windows.{window_cells}
 use Rattle.plain_windows.specs.inner.Aids.{IsAid}
-use Rattle.plain_windows.specs.inner.Views.{AreListed, frame_rows, view_with, cells_by}
 use Rattle.plain_windows.proofs.WindowLemmas.{listed_in, aids_in, cells_in}
 use Rattle.plain_windows.proofs.windows.windowed_rows.Goals as goal
 

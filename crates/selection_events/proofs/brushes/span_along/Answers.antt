@@ -1,4 +1,4 @@
-use Rattle.std.proofs.Common.{◌≡◌, find, ap, ◌∙◌}
+use Rattle.std.proofs.Common.{find, ap, ◌∙◌}
 use Rattle.std.specs.Str.{bytes_eq}
 use Rattle.cell_value.specs.declared.state.Extent.{Extent}
 use Rattle.selection_events.specs.Brushes.{extent_span}

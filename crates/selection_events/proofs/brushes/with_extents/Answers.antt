@@ -1,4 +1,4 @@
-use Rattle.std.proofs.Common.{◌≡◌, ℕ, sym, ap, ◌∙◌}
+use Rattle.std.proofs.Common.{ℕ, sym, ap, ◌∙◌}
 use Rattle.std.specs.Option.{option_map}
 use Rattle.scene_tree.specs.declared.scene.Panel.{Panel}
 use Rattle.selection_events.specs.Brushes.{brushed_at}

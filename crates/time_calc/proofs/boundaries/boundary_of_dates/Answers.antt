@@ -1,4 +1,4 @@
-use Rattle.std.proofs.Common.{◌≡◌, true, ap, sym, ◌∙◌, subst, arith, ℤ, pos, ◌+ℤ◌, unsigned_abs, ◌<◌, FitsSigned, to_z-of_z}
+use Rattle.std.proofs.Common.{ap, ◌∙◌, arith, ℤ, FitsSigned, to_z-of_z}
 use Rattle.std.specs.Int.{w64}
 use Rattle.std.proofs.lemmas.Int.{ints}
 use Rattle.time_calc.specs.declared.calendar.Date.{Date}

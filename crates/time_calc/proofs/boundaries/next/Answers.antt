@@ -1,7 +1,6 @@
-use Rattle.std.proofs.Common.{◌≡◌, ◌∙◌, ap, sym, arith, ℤ, Some, None, refl, FitsSigned, to_z-of_z}
+use Rattle.std.proofs.Common.{◌∙◌, sym, arith, Some, None, FitsSigned, to_z-of_z}
 use Rattle.std.specs.Int.{w64}
 use Rattle.std.proofs.lemmas.Int.{ints}
-use Rattle.time_calc.specs.Instants.{instant_number}
 use Rattle.time_calc.proofs.BoundaryUnits.{answers_first}
 use Rattle.time_calc.proofs.boundaries.next.Goals as goal
 
@@ -11,7 +10,8 @@ returns-in_err-next_boundary-clause-first c =
     let low = here.low in let high = here.high in
     let instant : FitsSigned w64 c.in_ok-instant.instant = omega (arith, ints) in
     let is = simp to_z-of_z at c.next_boundary.ensures.value in
-    answers_first c.args.unit c.args.n _ None c.from_residual-in_err-next_boundary.result c.in_ok-instant.instant c.requires.some (record { low = low; high = high }) (sym here.value)
+    answers_first c.args.unit c.args.n _ None c.from_residual-in_err-next_boundary.result
+    c.in_ok-instant.instant c.requires.some (record { low = low; high = high }) (sym here.value)
     (sym c.in_err-next_boundary.was ∙ is) c.from_residual-in_err-next_boundary.ensures
 
 pub returns-clause-first : goal.returns-clause-first
@@ -24,5 +24,6 @@ returns-clause-first c =
     let from = near.low in let upto = near.high in
     let fits : FitsSigned w64 c.in_ok-next_boundary.field-0 = omega (arith, ints) in
     let number = simp to_z-of_z at c.number_of.ensures in
-    answers_first c.args.unit c.args.n _ (Some c.in_ok-next_boundary.field-0) c.number_of.result c.in_ok-instant.instant c.requires.some (record { low = low; high = high }) (sym here.value)
+    answers_first c.args.unit c.args.n _ (Some c.in_ok-next_boundary.field-0) c.number_of.result
+    c.in_ok-instant.instant c.requires.some (record { low = low; high = high }) (sym here.value)
     (sym c.in_ok-next_boundary.was ∙ is) number

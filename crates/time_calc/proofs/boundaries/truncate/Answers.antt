@@ -1,4 +1,4 @@
-use Rattle.std.proofs.Common.{◌≡◌, ◌∙◌, ap, sym, arith, Some, FitsSigned, to_z-of_z}
+use Rattle.std.proofs.Common.{◌∙◌, ap, sym, arith, Some, FitsSigned, to_z-of_z}
 use Rattle.std.specs.Int.{w64}
 use Rattle.std.proofs.lemmas.Int.{ints}
 use Rattle.time_calc.specs.Instants.{instant_number}

@@ -1,7 +1,6 @@
 use Rattle.std.proofs.Common.{arith, FitsSigned, to_z-of_z}
 use Rattle.std.specs.Int.{w64}
 use Rattle.std.proofs.lemmas.Int.{ints, clamps}
-use Rattle.time_calc.specs.NextBoundary.{truncated}
 use Rattle.time_calc.proofs.BoundaryUnits.{last_of_unit}
 use Rattle.time_calc.proofs.boundaries.truncated.Goals as goal
 

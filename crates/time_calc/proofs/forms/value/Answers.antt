@@ -8,12 +8,14 @@ loop-i-init c = so_far_at_first c.args.letter c.args.form.now c.args.text.now c.
 
 pub overflow_mul-number : goal.overflow_mul-number
 overflow_mul-number c =
-    let step = so_far_here c.args.letter c.args.form.now c.args.text.now c.loop-i.i c.loop-i.number (get_or c.args.text.now c.loop-i.i 0 - 48) c.requires.form c.requires.letter (omega arith) c.if-f-letter.true refl c.loop-i.invariant in
+    let step = so_far_here c.args.letter c.args.form.now c.args.text.now c.loop-i.i c.loop-i.number (get_or c.args.text.now c.loop-i.i 0 - 48)
+    c.requires.form c.requires.letter (omega arith) c.if-f-letter.true refl c.loop-i.invariant in
     omega (arith, step.0)
 
 pub overflow_add-number : goal.overflow_add-number
 overflow_add-number c =
-    let step = so_far_here c.args.letter c.args.form.now c.args.text.now c.loop-i.i c.loop-i.number (get_or c.args.text.now c.loop-i.i 0 - 48) c.requires.form c.requires.letter (omega arith) c.if-f-letter.true refl c.loop-i.invariant in
+    let step = so_far_here c.args.letter c.args.form.now c.args.text.now c.loop-i.i c.loop-i.number (get_or c.args.text.now c.loop-i.i 0 - 48)
+    c.requires.form c.requires.letter (omega arith) c.if-f-letter.true refl c.loop-i.invariant in
     omega (arith, step.0, step.1)
 
 pub loop-i-preserved : goal.loop-i-preserved
@@ -21,9 +23,11 @@ loop-i-preserved c =
     let P : ℕ → Type 0 = λ n. IsSoFar c.args.letter c.args.form.now c.args.text.now (c.loop-i.i + 1) n in
     elim c.if-f-letter.branch [
       | then-f-letter w ↦
-          subst P (sym w.number-is) (so_far_here c.args.letter c.args.form.now c.args.text.now c.loop-i.i c.loop-i.number w.from.result c.requires.form c.requires.letter (omega arith) w.if-f-letter.true (omega arith) c.loop-i.invariant).2
+          subst P (sym w.number-is) (so_far_here c.args.letter c.args.form.now c.args.text.now c.loop-i.i c.loop-i.number w.from.result
+          c.requires.form c.requires.letter (omega arith) w.if-f-letter.true (omega arith) c.loop-i.invariant).2
       | else-f-letter w ↦
-          subst P (sym w.number-is) (so_far_elsewhere c.args.letter c.args.form.now c.args.text.now c.loop-i.i c.loop-i.number c.requires.form (omega arith) w.if-f-letter.false c.loop-i.invariant)
+          subst P (sym w.number-is) (so_far_elsewhere c.args.letter c.args.form.now c.args.text.now c.loop-i.i
+          c.loop-i.number c.requires.form (omega arith) w.if-f-letter.false c.loop-i.invariant)
     ]
 
 pub returns-clause-value : goal.returns-clause-value

@@ -1,4 +1,4 @@
-use Rattle.std.proofs.Common.{◌≡◌, ◌∙◌, ◌++◌, ◌∷◌, [], ℕ, ◌+◌, ◌%◌, ◌/◌, ◌-◌, ap, sym, arith, append_assoc, append-nil}
+use Rattle.std.proofs.Common.{◌∙◌, ◌++◌, ◌∷◌, [], ◌+◌, ◌%◌, ◌/◌, ◌-◌, ap, sym, arith, append_assoc, append-nil}
 use Rattle.std.proofs.lemmas.Result.{IfOk-equal}
 use Rattle.time_calc.specs.Labels.{digits}
 use Rattle.time_calc.proofs.LabelLemmas.{no_digit, last_digit}

@@ -1,4 +1,4 @@
-use Rattle.std.proofs.Common.{◌≡◌, ◌∙◌, ap, sym, subst, true, false, Bool, Option, None, ℕ, List, ◌∷◌, ◌==◌}
+use Rattle.std.proofs.Common.{◌≡◌, ◌∙◌, sym, subst, true, false, Bool, Option, ℕ, List, ◌∷◌, ◌==◌}
 use Rattle.std.specs.Option.{is_some}
 use Rattle.time_calc.specs.Labels.{pieces}
 use Rattle.time_calc.specs.inner.Labels.{IsAfter}
@@ -9,7 +9,8 @@ pub returns-in_err-directive_of : goal.returns-in_err-directive_of
 returns-in_err-directive_of c =
     let P : Bool → Type 0 = λ b. IsAfter b c.args.c c.from_residual.result in
     let Q : Option Bool → Type 0 = λ o. IsAfter true c.args.c o in
-    subst P (sym c.if-after_percent.true) (subst Q (sym c.from_residual.ensures) (unknown_letter c.args.c (sym c.directive_of.ensures ∙ c.in_err-directive_of.was)))
+    subst P (sym c.if-after_percent.true)
+    (subst Q (sym c.from_residual.ensures) (unknown_letter c.args.c (sym c.directive_of.ensures ∙ c.in_err-directive_of.was)))
 
 pub returns-in_ok-directive_of : goal.returns-in_ok-directive_of
 returns-in_ok-directive_of c =

@@ -1,4 +1,4 @@
-use Rattle.std.proofs.Common.{◌≡◌, ◌∙◌, ap, sym, length, take, rules, refl}
+use Rattle.std.proofs.Common.{◌∙◌, sym, rules, refl}
 use Rattle.std.specs.Str.{chars}
 use Rattle.std.proofs.lemmas.Iterator.{YieldsList-from_chars}
 use Rattle.std.proofs.lemmas.Iterator.Consumers.{YieldsList-end, YieldsList-so_far, YieldsList-turn}
@@ -21,5 +21,6 @@ returns-in-None-after c =
 
 pub returns : goal.returns
 returns c =
-    let ended = YieldsList-end (YieldsList-from_chars c.args.text.now c.utf8.text (search rules)) c.loop-c.yielded _ c.loop-c.yielded_by _ _ c.in-None.is c.next.ensures.steps in
+    let ended = YieldsList-end (YieldsList-from_chars c.args.text.now c.utf8.text (search rules))
+    c.loop-c.yielded _ c.loop-c.yielded_by _ _ c.in-None.is c.next.ensures.steps in
     sym (holds_whole c.loop-c.yielded (chars c.args.text.now) c.loop-c.after_percent (sym (map-id c.loop-c.yielded) ∙ ended.0) c.loop-c.invariant)

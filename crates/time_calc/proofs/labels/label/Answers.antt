@@ -1,4 +1,4 @@
-use Rattle.std.proofs.Common.{◌≡◌, ◌∙◌, ap, sym, subst, Some, ℤ, arith, FitsSigned, to_z-of_z}
+use Rattle.std.proofs.Common.{◌∙◌, ap, sym, Some, arith, FitsSigned, to_z-of_z}
 use Rattle.std.specs.Int.{w64}
 use Rattle.std.proofs.lemmas.Int.{ints}
 use Rattle.time_calc.proofs.LabelLemmas.{gives_label}

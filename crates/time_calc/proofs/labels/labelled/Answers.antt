@@ -1,4 +1,4 @@
-use Rattle.std.proofs.Common.{◌≡◌, ◌∙◌, ap, sym, subst, length, take, rules, ℤ, Err, false, FitsSigned, to_z-of_z}
+use Rattle.std.proofs.Common.{◌∙◌, sym, subst, rules, ℤ, Err, false, FitsSigned, to_z-of_z}
 use Rattle.std.specs.Int.{w64}
 use Rattle.std.specs.Str.{chars}
 use Rattle.std.proofs.lemmas.Iterator.{YieldsList-from_chars}
@@ -12,7 +12,8 @@ pub loop-c-init : goal.loop-c-init
 loop-c-init c = λ rest. rw c.new-out.ensures (none_so_far _)
 
 pub loop-c-preserved : goal.loop-c-preserved
-loop-c-preserved c = one_char_more _ c.loop-c.yielded c.loop-c.out c.push_piece.new.out c.loop-c.after_percent c.in-Ok.next c.in-Some.c c.loop-c.invariant c.in-Ok.ensures
+loop-c-preserved c = one_char_more _ c.loop-c.yielded c.loop-c.out c.push_piece.new.out
+    c.loop-c.after_percent c.in-Ok.next c.in-Some.c c.loop-c.invariant c.in-Ok.ensures
 
 pub returns-in-Err : goal.returns-in-Err
 returns-in-Err c =
@@ -28,13 +29,17 @@ returns-in-Err c =
 pub returns-then-after_percent : goal.returns-then-after_percent
 returns-then-after_percent c =
     let instant : FitsSigned w64 c.args.instant = c.ranges.instant in
-    let ended = YieldsList-end (YieldsList-from_chars c.args.pattern.now c.utf8.pattern (search rules)) c.loop-c.yielded _ c.loop-c.yielded_by _ _ c.in-None.is c.next.ensures.steps in
+    let ended = YieldsList-end (YieldsList-from_chars c.args.pattern.now c.utf8.pattern (search rules))
+    c.loop-c.yielded _ c.loop-c.yielded_by _ _ c.in-None.is c.next.ensures.steps in
     let so_far = simp to_z-of_z at c.loop-c.invariant in
-    ends_open c.args.instant c.loop-c.yielded c.loop-c.out (chars c.args.pattern.now) c.loop-c.after_percent (sym (map-id c.loop-c.yielded) ∙ ended.0) c.if-after_percent.true so_far
+    ends_open c.args.instant c.loop-c.yielded c.loop-c.out (chars c.args.pattern.now) c.loop-c.after_percent
+    (sym (map-id c.loop-c.yielded) ∙ ended.0) c.if-after_percent.true so_far
 
 pub returns : goal.returns
 returns c =
     let instant : FitsSigned w64 c.args.instant = c.ranges.instant in
-    let ended = YieldsList-end (YieldsList-from_chars c.args.pattern.now c.utf8.pattern (search rules)) c.loop-c.yielded _ c.loop-c.yielded_by _ _ c.in-None.is c.next.ensures.steps in
+    let ended = YieldsList-end (YieldsList-from_chars c.args.pattern.now c.utf8.pattern (search rules))
+    c.loop-c.yielded _ c.loop-c.yielded_by _ _ c.in-None.is c.next.ensures.steps in
     let so_far = simp to_z-of_z at c.loop-c.invariant in
-    ends_whole c.args.instant c.loop-c.yielded c.loop-c.out (chars c.args.pattern.now) c.loop-c.after_percent (sym (map-id c.loop-c.yielded) ∙ ended.0) c.if-after_percent.false so_far
+    ends_whole c.args.instant c.loop-c.yielded c.loop-c.out (chars c.args.pattern.now) c.loop-c.after_percent
+    (sym (map-id c.loop-c.yielded) ∙ ended.0) c.if-after_percent.false so_far

@@ -1,10 +1,10 @@
-use Rattle.std.proofs.Common.{◌≡◌, ◌∙◌, ap, sym, subst, true, arith, ℤ, ℕ, FitsSigned, to_z-of_z, pos, neg_ℤ, ◌≤ℤ◌, ◌+ℤ◌, List}
+use Rattle.std.proofs.Common.{◌≡◌, ◌∙◌, ap, sym, subst, arith, ℤ, FitsSigned, to_z-of_z, pos, neg_ℤ, ◌≤ℤ◌, ◌+ℤ◌, List}
 use Rattle.std.specs.Int.{w64}
 use Rattle.std.proofs.lemmas.Int.{ints}
 use Rattle.case_table.specs.declared.unit.PartOf.{PartOf}
 use Rattle.time_calc.specs.Boundaries.{date_at}
 use Rattle.time_calc.specs.declared.calendar.Date.{Date}
-use Rattle.time_calc.specs.Calendar.{is_date, date_of_day, day_of_date, weekday_of}
+use Rattle.time_calc.specs.Calendar.{date_of_day, day_of_date, weekday_of}
 use Rattle.time_calc.specs.Instants.{day_of_instant}
 use Rattle.time_calc.specs.TimeUnits.{kept_month, kept_days, start_day}
 use Rattle.time_calc.proofs.CalendarLemmas.{date_of_parts}
@@ -21,7 +21,8 @@ day_of_date-requires-clause-year c =
     let instant : FitsSigned w64 c.args.instant = c.ranges.instant in
     let day = simp to_z-of_z at c.day_of_instant-day.ensures.value in
     let date = simp to_z-of_z at c.date_of_day-date.ensures.value in
-    let known = date_is c.date_of_day-date.result c.day_of_instant-day.result c.args.instant (record { low = c.requires.first; high = c.requires.last }) date day in
+    let known = date_is c.date_of_day-date.result c.day_of_instant-day.result c.args.instant
+    (record { low = c.requires.first; high = c.requires.last }) date day in
     let month = subst IsDateInRange (sym c.kept_month.ensures) (month_in_range c.args.kept.now c.date_of_day-date.result known) in
     let high = month.high in
     omega (arith, high)
@@ -32,7 +33,8 @@ day_of_date-requires-clause-date c =
     let instant : FitsSigned w64 c.args.instant = c.ranges.instant in
     let day = simp to_z-of_z at c.day_of_instant-day.ensures.value in
     let date = simp to_z-of_z at c.date_of_day-date.ensures.value in
-    let known = date_is c.date_of_day-date.result c.day_of_instant-day.result c.args.instant (record { low = c.requires.first; high = c.requires.last }) date day in
+    let known = date_is c.date_of_day-date.result c.day_of_instant-day.result c.args.instant
+    (record { low = c.requires.first; high = c.requires.last }) date day in
     let month = subst IsDateInRange (sym c.kept_month.ensures) (month_in_range c.args.kept.now c.date_of_day-date.result known) in
     date_of_parts c.kept_month.result month.has
 
@@ -42,7 +44,8 @@ kept_days-requires c =
     let instant : FitsSigned w64 c.args.instant = c.ranges.instant in
     let day = simp to_z-of_z at c.day_of_instant-day.ensures.value in
     let date = simp to_z-of_z at c.date_of_day-date.ensures.value in
-    let known = date_is c.date_of_day-date.result c.day_of_instant-day.result c.args.instant (record { low = c.requires.first; high = c.requires.last }) date day in
+    let known = date_is c.date_of_day-date.result c.day_of_instant-day.result c.args.instant
+    (record { low = c.requires.first; high = c.requires.last }) date day in
     known.has.day_low
 
 pub returns : goal.returns
@@ -64,8 +67,13 @@ returns c =
     let month = month_in_range kept (date_at c.args.instant) known in
     let near = start_in_range (kept_month kept (date_at c.args.instant)).year (kept_month kept (date_at c.args.instant)).month
     (kept_days kept (date_at c.args.instant) (weekday_of (day_of_instant c.args.instant)))
-    month.low month.high month.has.month_low month.has.month_high (days_in_range kept (date_at c.args.instant) (weekday_of (day_of_instant c.args.instant)) known (weekday_at_most_6 (day_of_instant c.args.instant))) in
+    month.low month.high month.has.month_low month.has.month_high (days_in_range kept (date_at c.args.instant)
+    (weekday_of (day_of_instant c.args.instant)) known (weekday_at_most_6 (day_of_instant c.args.instant))) in
     let low : neg_ℤ (pos 719162) ≤ℤ start_day kept c.args.instant = near.0 in
     let high : start_day kept c.args.instant ≤ℤ pos 2932531 = near.1 in
     let whole = c.from.ensures in
-    record { value = omega (arith, ints, is, whole, low, high); low = omega (arith, ints, is, whole, low, high); high = omega (arith, ints, is, whole, low, high) }
+    record {
+      value = omega (arith, ints, is, whole, low, high);
+      low = omega (arith, ints, is, whole, low, high);
+      high = omega (arith, ints, is, whole, low, high);
+    }

@@ -1,4 +1,4 @@
-use Rattle.std.proofs.Common.{◌≡◌, ◌∙◌, ap, true}
+use Rattle.std.proofs.Common.{◌∙◌, ap}
 use Rattle.time_calc.specs.Instants.{is_time}
 use Rattle.time_calc.specs.TimeUnits.{kept_time}
 use Rattle.time_calc.proofs.InstantLemmas.{instants_are_of_their_days}

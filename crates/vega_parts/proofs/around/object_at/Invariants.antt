@@ -1,4 +1,4 @@
-use Rattle.std.proofs.Common.{◌≡◌, ℕ, length}
+use Rattle.std.proofs.Common.{◌≡◌, length}
 use Rattle.std.specs.Prelude.{reverse}
 use Rattle.vega_parts.specs.Trails.{object_at}
 use Rattle.vega_parts.proofs.around.object_at.Given as goal

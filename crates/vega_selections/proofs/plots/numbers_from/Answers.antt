@@ -1,4 +1,3 @@
-use Rattle.std.proofs.Common.{arith}
 use Rattle.vega_selections.proofs.NumberLemmas.{more_numbers}
 use Rattle.vega_selections.proofs.plots.numbers_from.Goals as goal
 

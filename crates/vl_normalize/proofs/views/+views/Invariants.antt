@@ -4,4 +4,5 @@ use Rattle.vl_normalize.proofs.views.+views.Given as goal
 
 abbrev pub invariant-normal_views-loop-view : goal.invariant-normal_views-loop-view
 invariant-normal_views-loop-view l =
-    l.out ++ map (λ view. normal_view view (map (λ c. c.now) l.around)) (drop l.view-index l.views) ≡ map (λ view. normal_view view (map (λ c. c.now) l.around)) l.views
+    l.out ++ map (λ view. normal_view view (map (λ c. c.now) l.around)) (drop l.view-index l.views)
+    ≡ map (λ view. normal_view view (map (λ c. c.now) l.around)) l.views

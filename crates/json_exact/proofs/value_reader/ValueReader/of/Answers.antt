@@ -1,5 +1,4 @@
 use Rattle.std.proofs.Common.{refl, ap, sym, ◌∙◌}
-use Rattle.fixed_num.specs.Front.{first}
 use Rattle.json_exact.specs.inner.Reader.{skip_white}
 use Rattle.json_exact.proofs.ValueReaders.{whole_ahead, end_ahead, items_ahead}
 use Rattle.json_exact.proofs.value_reader.ValueReader.of.Goals as goal

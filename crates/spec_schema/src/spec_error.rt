@@ -1,6 +1,6 @@
 //! Why a specification is refused.
 ghost use Rattle.std.specs.Prelude.{◌≡◌};
-ghost use Rattle.json_exact.specs.declared.spec_error.SpecError.TheVariants.{Memory};
+ghost use Rattle.spec_schema.specs.declared.spec_error.SpecError.TheVariants.{Memory};
 
 use text_kit::{OutOfMemory, Text};
 
