@@ -107,16 +107,16 @@ second_y false form = refl
 second_y true form = refl
 
 abbrev shared_of : ℕ → SharedScale
-shared_of channel = record { channel = channel; views = 0 ∷ [] }
+shared_of channel = record { channel = channel; units = 0 ∷ [] }
 
 abbrev two_shared : List SharedScale
 two_shared = shared_of X ∷ shared_of Y ∷ []
 
 abbrev inferred_x : ScaleOf
-inferred_x = record { channel = X; views = 0 ∷ []; kind = BAND; zero = false; nice = false; inner = pos 100000; outer = pos 50000 }
+inferred_x = record { channel = X; units = 0 ∷ []; kind = BAND; zero = false; nice = false; inner = pos 100000; outer = pos 50000 }
 
 abbrev inferred_y : ScaleOf
-inferred_y = record { channel = Y; views = 0 ∷ []; kind = LINEAR; zero = true; nice = true; inner = pos 0; outer = pos 0 }
+inferred_y = record { channel = Y; units = 0 ∷ []; kind = LINEAR; zero = true; nice = true; inner = pos 0; outer = pos 0 }
 
 first_unsaid : (order_at : UnitAt → Option CellOrder) (u : UnitAt) → order_at u ≡ None → unwrap_or (first_given order_at (u ∷ [])) order.Up ≡ order.Up
 first_unsaid order_at u is = rw is refl

@@ -30,7 +30,7 @@ use Rattle.chart_plan.specs.declared.orders.CellOrder.TheVariants as order
 use Rattle.chart_plan.specs.declared.orders.RowsOrder.{RowsOrder}
 use Rattle.chart_plan.specs.declared.ranges.RangePlan.TheVariants.{Across}
 use Rattle.chart_plan.specs.declared.scales.ScalePlan.{ScalePlan}
-use Rattle.guide_infer.specs.Axes.{is_line}
+use Rattle.guide_infer.specs.Axes.{is_continuous}
 use Rattle.chart_meaning.specs.Parts.{Copy, Domain, OfCells, OfNumbers, cells_in_order, rank_over, a_copy}
 
 -- ---- cells of rows
@@ -96,7 +96,7 @@ discrete_domain values copy (domain.Columns of) =
 
 -- the domain of a scale in a copy; None where what it needs is out of range
 abbrev pub domain_in : Values → Copy → ScalePlan → Option Domain
-domain_in values copy s = if is_line s.kind then continuous_domain values copy s else discrete_domain values copy s.domain
+domain_in values copy s = if is_continuous s.kind then continuous_domain values copy s else discrete_domain values copy s.domain
 
 -- whether a scale belongs to a facet, or without one to the chart
 abbrev pub is_same_holder : Option ℕ → Option ℕ → Bool

@@ -22,7 +22,7 @@ use Rattle.chart_plan.specs.declared.ranges.RangePlan.TheVariants as range
 use Rattle.chart_plan.specs.declared.scales.ScalePlan.{ScalePlan}
 use Rattle.chart_plan.specs.declared.sizes.SizePlan.{SizePlan}
 use Rattle.chart_plan.specs.declared.sizes.SizePlan.TheVariants as size
-use Rattle.guide_infer.specs.Axes.{is_line}
+use Rattle.guide_infer.specs.Axes.{is_continuous}
 use Rattle.chart_meaning.specs.Domains.{a_scale_over}
 use Rattle.chart_meaning.specs.Parts.{Copy, Domain, OfCells, OfNumbers, a_copy}
 
@@ -39,7 +39,7 @@ ends_of_plot width height channel continuous =
 
 -- the ends between which a scale gives places or amounts; a list has none
 abbrev pub ends_in : ℤ → ℤ → ScalePlan → RangePlan → ℤ × ℤ
-ends_in width height s range.Across = ends_of_plot width height s.channel (is_line s.kind)
+ends_in width height s range.Across = ends_of_plot width height s.channel (is_continuous s.kind)
 ends_in width height s (range.Between from to) = (from, to)
 ends_in width height s (range.Entries cells) = (pos 0, pos 0)
 ends_in width height s range.Colors = (pos 0, pos 0)

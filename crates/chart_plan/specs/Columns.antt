@@ -18,7 +18,7 @@ use Rattle.unit_plan.specs.Cells.{cell_of, end_of}
 use Rattle.unit_plan.specs.Ends.{shows_stack}
 use Rattle.unit_plan.specs.Stacks.{stack_of}
 use Rattle.chart_plan.specs.declared.columns.Column.{Column}
-use Rattle.guide_infer.specs.Axes.{is_line}
+use Rattle.guide_infer.specs.Axes.{is_continuous}
 use Rattle.chart_plan.specs.Shown.{is_among}
 
 -- the cell of a definition; on a continuous scale the end of its bin too
@@ -89,4 +89,4 @@ abbrev pub columns_in : Bool → ℕ → List ℕ → UnitAt → List Column
 columns_in continuous channel sharing unit = if is_among sharing unit.number then unit_columns continuous channel unit else []
 
 abbrev pub columns_of : ℕ → ℕ → List UnitAt → List ℕ → List Column
-columns_of channel kind units sharing = flat_map (columns_in (is_line kind) channel sharing) units
+columns_of channel kind units sharing = flat_map (columns_in (is_continuous kind) channel sharing) units

@@ -22,7 +22,7 @@ use Rattle.chart_plan.specs.declared.domains.DomainPlan.{DomainPlan}
 use Rattle.chart_plan.specs.declared.domains.DomainPlan.TheVariants.{Cells, Columns}
 use Rattle.chart_plan.specs.declared.orders.CellOrder.{CellOrder}
 use Rattle.chart_plan.specs.declared.orders.CellOrder.TheVariants.{Up}
-use Rattle.guide_infer.specs.Axes.{is_line}
+use Rattle.guide_infer.specs.Axes.{is_continuous}
 use Rattle.chart_plan.specs.Columns.{columns_of}
 use Rattle.guide_infer.specs.First.{first_given}
 use Rattle.chart_plan.specs.Orders.{order_of}
@@ -70,7 +70,7 @@ raw_by params (domain.Param of) = ends_of params of
 
 -- the expression that gives a continuous scale its domain where it gives a pair
 abbrev pub raw_of : List ParamOf → ℕ → List Scale → Option Expr
-raw_of params kind said = if is_line kind then option_and_then (raw_by params) (domain_said said) else None
+raw_of params kind said = if is_continuous kind then option_and_then (raw_by params) (domain_said said) else None
 
 -- ---- lists and rows
 
@@ -81,7 +81,7 @@ listed (domain.Param of) = None
 
 -- the order of the cells of a scale; on a continuous one it doesn't show
 abbrev pub order_for : ℕ → ℕ → List UnitAt → List ℕ → CellOrder
-order_for channel kind units sharing = if is_line kind then Up else order_of channel units sharing
+order_for channel kind units sharing = if is_continuous kind then Up else order_of channel units sharing
 
 abbrev pub of_rows : ℕ → ℕ → List UnitAt → List ℕ → DomainPlan
 of_rows channel kind units sharing =

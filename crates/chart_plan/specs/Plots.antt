@@ -20,7 +20,7 @@ use Rattle.chart_plan.specs.declared.plots.AxisPlan.{AxisPlan}
 use Rattle.chart_plan.specs.declared.plots.PlotPlan.{PlotPlan}
 use Rattle.chart_plan.specs.declared.scales.ScalePlan.{ScalePlan}
 use Rattle.chart_plan.specs.declared.sizes.SizePlan.{SizePlan}
-use Rattle.guide_infer.specs.Axes.{axis_by, is_line}
+use Rattle.guide_infer.specs.Axes.{axis_by, is_continuous}
 use Rattle.guide_infer.specs.First.{first_given}
 use Rattle.guide_infer.specs.Said.{is_bare, with_axes}
 use Rattle.chart_plan.specs.Scales.{seen_by}
@@ -95,7 +95,7 @@ scale_of_plot channel plot scales units =
 
 abbrev pub size_on : ℕ → Option ConfigView → List Size → Option ScaleSeen → SizePlan
 size_on channel config sizes None = size_of channel false 0 config sizes
-size_on channel config sizes (Some scale) = size_of channel (is_line scale.kind) scale.number config sizes
+size_on channel config sizes (Some scale) = size_of channel (is_continuous scale.kind) scale.number config sizes
 
 abbrev pub plot_size : ℕ → ℕ → Option ConfigView → List ScalePlan → List UnitAt → SizePlan
 plot_size channel plot config scales units = size_on channel config (sizes_said channel plot units) (scale_of_plot channel plot scales units)

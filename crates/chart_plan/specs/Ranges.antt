@@ -16,7 +16,7 @@ use Rattle.vl_spec.specs.declared.scales.Scheme.TheVariants as scheme
 use Rattle.scale_infer.specs.declared.codes.TheConstants.{LINEAR, TIME, BAND, POINT, ORDINAL, RAMP}
 use Rattle.chart_plan.specs.declared.ranges.RangePlan.{RangePlan}
 use Rattle.chart_plan.specs.declared.ranges.RangePlan.TheVariants.{Across, Between, Entries, Colors, Blues, Signs}
-use Rattle.guide_infer.specs.Axes.{is_line}
+use Rattle.guide_infer.specs.Axes.{is_continuous}
 use Rattle.guide_infer.specs.First.{first_given}
 
 -- a range between the numbers of two cells
@@ -95,7 +95,7 @@ reverse_of said = unwrap_or (first_given (λ (s : Scale). s.reverse) said) false
 
 -- whether a range rises, before it is turned round
 abbrev pub runs_up : ℕ → ℕ → RangePlan → Bool
-runs_up channel kind Across = not (channel == Y && is_line kind)
+runs_up channel kind Across = not (channel == Y && is_continuous kind)
 runs_up channel kind (Between from to) = int_le from to
 runs_up channel kind (Entries cells) = true
 runs_up channel kind Colors = true

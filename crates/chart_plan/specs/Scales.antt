@@ -52,7 +52,7 @@ scales_said definitions = filter_map scale_in definitions
 -- the domain of a scale on which these definitions are shown: without any it is that of a unit alone
 abbrev pub domain_of : ScaleOf → List UnitAt → List Definition → DomainPlan
 domain_of scale units shown =
-    if is_bare shown then alone_domain else shared_domain scale.channel scale.kind units scale.views (scales_said shown)
+    if is_bare shown then alone_domain else shared_domain scale.channel scale.kind units scale.units (scales_said shown)
 
 -- whether the first of some definitions shows instants
 abbrev pub shows_instants : List Definition → Bool
@@ -67,10 +67,10 @@ is_time kind shown = kind == TIME || (kind == RAMP && shows_instants shown)
 abbrev pub scale_with : List ParamOf → List UnitAt → ScaleOf → List Definition → ScalePlan
 scale_with params units scale shown = record {
   channel = scale.channel;
-  units = scale.views;
+  units = scale.units;
   kind = scale.kind;
   is_time = is_time scale.kind shown;
-  holder = holder_of scale.channel units scale.views;
+  holder = holder_of scale.channel units scale.units;
   domain = domain_of scale units shown;
   raw = raw_of params scale.kind (scales_said shown);
   range = range_of scale.channel scale.kind (scales_said shown);
@@ -84,7 +84,7 @@ scale_with params units scale shown = record {
 }
 
 abbrev pub scale_of : List ParamOf → List UnitAt → ScaleOf → ScalePlan
-scale_of params units scale = scale_with params units scale (all_shown units scale.channel scale.views)
+scale_of params units scale = scale_with params units scale (all_shown units scale.channel scale.units)
 
 -- ---- scales as units see them
 

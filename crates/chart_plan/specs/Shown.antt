@@ -25,7 +25,7 @@ all_shown units channel sharing = flat_map (shown_in channel sharing) units
 
 -- the scale of a unit alone
 abbrev pub alone_in : ℕ → UnitAt → SharedScale
-alone_in channel unit = record { channel = channel; views = unit.number ∷ [] }
+alone_in channel unit = record { channel = channel; units = unit.number ∷ [] }
 
 -- those of units that show nothing on a scale in a channel
 abbrev pub alone_for : List UnitAt → ℕ → List SharedScale

@@ -8,7 +8,7 @@ ghost use Rattle.chart_plan.specs.Columns.{second_of, cells_at, second_cells, un
 
 use crate::seconds::seconds_at;
 use crate::shown::is_among;
-use guide_infer::is_line;
+use guide_infer::is_continuous;
 use scale_infer::is_binned;
 use std::alloc::Global;
 use text_kit::{OutOfMemory, Seq, Text};
@@ -306,7 +306,7 @@ pub(crate) fn columns_of(
 ) -> Result<Seq<Column>, OutOfMemory>
     ensures { IfOk result (λ columns. columns ≡ columns_of channel kind (map unit_shown units.now) sharing.now) }
 {
-    let continuous = is_line(kind);
+    let continuous = is_continuous(kind);
     let mut out = Seq::new(alloc);
     for unit in units {
         push_columns_in(alloc, continuous, channel, sharing, unit, &mut out)?;

@@ -10,7 +10,7 @@ use crate::columns::{Column, columns_of};
 use crate::orders::{CellOrder, order_of};
 use cell_value::Cell;
 use expr_syntax::Expr;
-use guide_infer::is_line;
+use guide_infer::is_continuous;
 use std::alloc::Global;
 use text_kit::{Copies, OutOfMemory, Seq, Text};
 use vl_compose::UnitHere;
@@ -189,7 +189,7 @@ pub(crate) fn raw_of(
 ) -> Result<Option<Expr>, OutOfMemory>
     ensures { IfOk result (λ e. e ≡ raw_of params.now kind (map (λ s. s.now) said.now)) }
 {
-    if is_line(kind) {
+    if is_continuous(kind) {
         raw_said(alloc, params, said)
     } else {
         Ok(None)
@@ -206,7 +206,7 @@ fn order_for(
 ) -> Result<CellOrder, OutOfMemory>
     ensures { IfOk result (λ order. order ≡ order_for channel kind (map unit_shown units.now) sharing.now) }
 {
-    if is_line(kind) {
+    if is_continuous(kind) {
         Ok(CellOrder::Up)
     } else {
         order_of(alloc, channel, units, sharing)

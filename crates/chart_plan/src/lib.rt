@@ -5,11 +5,14 @@
 
 mod columns;
 mod domains;
+mod drags;
 mod grids;
 mod kept;
 mod marked;
 mod orders;
 mod plan;
+mod plot_axes;
+mod plot_sizes;
 mod plots;
 mod ranges;
 mod scales;

@@ -7,7 +7,7 @@ ghost use Rattle.chart_plan.specs.Ranges.{default_entries, default_ends, range_o
 
 use cell_value::Cell;
 use fixed_num::Num;
-use guide_infer::is_line;
+use guide_infer::is_continuous;
 use scale_infer::{ORDINAL, RAMP};
 use std::alloc::Global;
 use text_kit::{Copies, OutOfMemory, Seq};
@@ -257,7 +257,7 @@ fn runs_up(channel: u16, kind: u16, range: &RangePlan) -> bool
     ensures { result ≡ runs_up channel kind range.now }
 {
     match range {
-        RangePlan::Across => !(channel == Y && is_line(kind)),
+        RangePlan::Across => !(channel == Y && is_continuous(kind)),
         RangePlan::Between(from, to) => from.millionths() <= to.millionths(),
         RangePlan::Entries(_) | RangePlan::Colors | RangePlan::Blues | RangePlan::Signs => true,
     }

@@ -238,7 +238,7 @@ fn domain_shown(
     shown: &[&Definition],
 ) -> Result<DomainPlan, OutOfMemory>
     ensures { IfOk result (λ domain. domain
-        ≡ shared_domain scale.now.channel scale.now.kind (map unit_shown units.now) scale.now.views (scales_said (map (λ d. d.now) shown.now))) }
+        ≡ shared_domain scale.now.channel scale.now.kind (map unit_shown units.now) scale.now.units (scales_said (map (λ d. d.now) shown.now))) }
 {
     let said = scales_said(alloc, shown)?;
     domains::shared_domain(
@@ -246,7 +246,7 @@ fn domain_shown(
         scale.channel,
         scale.kind,
         units,
-        scale.views.as_slice(),
+        scale.units.as_slice(),
         said.as_slice(),
     )
 }
@@ -278,7 +278,7 @@ fn scale_with(
     ensures { IfOk result (λ plan. plan ≡ scale_with params.now (map unit_shown units.now) scale.now (map (λ d. d.now) shown.now)) }
 {
     let said = scales_said(alloc, shown)?;
-    let sharing = Seq::from_slice(alloc, scale.views.as_slice())?;
+    let sharing = Seq::from_slice(alloc, scale.units.as_slice())?;
     let legend = legend_of(alloc, scale.channel, shown)?;
     let range = range_of(alloc, scale.channel, scale.kind, said.as_slice())?;
     let domain = domain_of(alloc, scale, units, shown)?;
@@ -288,7 +288,7 @@ fn scale_with(
         units: sharing,
         kind: scale.kind,
         is_time: is_time(scale.kind, shown),
-        holder: holder_of(scale.channel, units, scale.views.as_slice()),
+        holder: holder_of(scale.channel, units, scale.units.as_slice()),
         domain,
         raw,
         range,
@@ -311,7 +311,7 @@ fn scale_of(
 ) -> Result<ScalePlan, OutOfMemory>
     ensures { IfOk result (λ plan. plan ≡ scale_of params.now (map unit_shown units.now) scale.now) }
 {
-    let shown = all_shown(alloc, units, scale.channel, scale.views.as_slice())?;
+    let shown = all_shown(alloc, units, scale.channel, scale.units.as_slice())?;
     scale_with(alloc, params, units, scale, shown.as_slice())
 }
 

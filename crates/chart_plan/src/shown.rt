@@ -93,9 +93,9 @@ fn push_alone(
 ) -> Result<(), OutOfMemory>
     ensures { OnOk result (scales.new ≡ scales.old ++ alone_in channel (unit_shown unit.now) ∷ []) }
 {
-    let mut views = Seq::new(alloc);
-    views.push(small(unit.number)?)?;
-    scales.push(SharedScale { channel, views })
+    let mut units = Seq::new(alloc);
+    units.push(small(unit.number)?)?;
+    scales.push(SharedScale { channel, units })
 }
 
 // Adds the scale of a unit that has none in a channel.

@@ -26,7 +26,7 @@ pub fn shared(alloc: Global, s: &VlSpec) -> Result<Text, OutOfMemory> {
     let mut out = Text::new(alloc);
     for scale in scales.as_slice() {
         out.push_str(channel_name(scale.channel))?;
-        say_numbers(alloc, &mut out, scale.views.as_slice())?;
+        say_numbers(alloc, &mut out, scale.units.as_slice())?;
         out.push_str(";")?;
     }
     Ok(out)

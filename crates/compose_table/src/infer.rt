@@ -67,7 +67,7 @@ fn say_paddings(out: &mut Text, scale: &ScaleOf) -> Result<(), OutOfMemory> {
 // Adds a scale.
 fn say_scale(alloc: Global, out: &mut Text, scale: &ScaleOf) -> Result<(), OutOfMemory> {
     out.push_str(channel_name(scale.channel))?;
-    say_views(alloc, out, scale.views.as_slice())?;
+    say_views(alloc, out, scale.units.as_slice())?;
     out.push_str(" ")?;
     out.push_str(kind_name(scale.kind))?;
     say_flag(out, " zero", scale.zero)?;

@@ -24,8 +24,8 @@ use Rattle.guide_infer.specs.Said.{axes_said, first_field}
 use Rattle.guide_infer.specs.Titles.{axis_title, joined_titles, field_titled}
 
 -- whether a scale of a kind is continuous
-abbrev pub is_line : ℕ → Bool
-is_line kind = kind == LINEAR || (kind == TIME || kind == RAMP)
+abbrev pub is_continuous : ℕ → Bool
+is_continuous kind = kind == LINEAR || (kind == TIME || kind == RAMP)
 
 -- the side of a plot
 abbrev pub edge_of : Side → Edge
@@ -50,10 +50,10 @@ is_unbinned definitions = not (option_map_or is_binned (first_field definitions)
 
 -- whether an axis has grid lines, and whether its labels are turned, where nothing is said
 abbrev pub default_grid : ℕ → List Definition → Bool
-default_grid kind definitions = is_line kind && is_unbinned definitions
+default_grid kind definitions = is_continuous kind && is_unbinned definitions
 
 abbrev pub default_turn : ℕ → ℕ → Bool
-default_turn channel kind = channel == X && not (is_line kind)
+default_turn channel kind = channel == X && not (is_continuous kind)
 
 -- an angle turns labels unless it is 0
 abbrev pub turns : ℤ → Bool

@@ -3,7 +3,7 @@ ghost use Rattle.std.specs.Prelude.{◌≡◌, map, option_map, unwrap_or, IfOk}
 ghost use Rattle.std.specs.Option.{option_or};
 ghost use Rattle.guide_infer.specs.First.{first_given};
 ghost use Rattle.guide_infer.specs.Labels.{default_format};
-ghost use Rattle.guide_infer.specs.Axes.{is_line, edge_of, first_side, later_side, default_side, is_unbinned, default_grid, default_turn};
+ghost use Rattle.guide_infer.specs.Axes.{is_continuous, edge_of, first_side, later_side, default_side, is_unbinned, default_grid, default_turn};
 ghost use Rattle.guide_infer.specs.Axes.{turns, count_of, axis_said, axis_by};
 
 use crate::labels;
@@ -22,8 +22,8 @@ use vl_normalize::X;
 use vl_spec::{Axis, Definition, Side};
 
 /// Whether a scale of a kind is continuous.
-pub fn is_line(kind: u16) -> bool
-    ensures { result ≡ is_line kind }
+pub fn is_continuous(kind: u16) -> bool
+    ensures { result ≡ is_continuous kind }
 {
     kind == LINEAR || (kind == TIME || kind == RAMP)
 }
@@ -103,14 +103,14 @@ fn flag_or(given: Option<bool>, absent: bool) -> bool
 fn default_grid(kind: u16, definitions: &[&Definition]) -> bool
     ensures { result ≡ default_grid kind (map (λ d. d.now) definitions.now) }
 {
-    is_line(kind) && is_unbinned(definitions)
+    is_continuous(kind) && is_unbinned(definitions)
 }
 
 // Whether its labels are turned where nothing is said.
 fn default_turn(channel: u16, kind: u16) -> bool
     ensures { result ≡ default_turn channel kind }
 {
-    channel == X && !is_line(kind)
+    channel == X && !is_continuous(kind)
 }
 
 // Whether an angle turns labels.

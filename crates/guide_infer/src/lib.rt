@@ -11,7 +11,7 @@ mod said;
 mod titles;
 mod words;
 
-pub use axes::{axis_by, count_of, is_line};
+pub use axes::{axis_by, count_of, is_continuous};
 pub use legends::legend_of;
 pub use once::each_once;
 pub use said::{is_bare, with_axes};

@@ -49,9 +49,9 @@ sharers_at units channel numbers = filter_map (sharer_at units channel) numbers
 
 -- the scale of a channel that these units share
 abbrev pub scale_over : ℕ → List ℕ → List Sharer → ScaleOf
-scale_over channel views sharers = record {
+scale_over channel units sharers = record {
   channel = channel;
-  views = views;
+  units = units;
   kind = kind_of channel sharers;
   zero = zero_of channel sharers;
   nice = nice_of channel sharers;
@@ -61,7 +61,7 @@ scale_over channel views sharers = record {
 
 -- the scale that units share, by their numbers
 abbrev pub scale_of : List UnitAt → SharedScale → ScaleOf
-scale_of units shared = scale_over shared.channel shared.views (sharers_at units shared.channel shared.views)
+scale_of units shared = scale_over shared.channel shared.units (sharers_at units shared.channel shared.units)
 
 -- the scales of a specification that units share
 abbrev pub scales_of : VlSpec → List SharedScale → List ScaleOf
@@ -79,18 +79,18 @@ numbers = numbers_said false false None None
 
 a_line_and_its_points :
     scale_over X (0 ∷ 1 ∷ []) (unit_saying mark.Line false numbers ∷ unit_saying mark.Point false numbers ∷ [])
-    ≡ record { channel = X; views = 0 ∷ 1 ∷ []; kind = LINEAR; zero = true; nice = true; inner = pos 0; outer = pos 0 }
+    ≡ record { channel = X; units = 0 ∷ 1 ∷ []; kind = LINEAR; zero = true; nice = true; inner = pos 0; outer = pos 0 }
 a_line_and_its_points = refl
 
 bars_over_nothing :
     scale_over X (3 ∷ []) (silent mark.Bar ∷ [])
-    ≡ record { channel = X; views = 3 ∷ []; kind = BAND; zero = false; nice = false; inner = pos 100000; outer = pos 50000 }
+    ≡ record { channel = X; units = 3 ∷ []; kind = BAND; zero = false; nice = false; inner = pos 100000; outer = pos 50000 }
 unfolding rounded floor_quotient
 bars_over_nothing = refl
 
 points_over_nothing :
     scale_over Y (0 ∷ []) (silent mark.Circle ∷ [])
-    ≡ record { channel = Y; views = 0 ∷ []; kind = POINT; zero = false; nice = false; inner = pos million; outer = pos 500000 }
+    ≡ record { channel = Y; units = 0 ∷ []; kind = POINT; zero = false; nice = false; inner = pos million; outer = pos 500000 }
 points_over_nothing = refl
 
 no_such_unit : sharers_at [] X (0 ∷ []) ≡ []

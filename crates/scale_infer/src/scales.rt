@@ -17,8 +17,8 @@ use vl_spec::VlSpec;
 pub struct ScaleOf {
     /// The code of the channel among `case_table::CHANNELS`.
     pub channel: u16,
-    /// The numbers of the unit views that share it.
-    pub views: Seq<u32>,
+    /// The numbers of the units that share it.
+    pub units: Seq<u32>,
     /// The code of its kind among `case_table::SCALE_KINDS`.
     pub kind: u16,
     /// Whether its domain takes in 0.
@@ -35,7 +35,7 @@ impl Drop for ScaleOf {
     fn drop(self) {
         let ScaleOf {
             channel: _,
-            views: _,
+            units: _,
             kind: _,
             zero: _,
             nice: _,
@@ -49,18 +49,18 @@ impl Drop for ScaleOf {
 fn scale_over(
     alloc: Global,
     channel: u16,
-    views: &[u32],
+    units: &[u32],
     sharers: &[Sharer],
 ) -> Result<ScaleOf, OutOfMemory>
-    ensures { IfOk result (λ scale. scale ≡ scale_over channel views.now sharers.now) }
+    ensures { IfOk result (λ scale. scale ≡ scale_over channel units.now sharers.now) }
 {
-    let views = Seq::from_slice(alloc, views)?;
+    let units = Seq::from_slice(alloc, units)?;
     let said = all_said(alloc, sharers)?;
     let kind = kind_of(channel, sharers, said.as_slice());
     let rects = all_have_rects(sharers);
     Ok(ScaleOf {
         channel,
-        views,
+        units,
         kind,
         zero: zero_of(channel, sharers, said.as_slice()),
         nice: nice_of(channel, sharers, said.as_slice()),
@@ -73,11 +73,11 @@ fn scale_over(
 fn scale_of(alloc: Global, units: &[UnitHere], shared: &SharedScale) -> Result<ScaleOf, OutOfMemory>
     ensures { IfOk result (λ scale. scale ≡ scale_of (map unit_shown units.now) shared.now) }
 {
-    let sharers = sharers_at(alloc, units, shared.channel, shared.views.as_slice())?;
+    let sharers = sharers_at(alloc, units, shared.channel, shared.units.as_slice())?;
     scale_over(
         alloc,
         shared.channel,
-        shared.views.as_slice(),
+        shared.units.as_slice(),
         sharers.as_slice(),
     )
 }
@@ -97,7 +97,7 @@ fn scales_of(
     Ok(scales)
 }
 
-/// The scales of a specification: one for each channel and the unit views that share its scale, in their order. What the unit views are
+/// The scales of a specification: one for each channel and the units that share its scale, in their order. What the units are
 /// and what they share, the crate of their composition says of the same specification.
 pub fn infer(
     alloc: Global,

@@ -19,6 +19,8 @@ mod numbers;
 mod plans;
 mod reads;
 mod rows;
+mod scale_ends;
+mod second_ends;
 mod seen;
 mod selections;
 mod shapes;
@@ -30,7 +32,7 @@ mod texts;
 mod transforms;
 
 pub use cells::{CellOf, cell_of, end_of};
-pub use ends::{End, shows_stack};
+pub use ends::End;
 pub use exprs::{binary, call_one, choose, literal, pair, whole};
 pub use filters::{all_hold, filter_expr, test_expr};
 pub use groups::group_names;
@@ -39,6 +41,7 @@ pub use marks::{
     Along, Look, LookWay, MarkPlan, MarkShape, Spot, SpotWay, TextLook, Words, WordsWay,
 };
 pub use plans::{UnitPlan, unit_plan_of};
+pub use scale_ends::shows_stack;
 pub use seen::{ScaleSeen, seen_at};
 pub use selections::{SelectionNames, selection_names};
 pub use stacks::{Stacked, stack_of};

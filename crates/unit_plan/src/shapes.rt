@@ -16,10 +16,12 @@ ghost use Rattle.unit_plan.specs.Selections.{is_selection};
 ghost use Rattle.unit_plan.specs.Ticks.{is_upright, half_across, half_down};
 ghost use Rattle.unit_plan.specs.inner.LentLanes.{lane_shown};
 
-use crate::ends::{End, always_nowhere, base, has_none, seconds, ways};
+use crate::ends::{End, base, has_none, ways};
 use crate::lanes::LaneHere;
 use crate::marks::{Along, MarkShape, SpotWay};
 use crate::numbers::millionths;
+use crate::scale_ends::always_nowhere;
+use crate::second_ends::seconds;
 use crate::selections::SelectionNames;
 use crate::shows::first_at;
 use fixed_num::Num;

@@ -43,9 +43,9 @@ fn push_alone(
     match first_at(alloc, unit, channel)? {
         Some(_) => Ok(()),
         None => {
-            let mut views = Seq::new(alloc);
-            views.push(small(unit.number))?;
-            shared.push(SharedScale { channel, views })
+            let mut units = Seq::new(alloc);
+            units.push(small(unit.number))?;
+            shared.push(SharedScale { channel, units })
         }
     }
 }
@@ -112,7 +112,7 @@ fn push_seen(
     unit: &UnitHere,
     seen: &mut Seq<ScaleSeen>,
 ) -> Result<(), OutOfMemory> {
-    if !is_among(scale.views.as_slice(), unit.number) {
+    if !is_among(scale.units.as_slice(), unit.number) {
         return Ok(());
     }
     let (reversed, alone) = match first_at(alloc, unit, scale.channel)? {

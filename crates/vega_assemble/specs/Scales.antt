@@ -18,7 +18,7 @@ use Rattle.unit_plan.specs.declared.marks.Spot.{Spot}
 use Rattle.unit_plan.specs.declared.marks.Spot.TheVariants as spot
 use Rattle.unit_plan.specs.declared.marks.SpotWay.{SpotWay}
 use Rattle.unit_plan.specs.declared.plans.UnitPlan.{UnitPlan}
-use Rattle.guide_infer.specs.Axes.{is_line}
+use Rattle.guide_infer.specs.Axes.{is_continuous}
 use Rattle.chart_plan.specs.declared.ranges.RangePlan.{RangePlan}
 use Rattle.chart_plan.specs.declared.ranges.RangePlan.TheVariants as given
 use Rattle.chart_plan.specs.declared.scales.ScalePlan.{ScalePlan}
@@ -70,8 +70,8 @@ scale_over name over s = record {
   domain = over;
   domain_raw = s.raw;
   range = range_written s.channel s.range;
-  zero = flag_if (is_line s.kind) s.zero;
-  nice = flag_if (is_line s.kind) s.nice;
+  zero = flag_if (is_continuous s.kind) s.zero;
+  nice = flag_if (is_continuous s.kind) s.nice;
   reverse = flag_if s.reverse true;
   padding = None;
   padding_inner = number_if (has_inner s.kind) s.inner;
@@ -80,7 +80,7 @@ scale_over name over s = record {
 
 -- a scale of the plan by its number
 abbrev pub scale_written : List ℕ → List ScalePlan → ℕ × ScalePlan → Scale
-scale_written stem scales s = scale_over (scale_name stem scales s.0) (domain_written stem s.0 (is_line s.1.kind) s.1.domain) s.1
+scale_written stem scales s = scale_over (scale_name stem scales s.0) (domain_written stem s.0 (is_continuous s.1.kind) s.1.domain) s.1
 
 -- ---- helpers
 

@@ -14,7 +14,7 @@ use crate::several::{expr_beside, two_of};
 use cell_value::Cell;
 use chart_plan::{RangePlan, ScalePlan};
 use fixed_num::Num;
-use guide_infer::is_line;
+use guide_infer::is_continuous;
 use scale_infer::{BAND, LINEAR, POINT, RAMP, TIME};
 use std::alloc::Global;
 use text_kit::{Copies, OutOfMemory, Seq, Text};
@@ -132,8 +132,8 @@ pub(crate) fn scale_over(
         domain,
         domain_raw,
         range,
-        zero: flag_if(is_line(scale.kind), scale.zero),
-        nice: flag_if(is_line(scale.kind), scale.nice),
+        zero: flag_if(is_continuous(scale.kind), scale.zero),
+        nice: flag_if(is_continuous(scale.kind), scale.nice),
         reverse: flag_if(scale.reverse, true),
         padding: None,
         padding_inner: number_if(has_inner(scale.kind), scale.inner),
@@ -152,7 +152,13 @@ pub(crate) fn scale_written(
     ensures { IfOk result (λ made. made ≡ scale_written stem.now scales.now (number, scale.now)) }
 {
     let name = scale_name(alloc, stem, scales, number)?;
-    let domain = domain_written(alloc, stem, number, is_line(scale.kind), &scale.domain)?;
+    let domain = domain_written(
+        alloc,
+        stem,
+        number,
+        is_continuous(scale.kind),
+        &scale.domain,
+    )?;
     scale_over(alloc, name, domain, scale)
 }
 

@@ -90,11 +90,11 @@ led true code all x left = refl
 led false code all x left = refl
 
 pub one_group : (code : ℕ) (all : List Homed) (n : ℕ) (x : Homed) (row : List ℕ) (old new whole : List SharedScale) → n < length all → x ≡ get_or all n x →
-    row ≡ sharing_at all x.home → new ≡ old ++ cond (is_first x.number row) (record { channel = code; views = row } ∷ []) [] →
+    row ≡ sharing_at all x.home → new ≡ old ++ cond (is_first x.number row) (record { channel = code; units = row } ∷ []) [] →
     old ++ groups_left code all (drop n all) ≡ whole → new ++ groups_left code all (drop (n + 1) all) ≡ whole
 one_group code all n x row old new whole within is row_is added so_far =
     ap (λ gs. gs ++ groups_left code all (drop (n + 1) all))
-    (added ∙ ap (λ row. old ++ cond (is_first x.number row) (record { channel = code; views = row } ∷ []) []) row_is)
+    (added ∙ ap (λ row. old ++ cond (is_first x.number row) (record { channel = code; units = row } ∷ []) []) row_is)
     ∙ append_assoc old (cond (leads all x) (group_at code all x ∷ []) []) (groups_left code all (drop (n + 1) all))
     ∙ ap (λ gs. old ++ gs) (sym (led (leads all x) code all x (filter (leads all) (drop (n + 1) all))))
     ∙ ap (λ (y : Homed). old ++ groups_left code all (y ∷ drop (n + 1) all)) is

@@ -95,7 +95,7 @@ shared_once code front back h apart =
     ∙ (λ i. map (group_at code all)
     (filter (λ (y : Homed). eq-eqb code code refl i && list_any (λ m. eqb m h.number) (sharing_at all y.home)) (filter (leads all) all)))
     ∙ ap (map (group_at code all)) found.alone
-    ∙ (λ i. record { channel = code; views = sharing_at all (found.home_is i) } ∷ [])
+    ∙ (λ i. record { channel = code; units = sharing_at all (found.home_is i) } ∷ [])
 
 -- of those of another channel it shares none
 none_of_another : (code other number : ℕ) (all list : List Homed) → eqb other code ≡ false →

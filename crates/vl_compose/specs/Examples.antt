@@ -81,6 +81,6 @@ shares : ℕ → ℕ → Homed
 shares number home = record { number = number; home = home }
 
 groups_stand_by_their_first : groups_among COLOR (shares 0 3 ∷ shares 1 0 ∷ shares 2 3 ∷ [])
-    ≡ record { channel = COLOR; views = 0 ∷ 2 ∷ [] } ∷ record { channel = COLOR; views = 1 ∷ [] } ∷ []
+    ≡ record { channel = COLOR; units = 0 ∷ 2 ∷ [] } ∷ record { channel = COLOR; units = 1 ∷ [] } ∷ []
 unfolding shares
 groups_stand_by_their_first = refl

@@ -8,7 +8,7 @@ use Rattle.vl_compose.specs.Units.{UnitAt, units_of}
 
 -- whether a scale is one of a channel that a unit of this number shares
 abbrev pub is_shared_by : ℕ → ℕ → SharedScale → Bool
-is_shared_by code number scale = scale.channel == code && list_any (λ n. n == number) scale.views
+is_shared_by code number scale = scale.channel == code && list_any (λ n. n == number) scale.units
 
 -- Of the scales of a specification exactly one is that of a channel and a unit which has a scale for it: the one of those units that share the
 -- channel up to the same view.

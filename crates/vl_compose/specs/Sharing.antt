@@ -1,4 +1,4 @@
--- Which units share which scale. The views of a scale are these units, by their numbers.
+-- Which units share which scale, by their numbers.
 use Rattle.std.specs.Prelude.{ℕ, ◌==◌, Bool, true, false, ◌||◌, Option, List, [], ◌∷◌, filter, find, flat_map, map, unwrap_or}
 use Rattle.std.specs.Option.{option_map, option_map_or, option_and_then}
 use Rattle.vl_spec.specs.declared.sizes.Resolve.{Resolve}
@@ -70,7 +70,7 @@ leads all h = is_first h.number (sharing_at all h.home)
 
 -- the scale that a unit shares with others
 abbrev pub group_at : ℕ → List Homed → Homed → SharedScale
-group_at code all h = record { channel = code; views = sharing_at all h.home }
+group_at code all h = record { channel = code; units = sharing_at all h.home }
 
 -- the scales of a channel, in the order of their first units
 abbrev pub groups_among : ℕ → List Homed → List SharedScale

@@ -133,13 +133,13 @@ fn push_group(
     groups: &mut Seq<SharedScale>,
 ) -> Result<(), OutOfMemory>
     ensures { OnOk result (groups.new
-        ≡ groups.old ++ (if is_first number row.now then record { channel = code; views = row.now } ∷ [] else [])) }
+        ≡ groups.old ++ (if is_first number row.now then record { channel = code; units = row.now } ∷ [] else [])) }
 {
     if is_first(number, row) {
-        let views = Seq::from_slice(alloc, row)?;
+        let units = Seq::from_slice(alloc, row)?;
         groups.push(SharedScale {
             channel: code,
-            views,
+            units,
         })
     } else {
         Ok(())

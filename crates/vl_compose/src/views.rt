@@ -24,8 +24,8 @@ pub struct UnitView {
 pub struct SharedScale {
     /// The code of its channel among `case_table::CHANNELS`.
     pub channel: u16,
-    /// The numbers of the unit views, ascending.
-    pub views: Seq<u32>,
+    /// The numbers of its units, ascending.
+    pub units: Seq<u32>,
 }
 
 // A number of 32 bits; there is no memory for more units than it counts.

@@ -1,6 +1,6 @@
 use Rattle.std.proofs.Common.{◌≡◌, ◌++◌, drop}
 use Rattle.chart_plan.specs.Plots.{edges_of}
-use Rattle.chart_plan.proofs.plots.edges_of.Given as goal
+use Rattle.chart_plan.proofs.plot_axes.edges_of.Given as goal
 
 abbrev pub invariant-loop-facet : goal.invariant-loop-facet
 invariant-loop-facet l =

@@ -4,7 +4,7 @@ use Rattle.std.specs.List.{filter_map}
 use Rattle.std.specs.Option.{option_map_or}
 use Rattle.chart_plan.specs.Selections.{drag_of}
 use Rattle.chart_plan.specs.inner.Marked.{first_at, unit_there}
-use Rattle.chart_plan.proofs.selections.dragged.Goals as goal
+use Rattle.chart_plan.proofs.drags.dragged.Goals as goal
 
 pub returns : goal.returns
 returns c =

@@ -3,7 +3,7 @@ use Rattle.unit_plan.specs.Ends.{second, way}
 use Rattle.unit_plan.specs.Selections.{is_selection}
 use Rattle.unit_plan.specs.inner.Lent.{branches_shown}
 use Rattle.unit_plan.specs.inner.LentLanes.{lane_shown}
-use Rattle.unit_plan.proofs.ends.push_seconds.Given as goal
+use Rattle.unit_plan.proofs.second_ends.push_seconds.Given as goal
 
 abbrev pub invariant-loop-branch : goal.invariant-loop-branch
 invariant-loop-branch l =

@@ -2,7 +2,7 @@ use Rattle.std.proofs.Common.{◌≡◌, drop, map}
 use Rattle.std.specs.List.{enumerate_from, fold}
 use Rattle.vl_compose.specs.Shown.{unit_shown}
 use Rattle.chart_plan.specs.Plots.{with_axis, axes_along}
-use Rattle.chart_plan.proofs.plots.axes_along.Given as goal
+use Rattle.chart_plan.proofs.plot_axes.axes_along.Given as goal
 
 abbrev pub invariant-loop-number : goal.invariant-loop-number
 invariant-loop-number l =

@@ -2,7 +2,7 @@ use Rattle.std.proofs.Common.{◌≡◌, ◌++◌, drop, map}
 use Rattle.std.specs.List.{flat_map}
 use Rattle.vl_compose.specs.Shown.{unit_shown}
 use Rattle.chart_plan.specs.Plots.{unit_shows, all_shows}
-use Rattle.chart_plan.proofs.plots.all_shows.Given as goal
+use Rattle.chart_plan.proofs.plot_axes.all_shows.Given as goal
 
 abbrev pub invariant-loop-unit : goal.invariant-loop-unit
 invariant-loop-unit l =

@@ -2,7 +2,7 @@ use Rattle.std.proofs.Common.{◌≡◌, ◌++◌, drop}
 use Rattle.std.specs.List.{filter_map}
 use Rattle.vl_compose.specs.Shown.{unit_shown}
 use Rattle.chart_plan.specs.Selections.{drag_of}
-use Rattle.chart_plan.proofs.selections.unit_dragged.Given as goal
+use Rattle.chart_plan.proofs.drags.unit_dragged.Given as goal
 
 abbrev pub invariant-loop-code : goal.invariant-loop-code
 invariant-loop-code l =
