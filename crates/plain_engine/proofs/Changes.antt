@@ -14,7 +14,6 @@ use Rattle.cell_value.specs.declared.state.Named.{Named}
 use Rattle.cell_value.specs.declared.state.ChartState.{ChartState}
 use Rattle.cell_value.specs.Datum.{Datum, datum_of}
 use Rattle.cell_value.specs.State.{Dataset, dataset_of, IsState, ids_of, most_rows, greatest_id}
-use Rattle.expr_eval.specs.Stores.{values_of_stores}
 use Rattle.expr_eval.specs.Values.{Values}
 use Rattle.param_flow.specs.declared.command.ChangeOf.{ChangeOf}
 use Rattle.param_flow.specs.declared.reply.Reply.{Reply}
@@ -22,18 +21,18 @@ use Rattle.param_flow.specs.declared.reply.Reply.TheVariants.{Done, Refused}
 use Rattle.param_flow.specs.declared.reply.Cause.TheVariants as cause
 use Rattle.param_flow.specs.Change.{rows_after, stays, count_staying}
 use Rattle.param_flow.specs.Machine.{new_rows}
+use Rattle.param_flow.specs.inner.Sources.{data_at, with_data, new_data, state_in, count_in, rows_changed, staying_in_all, is_past}
+use Rattle.param_flow.proofs.RowsLemmas.{one_if, count_next}
+use Rattle.param_flow.proofs.StateRows.{ids_at, still_state}
+use Rattle.param_flow.proofs.SourcePlaces.{few_at}
 use Rattle.plain_engine.specs.declared.edits.Edits.{Edits}
 use Rattle.plain_engine.specs.inner.Edits.{edited, data_edited}
 use Rattle.plain_engine.specs.inner.Fits.{Fits}
-use Rattle.plain_engine.proofs.EditLemmas.{one_if, count_next}
 use Rattle.vega_spec.specs.declared.spec.VgSpec.{VgSpec}
 use Rattle.vega_lists.specs.Held.{AreSources}
 use Rattle.vega_lists.proofs.StateLemmas.{sources_of_state}
-use Rattle.vega_signals.specs.Parameters.{values_with}
-use Rattle.plain_engine.specs.inner.Sources.{rows_at, with_rows, data_at, with_data, state_in, count_in, rows_changed, sources_changed}
-use Rattle.plain_engine.specs.inner.Sources.{staying_in_all, is_past, reply_to_sources, reply_at, sources_if, IsLeft}
-use Rattle.plain_engine.proofs.Places.{few_at, read_at, read_with}
-use Rattle.plain_engine.proofs.StateRows.{ids_at, new_data, still_state}
+use Rattle.plain_engine.specs.inner.Sources.{rows_at, with_rows, values_over, sources_changed, reply_to_sources, reply_at, sources_if, IsLeft}
+use Rattle.plain_engine.proofs.Places.{read_at, read_with}
 
 -- no more rows stay than there are
 pub few_stay : (values : Values) (change : ChangeOf) (rows : List Keyed)
@@ -70,42 +69,41 @@ few_here sources index =
 
 module _ (stores : List StoreOf) (next_id : ℕ) (params signals : List (List ℕ × Cell)) (sources : List Named) (index : ℕ) (change : ChangeOf) where
   -- the rows of a source fit a chart
-  pub rows_fit : index < length sources → IsState (state_in stores next_id params (map dataset_of sources)) → Fits (rows_at sources index)
+  pub rows_fit : index < length sources → IsState (state_in stores params next_id (map dataset_of sources)) → Fits (rows_at sources index)
   rows_fit within h =
       let here = within_data sources index within in
       let few = few_here sources index in
       record {
         few = omega (arith, few, h.few_rows);
         ids = low_ids next_id (rows_at sources index) h.next_id_to
-            (subst (λ rows. All (λ id. id < next_id) (ids_of rows)) (sym (read_at sources index)) (ids_at stores next_id params signals
-            (map dataset_of sources)
-            index change here h));
+            (subst (λ rows. All (λ id. id < next_id) (ids_of rows)) (sym (read_at sources index)) (ids_at stores params (values_over stores signals)
+            next_id (map dataset_of sources) index change here h));
       }
 
   -- the limit
   pub past_is : (all others staying more : ℕ) (past : Bool) → all ≡ count_in (map dataset_of sources)
       → others + length (rows_at sources index) ≡ all
-      → staying ≡ count_staying (values_with (values_of_stores stores) signals []) change.remove (map datum_of (rows_at sources index))
+      → staying ≡ count_staying (values_over stores signals) change.remove (map datum_of (rows_at sources index))
       → more ≡ length change.insert
       → past ≡ (nat_lt most_rows ((others + staying) + more) || nat_lt (greatest_id + 1) (next_id + more))
-      → past ≡ is_past stores next_id signals (map dataset_of sources) index change
+      → past ≡ is_past (values_over stores signals) next_id (map dataset_of sources) index change
   past_is all others staying more past is rest count long e =
       let read = read_at sources index in
       let rows = ap length read in
-      let left = count ∙ ap (count_staying (values_with (values_of_stores stores) signals []) change.remove) read in
-      let same : others + staying ≡ staying_in_all stores next_id signals (map dataset_of sources) index change =
+      let left = count ∙ ap (count_staying (values_over stores signals) change.remove) read in
+      let same : others + staying ≡ staying_in_all (values_over stores signals) next_id (map dataset_of sources) index change =
       omega (arith, is, rest, rows, left, length-map (rows_at sources index) datum_of) in
       e ∙ (λ i. nat_lt most_rows (same i + long i) || nat_lt (greatest_id + 1) (next_id + long i))
 
   module _ (edits : Edits) (is : data_edited edits (rows_at sources index)
-      ≡ rows_after (values_with (values_of_stores stores) signals []) change (map datum_of (rows_at sources index))) where
+      ≡ rows_after (values_over stores signals) change (map datum_of (rows_at sources index))) where
     found : data_edited edits (rows_at sources index)
-        ≡ rows_after (values_with (values_of_stores stores) signals []) change (data_at (map dataset_of sources) index)
-    found = is ∙ ap (rows_after (values_with (values_of_stores stores) signals []) change) (read_at sources index)
+        ≡ rows_after (values_over stores signals) change (data_at (map dataset_of sources) index)
+    found = is ∙ ap (rows_after (values_over stores signals) change) (read_at sources index)
 
     -- the sources after edits of which none is out of range
     module _ (more : List Keyed) (known : edits.overflows ≡ false) (new : more ≡ new_rows next_id change.insert) where
-      changed_by : rows_changed stores next_id signals (map dataset_of sources) index change
+      changed_by : rows_changed (values_over stores signals) next_id (map dataset_of sources) index change
           ≡ Some (map datum_of (edited edits.each (rows_at sources index) ++ more))
       changed_by =
           let read : List Datum = map datum_of (edited edits.each (rows_at sources index)) in
@@ -121,12 +119,12 @@ module _ (stores : List StoreOf) (next_id : ℕ) (params signals : List (List �
           ∙ ap Some (sym (read_with sources index (edited edits.each (rows_at sources index) ++ more)))
 
       -- they are those of a state
-      pub fit_by : index < length sources → IsState (state_in stores next_id params (map dataset_of sources))
-          → is_past stores next_id signals (map dataset_of sources) index change ≡ false
+      pub fit_by : index < length sources → IsState (state_in stores params next_id (map dataset_of sources))
+          → is_past (values_over stores signals) next_id (map dataset_of sources) index change ≡ false
           → AreSources (with_rows sources index (edited edits.each (rows_at sources index) ++ more))
       fit_by within h free =
           let rows : List Keyed = edited edits.each (rows_at sources index) ++ more in
-          let still = still_state stores next_id params signals (map dataset_of sources) index change (within_data sources index within) h
+          let still = still_state stores params (values_over stores signals) next_id (map dataset_of sources) index change (within_data sources index within) h
           (map datum_of rows) free changed_by in
           let now : ChartState = record {
             next_id = next_id + length change.insert;
@@ -135,7 +133,7 @@ module _ (stores : List StoreOf) (next_id : ℕ) (params signals : List (List �
             stores = stores;
           } in
           sources_of_state now
-          (subst (λ sources. IsState (state_in stores (next_id + length change.insert) params sources)) (sym (read_with sources index rows)) still)
+          (subst (λ sources. IsState (state_in stores params (next_id + length change.insert) sources)) (sym (read_with sources index rows)) still)
 
     -- where one is
     pub out_of_range_by : edits.overflows ≡ true → sources_changed stores next_id signals (map dataset_of sources) index change ≡ None
@@ -146,14 +144,14 @@ module _ (stores : List StoreOf) (next_id : ℕ) (params signals : List (List �
         ∙ ap (λ overflows. if overflows then None else Some (map datum_of (edited edits.each (rows_at sources index)))) over)
 
   -- the reply to a change that is past the limit
-  pub reply_past : (g : VgSpec) → is_past stores next_id signals (map dataset_of sources) index change ≡ true
+  pub reply_past : (g : VgSpec) → is_past (values_over stores signals) next_id (map dataset_of sources) index change ≡ true
       → Refused cause.Limit ≡ reply_at g stores next_id params signals (map dataset_of sources) index change
   reply_past g past =
       ap (λ past. if past then Refused cause.Limit
       else reply_to_sources g stores params (sources_changed stores next_id signals (map dataset_of sources) index change)) (sym past)
 
   -- and to one that isn't
-  pub reply_by : (g : VgSpec) (after : Option (List Dataset)) → is_past stores next_id signals (map dataset_of sources) index change ≡ false
+  pub reply_by : (g : VgSpec) (after : Option (List Dataset)) → is_past (values_over stores signals) next_id (map dataset_of sources) index change ≡ false
       → sources_changed stores next_id signals (map dataset_of sources) index change ≡ after
       → reply_at g stores next_id params signals (map dataset_of sources) index change ≡ reply_to_sources g stores params after
   reply_by g after free changed = λ i. if free i then Refused cause.Limit else reply_to_sources g stores params (changed i)

@@ -2,7 +2,7 @@
 use Rattle.std.proofs.Common.{◌≡◌, ℕ, ◌+◌, Bool, true, false, cond, not, ◌&&◌, Option, Some, None, List, [], ◌∷◌, ◌++◌, length, map}
 use Rattle.std.proofs.Common.{refl, sym, ap, ◌∙◌, ◌≤◌, arith, append_assoc, length-append}
 use Rattle.std.specs.Prelude.{unwrap_or, if◌then◌else◌, pos, ◌*◌}
-use Rattle.std.specs.List.{filter_map, filter}
+use Rattle.std.specs.List.{filter_map}
 use Rattle.std.specs.Option.{option_map, option_to_list}
 use Rattle.std.specs.FinMap.{insert, get, get-insert}
 use Rattle.std.proofs.lemmas.Cmp.{nat_list_cmp_total}
@@ -19,7 +19,8 @@ use Rattle.param_flow.specs.declared.command.ChangeOf.{ChangeOf}
 use Rattle.param_flow.specs.declared.command.Modify.{Modify as Entry}
 use Rattle.fixed_num.specs.Ranges.{◌>>=◌, all_found}
 use Rattle.cell_value.specs.Datum.{datum_with}
-use Rattle.param_flow.specs.Change.{with_cells, setting_of, removal_of, modified, row_after, rows_after, stays, count_staying}
+use Rattle.param_flow.specs.Change.{with_cells, setting_of, row_after, rows_after, count_staying}
+use Rattle.param_flow.proofs.RowsLemmas.{before, rows_after_next, one_if, is_gone, stays_is, count_next}
 use Rattle.plain_engine.specs.declared.edits.Edit.{Edit}
 use Rattle.plain_engine.specs.declared.edits.Edit.TheVariants.{Stay, Remove, Modify}
 use Rattle.plain_engine.specs.declared.edits.Edits.{Edits}
@@ -99,20 +100,6 @@ module _ (values : Values) (old now : Datum) (entry : Entry) (entries : List Ent
       → settings_left values old (entry ∷ entries) now ≡ None
   entry_stops h = lacking (setting_of values old entry) refl h
 
--- the row after a row, before those after the others
-abbrev pub before : Option (Option Datum) → Option (List Datum) → Option (List Datum)
-before None more = None
-before (Some row) more = option_map (λ rows. option_to_list row ++ rows) more
-
-first_and_rest : (found : Option (Option Datum)) (others : Option (List (Option Datum)))
-    → option_map (filter_map (λ row. row)) (found >>= λ row. others >>= λ rows. Some (row ∷ rows))
-    ≡ before found (option_map (filter_map (λ row. row)) others)
-first_and_rest None others = refl
-first_and_rest (Some None) None = refl
-first_and_rest (Some None) (Some rows) = refl
-first_and_rest (Some (Some row)) None = refl
-first_and_rest (Some (Some row)) (Some rows) = refl
-
 -- what edits so far and the rest make of rows
 abbrev pub data_so_far : Bool → List Edit → List Keyed → Option (List Datum) → Option (List Datum)
 data_so_far overflows each rows more = if overflows then None else option_map (λ rest. map datum_of (edited each rows) ++ rest) more
@@ -167,11 +154,6 @@ next_known edits rows row (Some Remove) more few = known edits.each rows row few
 next_known edits rows row (Some (Modify new)) more few = known edits.each rows row few edits.overflows (Modify new) more
 
 module _ (values : Values) (change : ChangeOf) where
-  -- a row and the rest
-  pub rows_after_next : (row : Datum) (rest : List Datum)
-      → rows_after values change (row ∷ rest) ≡ before (row_after values change row) (rows_after values change rest)
-  rows_after_next row rest = first_and_rest (row_after values change row) (all_found (map (row_after values change) rest))
-
   -- the invariant of the data after one row more
   pub data_go_on : (edits : Edits) (rows : List Keyed) (row : Keyed) (rest : List Keyed) (next : Option Edit)
       → length edits.each ≡ length rows
@@ -181,7 +163,7 @@ module _ (values : Values) (change : ChangeOf) where
       datum_of rest))
   data_go_on edits rows row rest next few is =
       let more = rows_after values change (map datum_of rest) in
-      ap (data_so_far edits.overflows edits.each rows) (rows_after_next (datum_of row) (map datum_of rest)
+      ap (data_so_far edits.overflows edits.each rows) (rows_after_next values change (datum_of row) (map datum_of rest)
       ∙ ap (λ found. before found more) (sym is))
       ∙ next_known edits rows row next more few
 
@@ -189,36 +171,6 @@ module _ (values : Values) (change : ChangeOf) where
   pub data_at_end : (edits : Edits) (rows : List Keyed)
       → data_so_far edits.overflows edits.each rows (rows_after values change []) ≡ data_edited edits rows
   data_at_end edits rows = ap (λ rows. if edits.overflows then None else Some rows) (append-nil (map datum_of (edited edits.each rows)))
-
--- 1 for what is so
-abbrev pub one_if : Bool → ℕ
-one_if true = 1
-one_if false = 0
-
--- whether it is known that nothing is left of a row
-abbrev pub is_gone : Option (Option Datum) → Bool
-is_gone None = false
-is_gone (Some None) = true
-is_gone (Some (Some row)) = false
-
-gone_by : (removal : Option Bool) (new : Option Datum)
-    → is_gone (removal >>= λ removed. if removed then Some None else option_map Some new) ≡ unwrap_or removal false
-gone_by None new = refl
-gone_by (Some true) new = refl
-gone_by (Some false) None = refl
-gone_by (Some false) (Some row) = refl
-
-module _ (values : Values) (change : ChangeOf) (row : Datum) where
-  pub stays_is : stays values change.remove row ≡ not (is_gone (row_after values change row))
-  stays_is = ap not (sym (gone_by (removal_of values change.remove row) (modified values change.modify row)))
-
-  pub count_next : (rest : List Datum) → count_staying values change.remove (row ∷ rest)
-      ≡ one_if (stays values change.remove row) + count_staying values change.remove rest
-  count_next rest = counted (stays values change.remove row) (filter (stays values change.remove) rest)
-    where
-      counted : (stays : Bool) (rest : List Datum) → length (cond stays (row ∷ rest) rest) ≡ one_if stays + length rest
-      counted true rest = omega arith
-      counted false rest = omega arith
 
 staying_next : (edits : Edits) (row : Keyed) (next : Option Edit)
     → (with_edit edits next).staying ≡ edits.staying + one_if (not (is_gone (shown next row)))

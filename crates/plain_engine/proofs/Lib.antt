@@ -1,5 +1,3 @@
-pub mod LeftRows
-pub mod StateRows
 pub mod MentionLemmas
 pub mod Places
 pub mod Changes

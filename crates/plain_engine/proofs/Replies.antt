@@ -28,6 +28,9 @@ use Rattle.param_flow.specs.States.{settable_names}
 use Rattle.param_flow.specs.Machine.{count_left, is_past_limit, has_names, reply_to_state, reply_to_change}
 use Rattle.param_flow.specs.Machine.{reply_to_event, reply_to_set, state_by, state_changed, state_if, state_set}
 use Rattle.param_flow.specs.Machine.{reply_of, state_after}
+use Rattle.param_flow.specs.inner.Sources.{with_data, names_of, AreApart, new_data, state_in, rows_changed, staying_in_all, is_past}
+use Rattle.param_flow.proofs.StateRows.{still_state, names_stay}
+use Rattle.param_flow.proofs.SourcePlaces.{changed_at, counted_at, few_at}
 use Rattle.vega_spec.specs.declared.spec.VgSpec.{VgSpec}
 use Rattle.vega_spec.specs.Names.{sources_of}
 use Rattle.vega_copies.specs.Tested.{KeepsRules}
@@ -37,10 +40,8 @@ use Rattle.vega_meaning.specs.Semantics.{vega_semantics, signals_in, values_in}
 use Rattle.play_script.specs.Meaning.{Meaning}
 use Rattle.plain_engine.specs.inner.Kept.{param_names, IsKept, MayBeStores}
 use Rattle.plain_engine.specs.inner.Pictures.{shown}
-use Rattle.plain_engine.specs.inner.Sources.{state_in, with_data, rows_changed, sources_changed, staying_in_all}
-use Rattle.plain_engine.specs.inner.Sources.{is_past, reply_to_sources, reply_at, state_at, AreApart, IsDrawingOf}
-use Rattle.plain_engine.proofs.Places.{has_name, names_of, changed_at, counted_at, few_at, placed, not_placed, any_named}
-use Rattle.plain_engine.proofs.StateRows.{still_state, names_stay, new_data}
+use Rattle.plain_engine.specs.inner.Sources.{values_over, sources_changed, reply_to_sources, reply_at, state_at, IsDrawingOf}
+use Rattle.plain_engine.proofs.Places.{has_name, placed, not_placed, any_named}
 
 module _ (meaning : Semantics) (st : State) (c : Command) (source : List ℕ) (change : ChangeOf) (name : List ℕ) (is : c
     ≡ Change source change) (named : name ≡ source) where
@@ -158,15 +159,16 @@ module _ (g : VgSpec) (st : ChartState) (name : List ℕ) (change : ChangeOf) (n
             made _ ∙ ap (option_map state_now) found
 
         -- the limit
-        limit : is_past_limit (values_in g (state_of st)) (state_of st) name change ≡ is_past st.stores st.next_id (signals_in g (state_of st))
-            (map dataset_of st.sources) index change
+        limit : is_past_limit (values_in g (state_of st)) (state_of st) name change
+            ≡ is_past (values_over st.stores (signals_in g (state_of st))) st.next_id (map dataset_of st.sources) index change
         limit =
             let place = placed name st.sources index e in
             let count = counted_at (values_in g (state_of st)) name change [] (map dataset_of st.sources) index
             (omega (arith, place.within, length-map st.sources dataset_of)) own_names place.named in
             let few = few_at (map dataset_of st.sources) index in
             let same : sum_by (count_left (values_in g (state_of st)) name change) (map dataset_of st.sources)
-            ≡ staying_in_all st.stores st.next_id (signals_in g (state_of st)) (map dataset_of st.sources) index change = omega (arith, count, few) in
+            ≡ staying_in_all (values_over st.stores (signals_in g (state_of st))) st.next_id (map dataset_of st.sources) index change =
+            omega (arith, count, few) in
             ap (λ n. nat_lt most_rows (n + length change.insert) || nat_lt (greatest_id + 1) (st.next_id + length change.insert)) same
 
         reply_to_found : (found : Option (List Dataset))
@@ -232,9 +234,10 @@ module _ (g : VgSpec) (st : ChartState) (old : Drawing) (signals : List (List �
       IsKept g now held)
   kept_done sources held changed replied drawn =
       let free = done_is_free _ _ replied in
-      let found = some_of (rows_changed st.stores st.next_id signals (map dataset_of st.sources) index change) (map dataset_of st.sources)
+      let values = values_over st.stores signals in
+      let found = some_of (rows_changed values st.next_id (map dataset_of st.sources) index change) (map dataset_of st.sources)
       (map dataset_of sources) index changed in
-      let still = still_state st.stores st.next_id st.params signals (map dataset_of st.sources) index change
+      let still = still_state st.stores st.params values st.next_id (map dataset_of st.sources) index change
       (omega (arith, within, length-map st.sources dataset_of)) h.is found.0 free found.1 in
       let same = found.2 in
       let now : ChartState = record {
@@ -244,7 +247,7 @@ module _ (g : VgSpec) (st : ChartState) (old : Drawing) (signals : List (List �
         stores = st.stores;
       } in
       kept_with g now held h.rules h.selections
-      (subst (λ sources. IsState (state_in st.stores (st.next_id + length change.insert) st.params sources)) (sym same) still)
+      (subst (λ sources. IsState (state_in st.stores st.params (st.next_id + length change.insert) sources)) (sym same) still)
       (ap names_of same ∙ names_stay (map dataset_of st.sources) index found.0 ∙ h.sources) h.params h.stores drawn
 
 -- a state whose sources are as they were is kept, with what is drawn of it

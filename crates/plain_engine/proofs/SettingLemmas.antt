@@ -24,8 +24,7 @@ use Rattle.vega_spec.specs.declared.spec.VgSpec.{VgSpec}
 use Rattle.vega_spec.specs.Names.{parameters_of}
 use Rattle.vega_meaning.specs.Charts.{picture_over}
 use Rattle.vega_meaning.specs.Semantics.{param_kind_of, param_of, vega_semantics}
-use Rattle.plain_engine.specs.inner.Kept.{IsKept}
-use Rattle.plain_engine.specs.inner.Settings.{names_of}
+use Rattle.plain_engine.specs.inner.Kept.{param_names, IsKept}
 use Rattle.plain_engine.specs.inner.Sources.{IsDrawingOf}
 use Rattle.plain_engine.proofs.Replies.{kept_with}
 
@@ -50,7 +49,7 @@ named (param ∷ params) name e = here (bytes_eq param.name name) (is_settable p
     here false can any some e rest = rest e
 
 -- the names stay
-pub names_stay : (name : List ℕ) (value : Cell) (params : List (List ℕ × Cell)) → names_of (map (with_value name value) params) ≡ names_of params
+pub names_stay : (name : List ℕ) (value : Cell) (params : List (List ℕ × Cell)) → param_names (map (with_value name value) params) ≡ param_names params
 names_stay name value [] = refl
 names_stay name value (param ∷ params) = ap₂ (λ first rest. first ∷ rest) (same_name (bytes_eq param.0 name)) (names_stay name value params)
   where
@@ -60,7 +59,7 @@ names_stay name value (param ∷ params) = ap₂ (λ first rest. first ∷ rest)
 
 -- what is kept once values were put in place
 pub kept_put : (g : VgSpec) (st : ChartState) (old held : Drawing) (params : List (List ℕ × Cell)) → IsKept g st old
-    → names_of params ≡ settable_names (vega_semantics g).params → IsDrawingOf g (map dataset_of st.sources) params st.stores held
+    → param_names params ≡ settable_names (vega_semantics g).params → IsDrawingOf g (map dataset_of st.sources) params st.stores held
     → (let put : ChartState = record { next_id = st.next_id; sources = st.sources; params = params; stores = st.stores } in IsKept g put held)
 kept_put g st old held params h names drawn =
     let put : ChartState = record { next_id = st.next_id; sources = st.sources; params = params; stores = st.stores } in

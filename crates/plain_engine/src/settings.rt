@@ -5,8 +5,8 @@ ghost use Rattle.param_flow.specs.Machine.{reply_to_chart, reply_to_set, state_i
 ghost use Rattle.vega_meaning.specs.Charts.{picture_over};
 ghost use Rattle.vega_meaning.specs.Semantics.{vega_semantics};
 ghost use Rattle.param_flow.specs.States.{settable_names};
-ghost use Rattle.plain_engine.specs.inner.Kept.{IsKept};
-ghost use Rattle.plain_engine.specs.inner.Settings.{names_of, state_if_put};
+ghost use Rattle.plain_engine.specs.inner.Kept.{IsKept, param_names};
+ghost use Rattle.plain_engine.specs.inner.Settings.{state_if_put};
 
 use crate::pictures::picture_over;
 use cell_value::{Cell, ChartState, Params};
@@ -36,7 +36,7 @@ fn put_params(
     params: Seq<(Text, Cell)>,
 ) -> Result<Reply, OutOfMemory>
     requires kept { IsKept g.now st.old drawing.old }
-    requires names { names_of params ≡ settable_names (vega_semantics g.now).params }
+    requires names { param_names params ≡ settable_names (vega_semantics g.now).params }
     ensures reply { IfOk result (λ reply. reply ≡ reply_to_chart (picture_over g.now (map dataset_of st.old.sources) params st.old.stores)) }
     ensures done { IfOk result (λ reply. state_of st.new ≡ state_if_put reply (state_of st.old) params) }
     ensures memory { OnErr result (st.new ≡ st.old) }

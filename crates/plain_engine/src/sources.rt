@@ -1,17 +1,20 @@
 //! The sources of a state.
 ghost use Rattle.std.specs.Prelude.{◌≡◌, ◌≤◌, ◌<◌, ◌+◌, ◌++◌, ◌||◌, nat_lt, length, map, position, IfOk, OnErr};
 ghost use Rattle.std.specs.Str.{bytes_eq};
+ghost use Rattle.cell_value.specs.Datum.{datum_of};
 ghost use Rattle.cell_value.specs.State.{IsState, state_of, dataset_of, most_rows, greatest_id};
 ghost use Rattle.vega_lists.specs.Held.{AreSources};
 ghost use Rattle.vega_copies.specs.Tested.{KeepsRules};
 ghost use Rattle.vega_meaning.specs.Charts.{picture_over};
 ghost use Rattle.vega_meaning.specs.Semantics.{signals_in};
+ghost use Rattle.param_flow.specs.Change.{rows_after, count_staying};
 ghost use Rattle.param_flow.specs.Machine.{state_if, reply_to_chart};
-ghost use Rattle.plain_engine.specs.inner.Edits.{edited};
+ghost use Rattle.param_flow.specs.inner.Sources.{state_in, count_in, is_past};
+ghost use Rattle.plain_engine.specs.inner.Edits.{edited, data_edited};
 ghost use Rattle.plain_engine.specs.inner.Undo.{taken_back};
 ghost use Rattle.plain_engine.specs.inner.Kept.{IsKept};
-ghost use Rattle.plain_engine.specs.inner.Sources.{rows_at, with_rows, state_in, count_in, sources_changed, reply_at, state_at};
-ghost use Rattle.plain_engine.specs.inner.Sources.{sources_if, IsLeft, IsShown};
+ghost use Rattle.plain_engine.specs.inner.Sources.{rows_at, with_rows, values_over, sources_changed, reply_at, state_at, sources_if};
+ghost use Rattle.plain_engine.specs.inner.Sources.{IsLeft, IsShown};
 
 use crate::edits::{Edit, Edits, edits_of};
 use crate::json_rows::new_rows;
@@ -34,6 +37,17 @@ pub const MOST_ROWS: usize = 200_000;
 
 /// The greatest id that a row may have.
 const GREATEST_ID: u64 = 1_000_000_000_000_000;
+
+// A chart whose rows change: its specification, the values of its parameters, the stores of its selections, the values of all its signals, and
+// the next id.
+#[derive(Clone, Copy)]
+struct Chart<'a> {
+    g: &'a VgSpec,
+    params: &'a [(Text, Cell)],
+    stores: &'a [StoreOf],
+    signals: &'a [(Text, Cell)],
+    next_id: u64,
+}
 
 /// The index of the first source of this name.
 pub fn place_of(sources: &[Named], name: &str) -> Option<usize>
@@ -125,28 +139,26 @@ fn take_back_at(alloc: Global, sources: &mut [Named], index: usize, undo: Undo)
 // stays.
 fn put_rows(
     alloc: Global,
-    g: &VgSpec,
+    chart: &Chart<'_>,
     sources: &mut [Named],
     index: usize,
-    params: &[(Text, Cell)],
-    stores: &[StoreOf],
     drawing: &mut Drawing,
     edits: Seq<Edit>,
     more: Rows,
 ) -> Result<Reply, OutOfMemory>
-    requires rules { KeepsRules g.now }
+    requires rules { KeepsRules chart.now.g.now }
     requires within { index < length sources.old }
     requires each { length edits ≡ length (rows_at sources.old index) }
     requires fit { AreSources (with_rows sources.old index (edited edits (rows_at sources.old index) ++ more)) }
-    ensures reply { IfOk result (λ reply. reply ≡ reply_to_chart
-        (picture_over g.now (map dataset_of (with_rows sources.old index (edited edits (rows_at sources.old index) ++ more))) params.now stores.now)) }
+    ensures reply { IfOk result (λ reply. reply ≡ reply_to_chart (picture_over chart.now.g.now
+        (map dataset_of (with_rows sources.old index (edited edits (rows_at sources.old index) ++ more))) chart.now.params.now chart.now.stores.now)) }
     ensures sources { IfOk result (λ reply. sources.new
         ≡ sources_if reply sources.old (with_rows sources.old index (edited edits (rows_at sources.old index) ++ more))) }
-    ensures drawn { IfOk result (λ reply. IsShown reply g.now params.now stores.now sources.new drawing.old drawing.new) }
+    ensures drawn { IfOk result (λ reply. IsShown reply chart.now.g.now chart.now.params.now chart.now.stores.now sources.new drawing.old drawing.new) }
     ensures kept { OnErr result ((sources.new ≡ sources.old) × (drawing.new ≡ drawing.old)) }
 {
     let undo = commit_at(alloc, sources, index, edits, more)?;
-    match picture_over(alloc, g, sources, params, stores) {
+    match picture_over(alloc, chart.g, sources, chart.params, chart.stores) {
         Ok(drawn) => {
             *drawing = drawn;
             Ok(Reply::Done)
@@ -166,53 +178,86 @@ fn put_rows(
     }
 }
 
-// Does a change of a source, over the next id, the values of the parameters and those of all signals. Where it is refused, or memory is, all stays.
-fn change_rows(
+// What a change makes of the rows of the source at an index.
+fn edits_at(
     alloc: Global,
-    g: &VgSpec,
-    sources: &mut [Named],
+    chart: &Chart<'_>,
+    sources: &[Named],
     index: usize,
-    params: &[(Text, Cell)],
-    stores: &[StoreOf],
-    signals: &[(Text, Cell)],
-    drawing: &mut Drawing,
-    next_id: u64,
     change: &ChangeOf,
-) -> Result<Reply, OutOfMemory>
-    requires rules { KeepsRules g.now }
-    requires within { index < length sources.old }
-    requires state { IsState (state_in stores.now next_id params.now (map dataset_of sources.old)) }
-    ensures reply { IfOk result (λ reply. reply ≡ reply_at g.now stores.now next_id params.now signals.now
-        (map dataset_of sources.old) index change.now) }
-    ensures sources { IfOk result (λ reply. IsLeft reply
-        (sources_changed stores.now next_id signals.now (map dataset_of sources.old) index change.now) sources.old sources.new) }
-    ensures drawn { IfOk result (λ reply. IsShown reply g.now params.now stores.now sources.new drawing.old drawing.new) }
-    ensures kept { OnErr result ((sources.new ≡ sources.old) × (drawing.new ≡ drawing.old)) }
+) -> Result<Edits, OutOfMemory>
+    requires within { index < length sources.now }
+    requires state { IsState (state_in chart.now.stores.now chart.now.params.now chart.now.next_id (map dataset_of sources.now)) }
+    ensures each { IfOk result (λ edits. length edits.each ≡ length (rows_at sources.now index)) }
+    ensures staying { IfOk result (λ edits. edits.staying
+        ≡ count_staying (values_over chart.now.stores.now chart.now.signals.now) change.now.remove (map datum_of (rows_at sources.now index))) }
+    ensures rows { IfOk result (λ edits. data_edited edits (rows_at sources.now index)
+        ≡ rows_after (values_over chart.now.stores.now chart.now.signals.now) change.now (map datum_of (rows_at sources.now index))) }
 {
-    let held = Stores::of(alloc, stores)?;
+    let held = Stores::of(alloc, chart.stores)?;
     let plain = PlotParams {
         stores: &held,
-        params: signals,
+        params: chart.signals,
         lengths: &[],
     };
+    let edits = edits_of(alloc, change, rows_at(sources, index), &plain)?;
+    Ok(edits)
+}
+
+// Whether a change of the source at an index, in which so many rows stay, would leave too many rows, or a new one would have too great an id.
+fn is_past(
+    chart: &Chart<'_>,
+    sources: &[Named],
+    index: usize,
+    staying: usize,
+    change: &ChangeOf,
+) -> bool
+    requires within { index < length sources.now }
+    requires state { IsState (state_in chart.now.stores.now chart.now.params.now chart.now.next_id (map dataset_of sources.now)) }
+    requires staying { staying
+        ≡ count_staying (values_over chart.now.stores.now chart.now.signals.now) change.now.remove (map datum_of (rows_at sources.now index)) }
+    ensures { result
+        ≡ is_past (values_over chart.now.stores.now chart.now.signals.now) chart.now.next_id (map dataset_of sources.now) index change.now }
+{
     let all = count_rows(sources);
     let rows = rows_at(sources, index);
     let others = all - rows.len();
+    is_past_limit(chart.next_id, others + staying, change.insert.len())
+}
+
+// Does a change of a source. Where it is refused, or memory is, all stays.
+fn change_rows(
+    alloc: Global,
+    chart: &Chart<'_>,
+    sources: &mut [Named],
+    index: usize,
+    drawing: &mut Drawing,
+    change: &ChangeOf,
+) -> Result<Reply, OutOfMemory>
+    requires rules { KeepsRules chart.now.g.now }
+    requires within { index < length sources.old }
+    requires state { IsState (state_in chart.now.stores.now chart.now.params.now chart.now.next_id (map dataset_of sources.old)) }
+    ensures reply { IfOk result (λ reply. reply ≡ reply_at chart.now.g.now chart.now.stores.now chart.now.next_id chart.now.params.now
+        chart.now.signals.now (map dataset_of sources.old) index change.now) }
+    ensures sources { IfOk result (λ reply. IsLeft reply
+        (sources_changed chart.now.stores.now chart.now.next_id chart.now.signals.now (map dataset_of sources.old) index change.now)
+        sources.old sources.new) }
+    ensures drawn { IfOk result (λ reply. IsShown reply chart.now.g.now chart.now.params.now chart.now.stores.now sources.new drawing.old drawing.new) }
+    ensures kept { OnErr result ((sources.new ≡ sources.old) × (drawing.new ≡ drawing.old)) }
+{
     let Edits {
         each,
         staying,
         overflows,
-    } = edits_of(alloc, change, rows, &plain)?;
-    if is_past_limit(next_id, others + staying, change.insert.len()) {
+    } = edits_at(alloc, chart, sources, index, change)?;
+    if is_past(chart, sources, index, staying, change) {
         return Ok(Reply::Refused(Cause::Limit));
     }
     if overflows {
         return Ok(Reply::Refused(Cause::Overflow));
     }
-    let more = new_rows(alloc, next_id, change.insert.as_slice())?;
-    put_rows(
-        alloc, g, sources, index, params, stores, drawing, each, more,
-    )
+    let more = new_rows(alloc, chart.next_id, change.insert.as_slice())?;
+    put_rows(alloc, chart, sources, index, drawing, each, more)
 }
 
 /// Does a change of the source at an index, over a state of a specification and what is drawn of that. Where it is refused, or memory is, all
@@ -237,18 +282,14 @@ pub fn change_source(
 {
     let signals = signals_in(alloc, g, st)?;
     let mut sources = replace(&mut st.sources, Seq::new(alloc)).into_vec();
-    let result = change_rows(
-        alloc,
+    let chart = Chart {
         g,
-        &mut sources,
-        index,
-        st.params.as_slice(),
-        st.stores.as_slice(),
-        signals.as_slice(),
-        drawing,
-        st.next_id,
-        change,
-    );
+        params: st.params.as_slice(),
+        stores: st.stores.as_slice(),
+        signals: signals.as_slice(),
+        next_id: st.next_id,
+    };
+    let result = change_rows(alloc, &chart, &mut sources, index, drawing, change);
     st.sources = Seq::from_vec(sources);
     match result {
         Ok(Reply::Done) => {

@@ -3,7 +3,7 @@ use Rattle.std.proofs.Common.{◌≡◌, ℕ, List, ap, ◌∙◌}
 use Rattle.std.specs.Prelude.{Option, Some}
 use Rattle.std.specs.Option.{option_and_then}
 use Rattle.json_exact.specs.declared.json.Member.{Member}
-use Rattle.vega_building.specs.Parts.{text_at}
+use Rattle.tree_readers.specs.Parts.{text_at}
 use Rattle.vega_building.specs.Names.{named_at}
 
 pub named_found : {A : Type 0} (named : List ℕ → Option A) (members : List Member) (name text word : List ℕ) (code : Option A) →

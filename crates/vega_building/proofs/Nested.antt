@@ -13,7 +13,7 @@ use Rattle.json_exact.specs.declared.json.Json.TheOpen as level
 use Rattle.json_exact.specs.declared.json.Member.{Member}
 use Rattle.json_exact.specs.Inside.{members_in}
 use Rattle.vega_spec.specs.declared.spec.VgMark.{VgMark}
-use Rattle.vega_building.specs.Parts.{members_of}
+use Rattle.tree_readers.specs.Parts.{members_of}
 use Rattle.vega_building.specs.Spec.{mark_with, mark_of, marks_in, mark_items, marks_among, marks_at}
 
 -- the marks of a list

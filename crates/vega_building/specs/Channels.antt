@@ -7,7 +7,8 @@ use Rattle.vega_spec.specs.declared.encode.Channel.{Channel}
 use Rattle.vega_spec.specs.declared.encode.Channel.TheVariants as channel
 use Rattle.vega_spec.specs.declared.encode.Channels.{Channels}
 use Rattle.vega_spec.specs.declared.encode.Encode.{Encode}
-use Rattle.vega_building.specs.Parts.{Opened, found_at, object_at, members_of, number_at, text_at, cell_at, expression_at}
+use Rattle.tree_readers.specs.Parts.{Opened, found_at, object_at, members_of, number_at, text_at, cell_at}
+use Rattle.vega_building.specs.Parts.{expression_at}
 
 -- a value of a channel
 abbrev pub channel_value_of : List Member → ChannelValue

@@ -10,7 +10,8 @@ use Rattle.vega_spec.specs.declared.domains.FieldsDomain.{FieldsDomain}
 use Rattle.vega_spec.specs.declared.domains.Reference.{Reference}
 use Rattle.vega_spec.specs.declared.domains.DomainOrder.{DomainOrder}
 use Rattle.vega_spec.specs.declared.domains.DomainOrder.TheVariants as domain_order
-use Rattle.vega_building.specs.Parts.{Opened, found_at, has_member, objects_at, cell_of, needed_text, needed_expression}
+use Rattle.tree_readers.specs.Parts.{Opened, found_at, has_member, objects_at, needed_text}
+use Rattle.vega_building.specs.Parts.{cell_of, needed_expression}
 use Rattle.vega_building.specs.Names.{named_at, order_named, needed_operation}
 
 -- a field of a data set

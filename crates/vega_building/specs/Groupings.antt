@@ -8,7 +8,7 @@ use Rattle.vega_spec.specs.declared.groupings.Aggregate.{Aggregate}
 use Rattle.vega_spec.specs.declared.groupings.Window.{Window}
 use Rattle.vega_spec.specs.declared.groupings.Frame.{Frame}
 use Rattle.vega_spec.specs.declared.groupings.Lookup.{Lookup}
-use Rattle.vega_building.specs.Parts.{found_at, object_at, list_at, flag_at, cell_at, needed_text, texts_at, needed_texts}
+use Rattle.tree_readers.specs.Parts.{found_at, object_at, list_at, flag_at, cell_at, needed_text, texts_at, needed_texts}
 use Rattle.vega_building.specs.Names.{operation_of}
 use Rattle.vega_building.specs.Orders.{sort_of}
 

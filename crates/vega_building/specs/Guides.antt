@@ -4,7 +4,8 @@ use Rattle.json_exact.specs.declared.json.Member.{Member}
 use Rattle.vega_spec.specs.declared.guides.Axis.{Axis}
 use Rattle.vega_spec.specs.declared.guides.Legend.{Legend}
 use Rattle.vega_spec.specs.declared.guides.Layout.{Layout}
-use Rattle.vega_building.specs.Parts.{list_at, flag_at, number_at, cell_of, text_at, needed_text}
+use Rattle.tree_readers.specs.Parts.{list_at, flag_at, number_at, text_at, needed_text}
+use Rattle.vega_building.specs.Parts.{cell_of}
 use Rattle.vega_building.specs.Names.{named_at, needed_side, edge_named}
 
 -- an axis

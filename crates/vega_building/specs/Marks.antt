@@ -7,7 +7,7 @@ use Rattle.vega_spec.specs.declared.marks.MarkFrom.{MarkFrom}
 use Rattle.vega_spec.specs.declared.marks.MarkFrom.TheVariants as mark_from
 use Rattle.vega_spec.specs.declared.marks.Facet.{Facet}
 use Rattle.vega_spec.specs.declared.marks.Cross.{Cross}
-use Rattle.vega_building.specs.Parts.{found_at, object_at, list_at, flag_at, text_at, needed_texts}
+use Rattle.tree_readers.specs.Parts.{found_at, object_at, list_at, flag_at, text_at, needed_texts}
 use Rattle.vega_building.specs.Names.{maybe_header}
 use Rattle.vega_building.specs.Orders.{needed_one_or_several}
 

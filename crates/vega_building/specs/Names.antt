@@ -26,7 +26,7 @@ use Rattle.vega_spec.specs.declared.guides.Edge.{Edge}
 use Rattle.vega_spec.specs.declared.guides.Edge.TheVariants as edge
 use Rattle.vega_spec.specs.declared.spec.Autosize.{Autosize}
 use Rattle.vega_spec.specs.declared.spec.Autosize.TheVariants as autosize
-use Rattle.vega_building.specs.Parts.{text_at}
+use Rattle.tree_readers.specs.Parts.{text_at}
 
 -- what the name under a name stands for
 abbrev pub named_at : {A : Type 0} → (List ℕ → Option A) → List Member → List ℕ → Option A

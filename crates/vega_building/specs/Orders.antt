@@ -8,7 +8,7 @@ use Rattle.vega_spec.specs.declared.orders.Texts.TheVariants as texts
 use Rattle.vega_spec.specs.declared.orders.Orders.{Orders}
 use Rattle.vega_spec.specs.declared.orders.Orders.TheVariants as orders
 use Rattle.vega_spec.specs.declared.orders.Sort.{Sort}
-use Rattle.vega_building.specs.Parts.{Opened, found_at, text_of}
+use Rattle.tree_readers.specs.Parts.{Opened, found_at, text_of}
 use Rattle.vega_building.specs.Names.{order_named, order_of}
 
 -- one text, or a list of them

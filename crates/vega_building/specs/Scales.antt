@@ -7,7 +7,8 @@ use Rattle.json_exact.specs.declared.json.Member.{Member}
 use Rattle.vega_spec.specs.declared.scales.Scale.{Scale}
 use Rattle.vega_spec.specs.declared.scales.Range.{Range}
 use Rattle.vega_spec.specs.declared.scales.Range.TheVariants as range
-use Rattle.vega_building.specs.Parts.{Opened, found_at, flag_at, number_at, cell_of, needed_text, signal_at}
+use Rattle.tree_readers.specs.Parts.{Opened, found_at, flag_at, number_at, needed_text}
+use Rattle.vega_building.specs.Parts.{cell_of, signal_at}
 use Rattle.vega_building.specs.Names.{needed_scale_kind}
 use Rattle.vega_building.specs.Domains.{needed_domain}
 

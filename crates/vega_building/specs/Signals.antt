@@ -3,7 +3,8 @@ use Rattle.std.specs.Prelude.{List, codes}
 use Rattle.json_exact.specs.declared.json.Member.{Member}
 use Rattle.vega_spec.specs.declared.signals.Signal.{Signal}
 use Rattle.vega_spec.specs.declared.signals.EventUpdate.{EventUpdate}
-use Rattle.vega_building.specs.Parts.{objects_at, cell_at, needed_text, texts_at, expression_at}
+use Rattle.tree_readers.specs.Parts.{objects_at, cell_at, needed_text, texts_at}
+use Rattle.vega_building.specs.Parts.{expression_at}
 use Rattle.vega_building.specs.Names.{needed_selector}
 
 -- an update on events

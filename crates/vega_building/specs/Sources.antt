@@ -7,7 +7,7 @@ use Rattle.json_exact.specs.Path.{member_value}
 use Rattle.vega_spec.specs.declared.data.DataSet.{DataSet}
 use Rattle.vega_spec.specs.declared.data.Format.{Format}
 use Rattle.vega_spec.specs.declared.data.ParseKind.{ParseKind}
-use Rattle.vega_building.specs.Parts.{found_at, object_at, objects_at, text_at, needed_text}
+use Rattle.tree_readers.specs.Parts.{found_at, object_at, objects_at, text_at, needed_text}
 use Rattle.vega_building.specs.Names.{named_at, format_kind_named, parse_kind_of}
 use Rattle.vega_building.specs.Transforms.{transform_of}
 

@@ -12,7 +12,8 @@ use Rattle.vega_spec.specs.declared.spec.VgMark.{VgMark, roll-VgMark}
 use Rattle.vega_spec.specs.declared.spec.Group.{Group, roll-Group}
 use Rattle.vega_spec.specs.declared.spec.Size.{Size}
 use Rattle.vega_spec.specs.declared.spec.Size.TheVariants as size
-use Rattle.vega_building.specs.Parts.{Opened, found_at, object_at, objects_at, members_of, number_at, text_at, expression_at}
+use Rattle.tree_readers.specs.Parts.{Opened, found_at, object_at, objects_at, members_of, number_at, text_at}
+use Rattle.vega_building.specs.Parts.{expression_at}
 use Rattle.vega_building.specs.Names.{named_at, needed_mark_type, autosize_named}
 use Rattle.vega_building.specs.Orders.{sort_of}
 use Rattle.vega_building.specs.Sources.{data_set_of}

@@ -17,7 +17,8 @@ use Rattle.vega_spec.specs.declared.transforms.Stack.{Stack}
 use Rattle.vega_spec.specs.declared.transforms.Fold.{Fold}
 use Rattle.vega_spec.specs.declared.transforms.Transform.{Transform}
 use Rattle.vega_spec.specs.declared.transforms.Transform.TheVariants as transform
-use Rattle.vega_building.specs.Parts.{Opened, found_at, object_at, number_at, text_at, needed_text, texts_at, needed_texts, two_texts_at, needed_expression}
+use Rattle.tree_readers.specs.Parts.{Opened, found_at, object_at, number_at, text_at, needed_text, texts_at, needed_texts, two_texts_at}
+use Rattle.vega_building.specs.Parts.{needed_expression}
 use Rattle.vega_building.specs.Names.{named_at, offset_named, needed_time_unit}
 use Rattle.vega_building.specs.Orders.{sort_of}
 use Rattle.vega_building.specs.Groupings.{aggregate_of, window_of, lookup_of}

@@ -3,12 +3,12 @@ ghost use Rattle.std.specs.Prelude.{◌≡◌, IfOk};
 ghost use Rattle.json_exact.specs.declared.json.Json.{out-Json};
 ghost use Rattle.vega_building.specs.Channels.{channel_value_of, channel_in, channel_at, channels_of, encode_of};
 
-use crate::parts::{Object, number_at, object_at, objects_of};
+use crate::parts::{Object, object_at, objects_of};
 use crate::several::{Part, four_parts, six_parts};
-use crate::values::member_value;
 use json_exact::{Json, Member};
 use std::alloc::Global;
 use text_kit::OutOfMemory;
+use tree_readers::{member_value, number_at};
 use vega_spec::{Channel, ChannelValue, Channels, Encode};
 
 impl Object for ChannelValue {

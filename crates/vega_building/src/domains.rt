@@ -5,15 +5,13 @@ ghost use Rattle.vega_building.specs.Domains.{reference_of, domain_order_of, dom
 ghost use Rattle.vega_building.specs.Domains.{needed_references, fields_domain_of, domain_of, domain_in, domain_at, needed_domain};
 
 use crate::names::order_at;
-use crate::parts::{
-    Object, has_member, items_at, list_of, needed_expression, needed_text, objects_of,
-};
+use crate::parts::{Object, list_of, needed_expression, objects_of};
 use crate::several::two_parts;
 use crate::tables::needed_operation;
-use crate::values::member_value;
 use json_exact::{Json, Member};
 use std::alloc::Global;
 use text_kit::{OutOfMemory, Seq};
+use tree_readers::{has_member, items_at, member_value, needed_text};
 use vega_spec::{Domain, DomainOrder, FieldDomain, FieldsDomain, Reference};
 
 impl Object for Reference {

@@ -2,13 +2,13 @@
 ghost use Rattle.std.specs.Prelude.{◌≡◌, IfOk};
 ghost use Rattle.vega_building.specs.Groupings.{maybe_text, maybe_number, aggregate_of, frame_in, frame_at, needed_operations, window_of, lookup_of};
 
-use crate::parts::{Item, flag_at, items_at, list_of};
+use crate::parts::{Item, list_of};
 use crate::several::{Part, four_parts, six_parts};
-use crate::values::{number_in, text_in};
 use fixed_num::Num;
 use json_exact::{Json, Member};
 use std::alloc::Global;
 use text_kit::{OutOfMemory, Seq, Text};
+use tree_readers::{flag_at, items_at, number_in, text_in};
 use vega_spec::{Aggregate, Frame, Lookup, Window};
 
 impl Item for Option<Text> {

@@ -1,14 +1,14 @@
 // Axes, legends and layouts.
-ghost use Rattle.vega_building.specs.Parts.{members_of};
+ghost use Rattle.tree_readers.specs.Parts.{members_of};
 ghost use Rattle.vega_building.specs.Guides.{axis_of, legend_of, layout_of};
 
 use crate::names::{edge_at, needed_side};
-use crate::parts::{Item, Object, flag_at, number_at};
+use crate::parts::{Item, Object};
 use crate::several::{four_parts, six_parts};
-use crate::values::members_of;
 use json_exact::{Json, Member};
 use std::alloc::Global;
 use text_kit::OutOfMemory;
+use tree_readers::{flag_at, number_at};
 use vega_spec::{Axis, Layout, Legend};
 
 impl Object for Axis {
@@ -57,7 +57,7 @@ impl Item for Axis {
     ghost item = { λ tree. axis_of (members_of tree) };
 
     fn of_item(alloc: Global, tree: &Json) -> Result<Axis, OutOfMemory> {
-        Axis::of_members(alloc, members_of(tree))
+        Axis::of_members(alloc, tree_readers::members_of(tree))
     }
 }
 
@@ -65,7 +65,7 @@ impl Item for Legend {
     ghost item = { λ tree. legend_of (members_of tree) };
 
     fn of_item(alloc: Global, tree: &Json) -> Result<Legend, OutOfMemory> {
-        Legend::of_members(alloc, members_of(tree))
+        Legend::of_members(alloc, tree_readers::members_of(tree))
     }
 }
 

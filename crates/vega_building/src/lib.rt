@@ -16,6 +16,5 @@ mod sources;
 mod spec;
 mod tables;
 mod transforms;
-mod values;
 
 pub use spec::spec_of;

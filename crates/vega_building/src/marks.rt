@@ -6,11 +6,12 @@ ghost use Rattle.vega_building.specs.Marks.{cross_of, facet_of, facet_from, mark
 
 use crate::names::maybe_header;
 use crate::orders::needed_one_or_several;
-use crate::parts::{Item, Object, flag_at, members_at, object_at, text_at};
+use crate::parts::{Item, Object, object_at};
 use crate::several::{Part, four_parts};
 use json_exact::{Json, Member};
 use std::alloc::Global;
 use text_kit::OutOfMemory;
+use tree_readers::{flag_at, members_at, text_at};
 use vega_spec::{Cross, Facet, Header, MarkFrom, Texts};
 
 impl Object for Cross {

@@ -4,11 +4,11 @@ ghost use Rattle.vega_building.specs.Names.{named_at, named_in, order_named, ord
 ghost use Rattle.vega_building.specs.Names.{offset_named, selector_named, needed_selector, mark_type_named, needed_mark_type, header_named};
 ghost use Rattle.vega_building.specs.Names.{maybe_header, side_named, needed_side, edge_named, autosize_named};
 
-use crate::parts::{Item, word_at};
-use crate::values::text_in;
+use crate::parts::Item;
 use json_exact::{Json, Member};
 use std::alloc::Global;
 use text_kit::OutOfMemory;
+use tree_readers::{text_in, word_at};
 use vega_spec::{
     Autosize, Edge, EventSelector, FormatKind, Header, MarkType, Offset, Order, ParseKind, Side,
 };

@@ -5,10 +5,10 @@ ghost use Rattle.vega_building.specs.Orders.{one_order, texts_in, needed_one_or_
 
 use crate::names::order_named;
 use crate::parts::{Object, list_of};
-use crate::values::member_value;
 use json_exact::{Json, Member};
 use std::alloc::Global;
 use text_kit::{OutOfMemory, Text};
+use tree_readers::member_value;
 use vega_spec::{Orders, Sort, Texts};
 
 // One text, or a list of them.

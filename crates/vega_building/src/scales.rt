@@ -1,18 +1,18 @@
 // Scales.
 ghost use Rattle.std.specs.Prelude.{◌≡◌, IfOk};
 ghost use Rattle.json_exact.specs.declared.json.Json.{out-Json};
-ghost use Rattle.vega_building.specs.Parts.{members_of};
+ghost use Rattle.tree_readers.specs.Parts.{members_of};
 ghost use Rattle.vega_building.specs.Domains.{needed_domain};
 ghost use Rattle.vega_building.specs.Scales.{range_named, range_in, range_at, needed_range, scale_of};
 
 use crate::domains::needed_domain;
-use crate::parts::{Item, Object, flag_at, list_of, number_at, signal_at};
+use crate::parts::{Item, Object, list_of, signal_at};
 use crate::several::{Part, three_parts};
 use crate::tables::needed_scale_kind;
-use crate::values::{member_value, members_of};
 use json_exact::{Json, Member};
 use std::alloc::Global;
 use text_kit::{OutOfMemory, Seq};
+use tree_readers::{flag_at, member_value, number_at};
 use vega_spec::{Domain, Range, Scale};
 
 // A range that goes by a name.
@@ -107,6 +107,6 @@ impl Item for Scale {
     ghost item = { λ tree. scale_of (members_of tree) };
 
     fn of_item(alloc: Global, tree: &Json) -> Result<Scale, OutOfMemory> {
-        Scale::of_members(alloc, members_of(tree))
+        Scale::of_members(alloc, tree_readers::members_of(tree))
     }
 }

@@ -1,6 +1,7 @@
 // What stands under several names at once.
 ghost use Rattle.std.specs.Prelude.{◌≡◌, IfOk};
-ghost use Rattle.vega_building.specs.Parts.{list_at, text_at, needed_text, needed_texts, two_texts_at, expression_at, needed_expression, cell_at};
+ghost use Rattle.tree_readers.specs.Parts.{list_at, text_at, needed_text, needed_texts, two_texts_at, cell_at};
+ghost use Rattle.vega_building.specs.Parts.{expression_at, needed_expression};
 
 use crate::parts;
 use crate::parts::Item;
@@ -26,7 +27,7 @@ impl Part for Option<Text> {
     ghost part = { text_at };
 
     fn part_at(_: Global, members: &[Member], name: &str) -> Result<Option<Text>, OutOfMemory> {
-        parts::text_at(members, name)
+        tree_readers::text_at(members, name)
     }
 }
 
@@ -34,7 +35,7 @@ impl Part for Text {
     ghost part = { needed_text };
 
     fn part_at(alloc: Global, members: &[Member], name: &str) -> Result<Text, OutOfMemory> {
-        parts::needed_text(alloc, members, name)
+        tree_readers::needed_text(alloc, members, name)
     }
 }
 
@@ -54,7 +55,7 @@ impl Part for Option<(Text, Text)> {
         members: &[Member],
         name: &str,
     ) -> Result<Option<(Text, Text)>, OutOfMemory> {
-        parts::two_texts_at(alloc, members, name)
+        tree_readers::two_texts_at(alloc, members, name)
     }
 }
 
@@ -78,7 +79,7 @@ impl Part for Option<Cell> {
     ghost part = { cell_at };
 
     fn part_at(_: Global, members: &[Member], name: &str) -> Result<Option<Cell>, OutOfMemory> {
-        parts::cell_at(members, name)
+        tree_readers::cell_at(members, name)
     }
 }
 

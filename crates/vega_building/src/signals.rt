@@ -1,14 +1,14 @@
 // Signals.
-ghost use Rattle.vega_building.specs.Parts.{members_of};
+ghost use Rattle.tree_readers.specs.Parts.{members_of};
 ghost use Rattle.vega_building.specs.Signals.{event_update_of, signal_of};
 
 use crate::names::needed_selector;
-use crate::parts::{Item, Object, needed_text};
+use crate::parts::{Item, Object};
 use crate::several::five_parts;
-use crate::values::members_of;
 use json_exact::{Json, Member};
 use std::alloc::Global;
 use text_kit::OutOfMemory;
+use tree_readers::needed_text;
 use vega_spec::{EventUpdate, Signal};
 
 impl Object for EventUpdate {
@@ -26,7 +26,7 @@ impl Item for EventUpdate {
     ghost item = { λ tree. event_update_of (members_of tree) };
 
     fn of_item(alloc: Global, tree: &Json) -> Result<EventUpdate, OutOfMemory> {
-        EventUpdate::of_members(alloc, members_of(tree))
+        EventUpdate::of_members(alloc, tree_readers::members_of(tree))
     }
 }
 
@@ -51,6 +51,6 @@ impl Item for Signal {
     ghost item = { λ tree. signal_of (members_of tree) };
 
     fn of_item(alloc: Global, tree: &Json) -> Result<Signal, OutOfMemory> {
-        Signal::of_members(alloc, members_of(tree))
+        Signal::of_members(alloc, tree_readers::members_of(tree))
     }
 }

@@ -1,17 +1,17 @@
 // Data sets.
 ghost use Rattle.std.specs.Prelude.{◌≡◌, map, IfOk};
 ghost use Rattle.vega_building.specs.Sources.{parse_of, parse_at, format_of, data_set_of};
-ghost use Rattle.vega_building.specs.Parts.{members_of, object_at};
+ghost use Rattle.tree_readers.specs.Parts.{members_of, object_at};
 ghost use Rattle.json_exact.specs.Path.{member_value};
 
 use crate::names::{format_kind_at, parse_kind_of};
 use crate::parts;
-use crate::parts::{Item, Object, members_at};
+use crate::parts::{Item, Object};
 use crate::several::{Part, six_parts};
-use crate::values::{member_value, members_of};
 use json_exact::{Json, Member};
 use std::alloc::Global;
 use text_kit::{OutOfMemory, Seq, Text};
+use tree_readers::members_at;
 use vega_spec::{DataSet, Format, ParseKind};
 
 // How the texts of the field of a member's name are read.
@@ -61,7 +61,7 @@ impl Object for Format {
 fn value_at(alloc: Global, members: &[Member], name: &str) -> Result<Option<Json>, OutOfMemory>
     ensures { IfOk result (λ tree. tree ≡ member_value members.now name.now) }
 {
-    match member_value(members, name) {
+    match tree_readers::member_value(members, name) {
         Some(tree) => Ok(Some(tree.copy(alloc)?)),
         None => Ok(None),
     }
@@ -116,6 +116,6 @@ impl Item for DataSet {
     ghost item = { λ tree. data_set_of (members_of tree) };
 
     fn of_item(alloc: Global, tree: &Json) -> Result<DataSet, OutOfMemory> {
-        DataSet::of_members(alloc, members_of(tree))
+        DataSet::of_members(alloc, tree_readers::members_of(tree))
     }
 }

@@ -1,7 +1,7 @@
 // Marks, groups and whole specifications.
 ghost use Rattle.std.specs.Prelude.{◌≡◌, ◌∷◌, ◌++◌, [], map, codes, IfOk, OnOk};
 ghost use Rattle.json_exact.specs.declared.json.Json.{out-Json};
-ghost use Rattle.vega_building.specs.Parts.{object_at};
+ghost use Rattle.tree_readers.specs.Parts.{object_at};
 ghost use Rattle.vega_building.specs.Orders.{sort_of};
 ghost use Rattle.vega_building.specs.Channels.{encode_of};
 ghost use Rattle.vega_building.specs.Marks.{mark_from_at};
@@ -10,12 +10,12 @@ ghost use Rattle.vega_building.specs.Spec.{group_with, mark_with, mark_of, marks
 use crate::marks::mark_from_at;
 use crate::names::{autosize_at, needed_mark_type};
 use crate::parts;
-use crate::parts::{expression_at, number_at};
+use crate::parts::expression_at;
 use crate::several::{Part, four_parts, six_parts};
-use crate::values::{member_value, members_of};
 use json_exact::{Json, Member};
 use std::alloc::Global;
 use text_kit::{OutOfMemory, Seq};
+use tree_readers::{member_value, members_of, number_at};
 use vega_spec::{Encode, Group, MarkFrom, Size, Sort, VgMark, VgSpec};
 
 // What a group has, its marks being these.

@@ -3,11 +3,11 @@ ghost use Rattle.std.specs.Prelude.{◌≡◌};
 ghost use Rattle.case_table.specs.Names.{index_of, time_units, scale_kinds};
 ghost use Rattle.vega_building.specs.Names.{named_at, named_in, operation_named, operation_of, needed_operation, needed_time_unit, needed_scale_kind};
 
-use crate::parts::{Item, word_at};
-use crate::values::text_in;
+use crate::parts::Item;
 use json_exact::{Json, Member};
 use std::alloc::Global;
 use text_kit::OutOfMemory;
+use tree_readers::{text_in, word_at};
 
 // The code of the operation that an item names.
 fn operation_in(tree: &Json) -> Option<u16>

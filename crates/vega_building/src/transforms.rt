@@ -1,19 +1,19 @@
 // Transforms of rows.
 ghost use Rattle.std.specs.Prelude.{◌≡◌, IfOk};
 ghost use Rattle.json_exact.specs.declared.json.Json.{out-Json};
-ghost use Rattle.vega_building.specs.Parts.{members_of};
+ghost use Rattle.tree_readers.specs.Parts.{members_of};
 ghost use Rattle.vega_building.specs.Transforms.{filter_of, formula_of, extent_of, numbers_in, extent_signal, bin_extent_in, bin_extent_at};
 ghost use Rattle.vega_building.specs.Transforms.{needed_bin_extent, bin_of, time_unit_of, stack_of, fold_of, transform_by, transform_of};
 
 use crate::groupings::{aggregate_of, lookup_of, window_of};
 use crate::names::offset_at;
-use crate::parts::{Item, Object, needed_expression, needed_text, number_at, text_at};
+use crate::parts::{Item, Object, needed_expression};
 use crate::several::{Part, four_parts, three_parts, two_parts};
 use crate::tables::needed_time_unit;
-use crate::values::{member_value, members_of, number_in};
 use json_exact::{Json, Member};
 use std::alloc::Global;
 use text_kit::{OutOfMemory, Text};
+use tree_readers::{member_value, needed_text, number_at, number_in, text_at};
 use vega_spec::{Bin, BinExtent, Extent, Filter, Fold, Formula, Stack, TimeUnit, Transform};
 
 // `filter`
@@ -196,6 +196,6 @@ impl Item for Transform {
     ghost item = { λ tree. transform_of (members_of tree) };
 
     fn of_item(alloc: Global, tree: &Json) -> Result<Transform, OutOfMemory> {
-        Transform::of_members(alloc, members_of(tree))
+        Transform::of_members(alloc, tree_readers::members_of(tree))
     }
 }

@@ -1,8 +1,8 @@
-mod KeyLemmas
+pub mod KeyLemmas
 mod HeldLemmas
 mod ParamLemmas
 mod StepLemmas
-mod PlaceLemmas
-mod OuterLemmas
-mod ListLemmas
+pub mod PlaceLemmas
+pub mod OuterLemmas
+pub mod ListLemmas
 pub mod StateLemmas

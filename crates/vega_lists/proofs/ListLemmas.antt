@@ -56,7 +56,7 @@ module _ (sources : List Named) (old next : Lists) (name : List ℕ) (placed : A
       → next.made ≡ old.made ++ rows ∷ [] → IsPut old.by_name name (Made (length old.made)) next.by_name → HoldsAlso sources old (Ok next) name given
   adds_made given rows is they same put = (rows, is, they, held_made sources old next name rows same put placed, placed_made old next name rows same put placed)
 
-record Both (rows : List Datum) : Type 0 where
+pub record Both (rows : List Datum) : Type 0 where
   pub keys : AreKeys (data_keys rows)
   pub fits : KeysFit 1 (data_keys rows)
 
@@ -65,7 +65,7 @@ both_either true rows others x y = x
 both_either false rows others x y = y
 
 -- the rows of the first source of a name
-named_source : (sources : List Named) → AreSources sources → (name : List ℕ) → Both (list_named (map dataset_of sources) name)
+pub named_source : (sources : List Named) → AreSources sources → (name : List ℕ) → Both (list_named (map dataset_of sources) name)
 named_source [] are name = record { keys = none_are; fits = none_fit 1 }
 named_source (source ∷ others) are name =
     let (rows, fits) = are 0 source (omega arith) in

@@ -21,12 +21,13 @@ use Rattle.vega_lists.specs.Transforms.{transformed, transforms_of}
 use Rattle.vega_lists.specs.Products.{Products, KeysFit, fold_length, fold_product, begun_product, and_its_product}
 use Rattle.vega_lists.specs.Lists.{begun_rows}
 use Rattle.vega_lists.specs.Held.{scope_read, AreAllRows, AreSources, MayFold}
+use Rattle.vega_lists.proofs.KeyLemmas.{data_keys, keys_seen, transformed_fits}
+use Rattle.vega_lists.proofs.OuterLemmas.{none_fit}
 use Rattle.vega_signals.specs.Extents.{Settled, extent_asked, data_extent, extent_over, extent_here, rows_left, all_left, extents_in}
 use Rattle.vega_signals.specs.Extents.{with_rows_left, set_extents}
 use Rattle.vega_signals.specs.Outer.{Listed, ListedMayFold}
 use Rattle.vega_signals.specs.inner.Rows.{RowsByName, rows_of, scope_by, SetsMayFold, asks}
-use Rattle.vega_signals.proofs.KeyLemmas.{data_keys, keys_seen, transformed_fits}
-use Rattle.vega_signals.proofs.RowLemmas.{begun_fit, none_fit, scope_yet, rows_yet}
+use Rattle.vega_signals.proofs.RowLemmas.{begun_fit, scope_yet, rows_yet}
 
 -- the numbers of rows as they are read
 pub numbers_seen : (name : List ℕ) (rows : List Keyed) → numbers_of cell_at name rows ≡ numbers_of (λ (datum : Datum). datum.cell) name (map datum_of rows)

@@ -1,4 +1,3 @@
-mod KeyLemmas
 mod RowLemmas
 mod ExtentLemmas
 mod RoundLemmas

@@ -1,6 +1,6 @@
 -- Rows by the names of data sets.
-use Rattle.std.proofs.Common.{◌≡◌, ℕ, suc, Bool, true, false, cond, IsTrue, List, [], ◌∷◌, map, length, Option, Some, None, unwrap_or}
-use Rattle.std.proofs.Common.{Result, Ok, Err, IfOk, refl, sym, ap, ◌∙◌, subst, arith, rules, lit≤}
+use Rattle.std.proofs.Common.{◌≡◌, ℕ, Bool, true, false, cond, IsTrue, List, [], map, length, Option, Some, None, unwrap_or}
+use Rattle.std.proofs.Common.{Result, Ok, Err, IfOk, refl, sym, ap, ◌∙◌, subst, rules}
 use Rattle.std.specs.Option.{option_map_or}
 use Rattle.std.specs.BTreeMap as tree
 use Rattle.std.specs.Ordering.{nat_cmp}
@@ -29,9 +29,12 @@ use Rattle.vega_lists.specs.Transforms.{is_kept, transformed}
 use Rattle.vega_lists.specs.Products.{Products, KeysFit, begun_product}
 use Rattle.vega_lists.specs.Lists.{begun_rows}
 use Rattle.vega_lists.specs.Held.{scope_read, AreAllRows, AreSources}
+use Rattle.vega_lists.proofs.KeyLemmas.{data_keys, keys_seen}
+use Rattle.vega_lists.proofs.PlaceLemmas.{rows_as_read, rows_from_read}
+use Rattle.vega_lists.proofs.OuterLemmas.{none_are}
+use Rattle.vega_lists.proofs.ListLemmas.{named_source}
 use Rattle.vega_signals.specs.Outer.{Listed}
 use Rattle.vega_signals.specs.inner.Rows.{RowsByName, rows_of, scope_by, IsPut, lookup_in}
-use Rattle.vega_signals.proofs.KeyLemmas.{data_keys, keys_seen}
 
 pick : (b : Bool) (rows other : List Keyed) (old : Option (List Keyed)) → unwrap_or (cond b (Some rows) old) other ≡ cond b rows (unwrap_or old other)
 pick true rows other old = refl
@@ -66,22 +69,12 @@ pub rows_of_put : (outer : Listed) (old new : RowsByName) (name : List ℕ) (row
 rows_of_put outer old new name rows put are lists other =
     subst AreRows (sym (put outer other)) (rows_either (bytes_eq name other) rows (rows_of outer old other) are (lists other))
 
-none_are : AreKeys []
-none_are = record {
-  rise = λ i j key less below. absurd (omega (arith, below));
-  small_ids = λ k key below. absurd (omega (arith, below));
-  few = lit≤ tt;
-}
-
 -- no rows are rows
 pub no_rows : AreRows []
 no_rows = none_are
 
 pub none_are_rows : (rows : List Keyed) → rows ≡ [] → AreRows rows
 none_are_rows rows e = subst AreRows (sym e) no_rows
-
-pub none_fit : (n : ℕ) → KeysFit n []
-none_fit n = record { few = omega arith; branches = λ k d lt. absurd (omega (arith, lt)) }
 
 -- where nothing is put, names stand for what they stand for round the object
 pub scope_yet : (outer : Listed) (lists : RowsByName) → ((name : List ℕ) → rows_of outer lists name ≡ outer name) → scope_by outer lists ≡ scope_read outer
@@ -90,27 +83,6 @@ scope_yet outer lists e = λ i name. map datum_of (e name i)
 pub rows_yet : (outer : Listed) (lists : RowsByName) → ((name : List ℕ) → rows_of outer lists name ≡ outer name)
     → AreAllRows outer → AreAllRows (rows_of outer lists)
 rows_yet outer lists e are name = subst AreRows (sym (e name)) (are name)
-
--- what holds of the keys of rows as they are read holds of their keys
-pub rows_as_read : (rows : List Keyed) → AreRows rows → AreKeys (data_keys (map datum_of rows))
-rows_as_read rows are = subst AreKeys (sym (keys_seen rows)) are
-
-record Both (rows : List Datum) : Type 0 where
-  pub keys : AreKeys (data_keys rows)
-  pub fits : KeysFit 1 (data_keys rows)
-
-both_either : (b : Bool) (rows others : List Datum) → Both rows → Both others → Both (cond b rows others)
-both_either true rows others x y = x
-both_either false rows others x y = y
-
--- the rows of the first source of a name
-named_source : (sources : List Named) → AreSources sources → (name : List ℕ) → Both (list_named (map dataset_of sources) name)
-named_source [] are name = record { keys = none_are; fits = none_fit 1 }
-named_source (source ∷ others) are name =
-    let (rows, fits) = are 0 source (omega arith) in
-    both_either (bytes_eq source.name name) (map datum_of source.rows) (list_named (map dataset_of others) name)
-    (record { keys = rows_as_read source.rows rows; fits = subst (KeysFit 1) (sym (keys_seen source.rows)) fits })
-    (named_source others (λ k d lt. are (suc k) d (omega arith)) name)
 
 module _ (sources : List Named) (sound : AreSources sources) (outer : Listed) (lists : RowsByName) (set : DataSet) where
   begun_keys : AreAllRows (rows_of outer lists) → AreKeys (data_keys (begun_rows (map dataset_of sources) (scope_by outer lists) set))
@@ -123,7 +95,7 @@ module _ (sources : List Named) (sound : AreSources sources) (outer : Listed) (l
   -- the rows with which a data set begins are rows
   pub begun_are_rows : AreAllRows (rows_of outer lists) → (result : Result (List Keyed) OutOfMemory)
       → IfOk result (λ rows. map datum_of rows ≡ begun_rows (map dataset_of sources) (scope_by outer lists) set) → IfOk result AreRows
-  begun_are_rows are (Ok rows) e = subst AreKeys (keys_seen rows) (subst (λ (l : List Datum). AreKeys (data_keys l)) (sym e) (begun_keys are))
+  begun_are_rows are (Ok rows) e = rows_from_read rows _ e (begun_keys are)
   begun_are_rows are (Err refused) e = tt
 
   -- and their keys are such as its first product allows

@@ -111,30 +111,50 @@ fn push_all_computed<P: ParamReader>(
     Ok(())
 }
 
+// An object whose signals are computed: the sources of a state, what names stand for round it, and its signals and data sets.
+#[derive(Clone, Copy)]
+struct Object<'a, O, P> {
+    sources: &'a [Named],
+    // The lists round it.
+    lists: &'a O,
+    // Lists of which there is none.
+    empty: &'a Lists,
+    // The values round it.
+    outer: &'a P,
+    // The signals that are given, with their values.
+    given: &'a [(Text, Option<Cell>)],
+    signals: &'a [Signal],
+    sets: &'a [DataSet],
+}
+
 // The values that signals have where they are read as `now`.
 fn next_own<O: ListReader, P: ParamReader>(
     alloc: Global,
-    sources: &[Named],
-    lists: &O,
-    empty: &Lists,
-    outer: &P,
-    given: &[(Text, Option<Cell>)],
-    signals: &[Signal],
-    sets: &[DataSet],
+    object: &Object<'_, O, P>,
     now: &[(Text, Option<Cell>)],
 ) -> Result<Seq<(Text, Option<Cell>)>, OutOfMemory>
-    requires sources { AreSources sources.now }
-    requires lists { AreAllRows (O.named lists.now) }
-    requires empty { AreLists [] empty.now }
-    requires kept { All (OfTransforms is_kept) sets.now }
-    requires folds { ListedMayFold (O.named lists.now) sets.now }
-    ensures { IfOk result (λ next. next ≡ next_own (map dataset_of sources.now) (scope_read (O.named lists.now)) (P.values outer.now)
-        given.now signals.now sets.now now.now) }
+    requires sources { AreSources object.now.sources.now }
+    requires lists { AreAllRows (O.named object.now.lists.now) }
+    requires empty { AreLists [] object.now.empty.now }
+    requires kept { All (OfTransforms is_kept) object.now.sets.now }
+    requires folds { ListedMayFold (O.named object.now.lists.now) object.now.sets.now }
+    ensures { IfOk result (λ next. next ≡ next_own (map dataset_of object.now.sources.now) (scope_read (O.named object.now.lists.now))
+        (P.values object.now.outer.now) object.now.given.now object.now.signals.now object.now.sets.now now.now) }
 {
-    let read = Inside { own: now, outer };
-    let mut next = copy_list(alloc, given)?;
-    push_all_computed(alloc, signals, &read, &mut next)?;
-    next.append(set_extents(alloc, sources, lists, empty, sets, &read)?)?;
+    let read = Inside {
+        own: now,
+        outer: object.outer,
+    };
+    let mut next = copy_list(alloc, object.given)?;
+    push_all_computed(alloc, object.signals, &read, &mut next)?;
+    next.append(set_extents(
+        alloc,
+        object.sources,
+        object.lists,
+        object.empty,
+        object.sets,
+        &read,
+    )?)?;
     Ok(next)
 }
 
@@ -181,40 +201,24 @@ fn same_slices(a: &[(Text, Option<Cell>)], b: &[(Text, Option<Cell>)]) -> bool
 // The values after so many rounds, or after fewer where one changes nothing.
 fn settle<O: ListReader, P: ParamReader>(
     alloc: Global,
-    sources: &[Named],
-    lists: &O,
-    empty: &Lists,
-    outer: &P,
-    given: &[(Text, Option<Cell>)],
-    signals: &[Signal],
-    sets: &[DataSet],
+    object: &Object<'_, O, P>,
     first: Seq<(Text, Option<Cell>)>,
     rounds: usize,
 ) -> Result<Seq<(Text, Option<Cell>)>, OutOfMemory>
-    requires sources { AreSources sources.now }
-    requires lists { AreAllRows (O.named lists.now) }
-    requires empty { AreLists [] empty.now }
-    requires kept { All (OfTransforms is_kept) sets.now }
-    requires folds { ListedMayFold (O.named lists.now) sets.now }
-    requires first { first ≡ own_after (map dataset_of sources.now) (scope_read (O.named lists.now)) (P.values outer.now)
-        given.now signals.now sets.now 1 }
+    requires sources { AreSources object.now.sources.now }
+    requires lists { AreAllRows (O.named object.now.lists.now) }
+    requires empty { AreLists [] object.now.empty.now }
+    requires kept { All (OfTransforms is_kept) object.now.sets.now }
+    requires folds { ListedMayFold (O.named object.now.lists.now) object.now.sets.now }
+    requires first { first ≡ own_after (map dataset_of object.now.sources.now) (scope_read (O.named object.now.lists.now))
+        (P.values object.now.outer.now) object.now.given.now object.now.signals.now object.now.sets.now 1 }
     requires some { 1 ≤ rounds }
-    ensures { IfOk result (λ now. now ≡ own_after (map dataset_of sources.now) (scope_read (O.named lists.now)) (P.values outer.now)
-        given.now signals.now sets.now rounds) }
+    ensures { IfOk result (λ now. now ≡ own_after (map dataset_of object.now.sources.now) (scope_read (O.named object.now.lists.now))
+        (P.values object.now.outer.now) object.now.given.now object.now.signals.now object.now.sets.now rounds) }
 {
     let mut now = first;
     for round in 1..rounds {
-        let next = next_own(
-            alloc,
-            sources,
-            lists,
-            empty,
-            outer,
-            given,
-            signals,
-            sets,
-            now.as_slice(),
-        )?;
+        let next = next_own(alloc, object, now.as_slice())?;
         if are_same(&next, &now) {
             return Ok(next);
         }
@@ -231,32 +235,23 @@ fn rounds_after(first: &Seq<(Text, Option<Cell>)>, given: &[(Text, Option<Cell>)
     first.len().saturating_sub(given.len()).max(1)
 }
 
-// The values at which the signals of an object settle, whose given ones have these.
+// The values at which the signals of an object settle.
 fn settled_over<O: ListReader, P: ParamReader>(
     alloc: Global,
-    sources: &[Named],
-    lists: &O,
-    empty: &Lists,
-    outer: &P,
-    given: &[(Text, Option<Cell>)],
-    signals: &[Signal],
-    sets: &[DataSet],
+    object: &Object<'_, O, P>,
 ) -> Result<Seq<(Text, Option<Cell>)>, OutOfMemory>
-    requires sources { AreSources sources.now }
-    requires lists { AreAllRows (O.named lists.now) }
-    requires empty { AreLists [] empty.now }
-    requires kept { All (OfTransforms is_kept) sets.now }
-    requires folds { ListedMayFold (O.named lists.now) sets.now }
-    ensures { IfOk result (λ now. now ≡ own_after (map dataset_of sources.now) (scope_read (O.named lists.now)) (P.values outer.now)
-        given.now signals.now sets.now (length (own_names signals.now sets.now))) }
+    requires sources { AreSources object.now.sources.now }
+    requires lists { AreAllRows (O.named object.now.lists.now) }
+    requires empty { AreLists [] object.now.empty.now }
+    requires kept { All (OfTransforms is_kept) object.now.sets.now }
+    requires folds { ListedMayFold (O.named object.now.lists.now) object.now.sets.now }
+    ensures { IfOk result (λ now. now ≡ own_after (map dataset_of object.now.sources.now) (scope_read (O.named object.now.lists.now))
+        (P.values object.now.outer.now) object.now.given.now object.now.signals.now object.now.sets.now
+        (length (own_names object.now.signals.now object.now.sets.now))) }
 {
-    let first = next_own(
-        alloc, sources, lists, empty, outer, given, signals, sets, given,
-    )?;
-    let rounds = rounds_after(&first, given);
-    settle(
-        alloc, sources, lists, empty, outer, given, signals, sets, first, rounds,
-    )
+    let first = next_own(alloc, object, object.given)?;
+    let rounds = rounds_after(&first, object.given);
+    settle(alloc, object, first, rounds)
 }
 
 // Lists of which there is none.
@@ -312,14 +307,14 @@ pub fn own_values<O: ListReader, P: ParamReader>(
 {
     let empty = no_lists(alloc)?;
     let given = as_given(alloc, given)?;
-    settled_over(
-        alloc,
+    let object = Object {
         sources,
         lists,
-        &empty,
+        empty: &empty,
         outer,
-        given.as_slice(),
+        given: given.as_slice(),
         signals,
         sets,
-    )
+    };
+    settled_over(alloc, &object)
 }

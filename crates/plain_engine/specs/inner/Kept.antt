@@ -8,13 +8,14 @@ use Rattle.cell_value.specs.declared.cell.Cell.{Cell}
 use Rattle.cell_value.specs.declared.state.ChartState.{ChartState}
 use Rattle.cell_value.specs.declared.state.StoreOf.{StoreOf}
 use Rattle.cell_value.specs.contracts.row.Row as row
-use Rattle.cell_value.specs.State.{Dataset, IsState, state_of}
+use Rattle.cell_value.specs.State.{IsState, state_of}
 use Rattle.expr_eval.specs.Stores.{values_of_stores}
 use Rattle.scale_kit.specs.declared.scale.ScaleSet.{ScaleSet}
 use Rattle.scene_tree.specs.Outcome.{Outcome, Drawn, Overflow, Panels, outcome_map}
 use Rattle.svg_text.specs.SceneText.{svg_of}
 use Rattle.param_flow.specs.Semantics.{Picture, text_of}
 use Rattle.param_flow.specs.States.{settable_names}
+use Rattle.param_flow.specs.inner.Sources.{names_of}
 use Rattle.selection_events.specs.Kept.{AreStoresOf}
 use Rattle.plot_scenes.specs.declared.scenes.Drawing.{Drawing}
 use Rattle.vega_spec.specs.declared.spec.VgSpec.{VgSpec}
@@ -35,10 +36,7 @@ abbrev pub scales_drawn : VgSpec → ChartState → Outcome ScaleSet
 scales_drawn spec state =
     outcome_map scales_of (drawing_of spec (values_of_stores (state_of state).stores) (state_of state).params (state_of state).sources)
 
--- the names of sources, and of parameters with values
-abbrev pub names_of : List Dataset → List (List ℕ)
-names_of sources = map (λ (source : Dataset). source.name) sources
-
+-- the names of parameters with values
 abbrev pub param_names : List (List ℕ × Cell) → List (List ℕ)
 param_names params = map (λ (param : List ℕ × Cell). param.0) params
 

@@ -1,13 +1,9 @@
 -- Values of parameters that are put in place.
-use Rattle.std.specs.Prelude.{ℕ, List, Some, map}
+use Rattle.std.specs.Prelude.{ℕ, List, Some}
 use Rattle.cell_value.specs.declared.cell.Cell.{Cell}
 use Rattle.cell_value.specs.State.{State}
 use Rattle.param_flow.specs.declared.reply.Reply.{Reply}
 use Rattle.param_flow.specs.Machine.{state_if}
-
--- the names of parameters
-abbrev pub names_of : List (List ℕ × Cell) → List (List ℕ)
-names_of params = map (λ (param : List ℕ × Cell). param.0) params
 
 -- a state with these values
 abbrev pub state_with : State → List (List ℕ × Cell) → State

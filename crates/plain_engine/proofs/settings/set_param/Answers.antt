@@ -4,7 +4,8 @@ use Rattle.cell_value.specs.State.{state_of}
 use Rattle.vega_spec.specs.Names.{parameters_of}
 use Rattle.param_flow.specs.declared.param_error.ParamError.TheVariants as error
 use Rattle.param_flow.specs.Settings.{params_set}
-use Rattle.plain_engine.specs.inner.Settings.{names_of, state_if_put}
+use Rattle.plain_engine.specs.inner.Kept.{param_names}
+use Rattle.plain_engine.specs.inner.Settings.{state_if_put}
 use Rattle.plain_engine.proofs.SettingLemmas.{names_stay, values_set, reply_set, reply_refused}
 use Rattle.plain_engine.proofs.settings.set_param.Goals as goal
 
@@ -16,7 +17,7 @@ put_params-requires-clause-names c =
     let value = c.args.value.now in
     let e : params_set (parameters_of g) (record { params = st.params; stores = st.stores }) name value ≡ Ok c.in-Ok.next =
     (λ i. params_set (parameters_of g) (sym c.in_ok-now.ensures i) name (sym c.in_ok-given.ensures i)) ∙ c.in-Ok.ensures in
-    ap names_of (values_set g st name value c.in-Ok.next e) ∙ names_stay name value st.params ∙ c.requires.kept.params
+    ap param_names (values_set g st name value c.in-Ok.next e) ∙ names_stay name value st.params ∙ c.requires.kept.params
 
 pub returns-in-Ok-clause-reply : goal.returns-in-Ok-clause-reply
 returns-in-Ok-clause-reply c =

@@ -1,6 +1,6 @@
 use Rattle.std.proofs.Common.{◌≡◌, ◌+◌, drop, map}
 use Rattle.cell_value.specs.State.{dataset_of}
-use Rattle.plain_engine.specs.inner.Sources.{count_in}
+use Rattle.param_flow.specs.inner.Sources.{count_in}
 use Rattle.plain_engine.proofs.sources.count_rows.Given as goal
 
 abbrev pub invariant-loop-source : goal.invariant-loop-source

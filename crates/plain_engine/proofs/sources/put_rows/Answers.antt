@@ -7,7 +7,8 @@ use Rattle.plain_engine.proofs.sources.put_rows.Goals as goal
 pub returns-in-Ok-clause-reply : goal.returns-in-Ok-clause-reply
 returns-in-Ok-clause-reply c =
     sym (ap reply_to_chart
-    ((λ i. picture_over c.args.g.now (map dataset_of (sym c.in_ok-undo.ensures.done i)) c.args.params.now c.args.stores.now) ∙ c.in-Ok.ensures.drawn))
+    ((λ i. picture_over c.args.chart.now.g.now (map dataset_of (sym c.in_ok-undo.ensures.done i)) c.args.chart.now.params.now
+    c.args.chart.now.stores.now) ∙ c.in-Ok.ensures.drawn))
 
 pub returns-in-Ok-clause-drawn : goal.returns-in-Ok-clause-drawn
 returns-in-Ok-clause-drawn c = record { picture = c.in-Ok.ensures.drawn; scales = c.in-Ok.ensures.scales }
@@ -16,10 +17,12 @@ pub returns-in-Err-Overflow-clause-reply : goal.returns-in-Err-Overflow-clause-r
 returns-in-Err-Overflow-clause-reply c =
     let out = rw c.in-Err-Overflow.field-0-is at c.in-Err-Overflow.ensures.drawn in
     sym (ap reply_to_chart
-    ((λ i. picture_over c.args.g.now (map dataset_of (sym c.in_ok-undo.ensures.done i)) c.args.params.now c.args.stores.now) ∙ out))
+    ((λ i. picture_over c.args.chart.now.g.now (map dataset_of (sym c.in_ok-undo.ensures.done i)) c.args.chart.now.params.now
+    c.args.chart.now.stores.now) ∙ out))
 
 pub returns-in-Err-Panels-clause-reply : goal.returns-in-Err-Panels-clause-reply
 returns-in-Err-Panels-clause-reply c =
     let many = rw c.in-Err-Panels.field-0-is at c.in-Err-Panels.ensures.drawn in
     sym (ap reply_to_chart
-    ((λ i. picture_over c.args.g.now (map dataset_of (sym c.in_ok-undo.ensures.done i)) c.args.params.now c.args.stores.now) ∙ many))
+    ((λ i. picture_over c.args.chart.now.g.now (map dataset_of (sym c.in_ok-undo.ensures.done i)) c.args.chart.now.params.now
+    c.args.chart.now.stores.now) ∙ many))

@@ -1,5 +1,5 @@
 use Rattle.std.proofs.Common.{◌≡◌, take, map}
-use Rattle.vega_building.specs.Parts.{members_of}
+use Rattle.tree_readers.specs.Parts.{members_of}
 use Rattle.vega_building.proofs.parts.objects_of.Given as goal
 
 abbrev pub invariant-loop-tree : goal.invariant-loop-tree

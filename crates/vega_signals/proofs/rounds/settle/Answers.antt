@@ -8,10 +8,11 @@ use Rattle.vega_signals.proofs.rounds.settle.Goals as goal
 
 pub returns-then-are_same : goal.returns-then-are_same
 returns-then-are_same g c =
-    let sources = map dataset_of c.args.sources.now in
-    let lists = scope_read (g.O.ListReader.named c.args.lists.now) in
-    let outer = g.P.ParamReader.values c.args.outer.now in
-    let next : Settled → Settled = next_own sources lists outer c.args.given.now c.args.signals.now c.args.sets.now in
+    let object = c.args.object.now in
+    let sources = map dataset_of object.sources.now in
+    let lists = scope_read (g.O.ListReader.named object.lists.now) in
+    let outer = g.P.ParamReader.values object.outer.now in
+    let next : Settled → Settled = next_own sources lists outer object.given.now object.signals.now object.sets.now in
     let within : c.loop-round.round ≤ c.args.rounds = omega arith in
-    settled_at next (own_after sources lists outer c.args.given.now c.args.signals.now c.args.sets.now) (λ n. refl) c.loop-round.round c.args.rounds
+    settled_at next (own_after sources lists outer object.given.now object.signals.now object.sets.now) (λ n. refl) c.loop-round.round c.args.rounds
     c.loop-round.now c.in_ok-next.next within c.loop-round.invariant (c.in_ok-next.ensures ∙ ap next c.as_slice.ensures) (c.are_same.ensures c.if-are_same.true)

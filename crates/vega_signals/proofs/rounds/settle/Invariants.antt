@@ -6,4 +6,5 @@ use Rattle.vega_signals.proofs.rounds.settle.Given as goal
 
 abbrev pub invariant-loop-round : goal.invariant-loop-round
 invariant-loop-round g l =
-    l.now ≡ own_after (map dataset_of l.sources) (scope_read (g.O.ListReader.named l.lists)) (g.P.ParamReader.values l.outer) l.given l.signals l.sets l.round
+    l.now ≡ own_after (map dataset_of l.object.sources.now) (scope_read (g.O.ListReader.named l.object.lists.now))
+    (g.P.ParamReader.values l.object.outer.now) l.object.given.now l.object.signals.now l.object.sets.now l.round

@@ -6,8 +6,9 @@ use Rattle.vega_signals.proofs.rounds.settled_over.Goals as goal
 
 pub returns : goal.returns
 returns g c =
-    settled_ok (map dataset_of c.args.sources.now) (scope_read (g.O.ListReader.named c.args.lists.now))
-    (g.P.ParamReader.values c.args.outer.now) c.args.given.now
-    c.args.signals.now c.args.sets.now c.in_ok-first.first c.rounds_after-rounds.result
+    let object = c.args.object.now in
+    settled_ok (map dataset_of object.sources.now) (scope_read (g.O.ListReader.named object.lists.now))
+    (g.P.ParamReader.values object.outer.now) object.given.now
+    object.signals.now object.sets.now c.in_ok-first.first c.rounds_after-rounds.result
     c.settle.result c.in_ok-first.ensures c.rounds_after-rounds.ensures.count
     c.settle.ensures

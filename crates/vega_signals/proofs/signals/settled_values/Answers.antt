@@ -1,6 +1,7 @@
 use Rattle.std.proofs.Common.{sym, subst}
 use Rattle.vega_lists.specs.Products.{FoldsFit, no_folds}
-use Rattle.vega_signals.proofs.RowLemmas.{no_rows, none_fit}
+use Rattle.vega_lists.proofs.OuterLemmas.{none_fit}
+use Rattle.vega_signals.proofs.RowLemmas.{no_rows}
 use Rattle.vega_signals.proofs.signals.settled_values.Goals as goal
 
 pub own_values-requires-clause-lists : goal.own_values-requires-clause-lists
