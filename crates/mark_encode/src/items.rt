@@ -8,6 +8,7 @@ ghost use Rattle.expr_eval.specs.Values.{Values};
 ghost use Rattle.plain_rows.specs.Rows.{AreRows};
 ghost use Rattle.plain_orders.specs.Listed.{AreListed};
 ghost use Rattle.scale_kit.specs.Scale.{IsPixel, AreScales};
+ghost use Rattle.vega_spec.specs.declared.spec.VgMark.{out-VgMark};
 ghost use Rattle.mark_encode.specs.Channels.{channel_values};
 ghost use Rattle.mark_encode.specs.Looks.{looks_of};
 ghost use Rattle.mark_encode.specs.Items.{shape_for, picked_key, items_with, item_for, items_for, is_path, items_over, items_in_order, items_of};
@@ -30,6 +31,17 @@ use scene_tree::Item;
 use std::alloc::Global;
 use text_kit::{OutOfMemory, Seq};
 use vega_spec::{Encode, MarkType, Sort, VgMark};
+
+/// The plot in which the items of a mark stand.
+#[derive(Clone, Copy)]
+pub struct PlotHere<'a, 'i> {
+    /// The scales that have names in it. A scale is the first of its name.
+    pub scales: &'a IndexedSet<'i>,
+    /// Its width, in pixels.
+    pub width: Num,
+    /// Its height, in pixels.
+    pub height: Num,
+}
 
 /// The channels of a mark, prepared for its rows: the values in each with the scales that they name.
 #[derive(Drop)]
@@ -152,16 +164,14 @@ fn items_for<P: ParamReader>(
     sets: &Option<Encode>,
     unit: u32,
     rows: &[&Keyed],
-    scales: &IndexedSet,
-    width: Num,
-    height: Num,
+    plot: &PlotHere,
     params: &P,
 ) -> Result<Seq<Item>, EvalError>
     requires { HaveIds rows.now }
-    ensures { Evaluates result (items_for type_ unit width height (channel_values scales.now sets.now) (P.values params.now)
-        (data_of rows.now)) }
+    ensures { Evaluates result (items_for type_ unit plot.now.width plot.now.height (channel_values plot.now.scales.now sets.now)
+        (P.values params.now) (data_of rows.now)) }
 {
-    let mark = mark_channels(alloc, type_, scales, sets, width, height)?;
+    let mark = mark_channels(alloc, type_, plot.scales, sets, plot.width, plot.height)?;
     row_items(alloc, &mark, unit, rows, params)
 }
 
@@ -187,119 +197,88 @@ fn items_over<P: ParamReader>(
     sets: &Option<Encode>,
     unit: u32,
     rows: &[&Keyed],
-    scales: &IndexedSet,
-    width: Num,
-    height: Num,
+    plot: &PlotHere,
     params: &P,
 ) -> Result<Seq<Item>, EvalError>
     requires { HaveIds rows.now }
-    ensures { Evaluates result (items_over type_ unit width height (channel_values scales.now sets.now) (P.values params.now)
-        (data_of rows.now)) }
+    ensures { Evaluates result (items_over type_ unit plot.now.width plot.now.height (channel_values plot.now.scales.now sets.now)
+        (P.values params.now) (data_of rows.now)) }
 {
     if is_path(type_) {
-        path_items(alloc, type_, sets, unit, rows, scales, params)
+        path_items(alloc, type_, sets, unit, rows, plot.scales, params)
     } else {
-        items_for(
-            alloc, type_, sets, unit, rows, scales, width, height, params,
-        )
+        items_for(alloc, type_, sets, unit, rows, plot, params)
     }
 }
 
-// The items of a mark of a type over rows by its sort.
+// The items of a mark over rows by this sort.
 fn items_by_sort<P: ParamReader>(
     alloc: Global,
-    type_: MarkType,
-    encode: &Option<Encode>,
+    mark: &VgMark,
     sort: &Sort,
     unit: u32,
     rows: &[&Keyed],
-    scales: &IndexedSet,
-    width: Num,
-    height: Num,
+    plot: &PlotHere,
     params: &P,
 ) -> Result<Seq<Item>, EvalError>
     requires { AreListed (data_of rows.now) }
-    ensures { Evaluates result (items_in_order type_ encode.now (Some sort.now) unit scales.now width height (P.values params.now)
-        (data_of rows.now)) }
+    ensures { Evaluates result (items_in_order (out-VgMark mark.now).type_ (out-VgMark mark.now).encode (Some sort.now) unit
+        plot.now.scales.now plot.now.width plot.now.height (P.values params.now) (data_of rows.now)) }
 {
     let sorted = rows_by_sort(alloc, rows, sort)?;
     items_over(
         alloc,
-        type_,
-        encode,
+        mark.type_,
+        &mark.encode,
         unit,
         sorted.as_slice(),
-        scales,
-        width,
-        height,
+        plot,
         params,
     )
 }
 
-/// The items of a mark with this type, these encode sets and this sort, the `unit`-th of its chart, over rows whose keys rise, with ids of at
-/// most 10^15, and of which there are at most 1,600,000. They are in the order of the sort, or else of the rows: an item for each row that
-/// has its places, numbers and colours, of lines and areas one path. A scale is the first of its name. The plot's size is in pixels.
-/// `Overflow` comes exactly where a number is out of range at one of the rows.
+/// The items of a mark that is the `unit`-th of its chart, over references to rows whose keys rise, with ids of at most 10^15, and of which
+/// there are at most 1,600,000. They are in the order of the mark's sort, or else of the rows: an item for each row that has its places,
+/// numbers and colours, of lines and areas one path. `Overflow` comes exactly where a number is out of range at one of the rows.
 pub fn items_over_rows<P: ParamReader>(
     alloc: Global,
-    type_: MarkType,
-    encode: &Option<Encode>,
-    sort: &Option<Sort>,
+    mark: &VgMark,
     unit: u32,
     rows: &[&Keyed],
-    scales: &IndexedSet,
-    width: Num,
-    height: Num,
+    plot: &PlotHere,
     params: &P,
 ) -> Result<Seq<Item>, EvalError>
     requires { AreListed (data_of rows.now) }
-    ensures { Evaluates result (items_in_order type_ encode.now sort.now unit scales.now width height (P.values params.now) (data_of rows.now)) }
+    ensures { Evaluates result (items_in_order (out-VgMark mark.now).type_ (out-VgMark mark.now).encode (out-VgMark mark.now).sort unit
+        plot.now.scales.now plot.now.width plot.now.height (P.values params.now) (data_of rows.now)) }
 {
-    match sort {
-        Some(sort) => items_by_sort(
-            alloc, type_, encode, sort, unit, rows, scales, width, height, params,
-        ),
-        None => items_over(
-            alloc, type_, encode, unit, rows, scales, width, height, params,
-        ),
+    match &mark.sort {
+        Some(sort) => items_by_sort(alloc, mark, sort, unit, rows, plot, params),
+        None => items_over(alloc, mark.type_, &mark.encode, unit, rows, plot, params),
     }
 }
 
-/// The items of a mark that is the `unit`-th of its chart, over rows whose keys rise, with ids of at most 10^15, and of which there are at
-/// most 1,600,000. They are in the order of the mark's sort, or else of the rows: an item for each row that has its places, numbers and
-/// colours, of lines and areas one path. A scale is the first of its name. The plot's size is in pixels, from 0 to 10^11. `Overflow` comes
-/// exactly where a number is out of range at one of the rows.
+/// The items of a mark that is the `unit`-th of its chart, as `items_over_rows` gives them, over rows whose keys rise, with ids of at most
+/// 10^15, and of which there are at most 1,600,000. The plot's width and height are from 0 to 10^11.
 pub fn items_on<P: ParamReader>(
     alloc: Global,
     mark: &VgMark,
     unit: u32,
     rows: &Rows,
-    scales: &IndexedSet,
-    width: Num,
-    height: Num,
+    plot: &PlotHere,
     params: &P,
 ) -> Result<Seq<Item>, EvalError>
     requires rows { AreRows rows.now }
-    requires width { IsPixel width }
-    requires height { IsPixel height }
-    ensures { Evaluates result (items_of mark.now unit scales.now width height (P.values params.now) (map datum_of rows.now)) }
+    requires width { IsPixel plot.now.width }
+    requires height { IsPixel plot.now.height }
+    ensures { Evaluates result (items_of mark.now unit plot.now.scales.now plot.now.width plot.now.height (P.values params.now)
+        (map datum_of rows.now)) }
 {
     let rows = all_rows(alloc, rows.as_slice())?;
-    items_over_rows(
-        alloc,
-        mark.type_,
-        &mark.encode,
-        &mark.sort,
-        unit,
-        rows.as_slice(),
-        scales,
-        width,
-        height,
-        params,
-    )
+    items_over_rows(alloc, mark, unit, rows.as_slice(), plot, params)
 }
 
-/// The items of a mark, as `items_on` gives them, on scales that are indexed for this mark alone.
+/// The items of a mark, as `items_on` gives them, in a plot of this size whose scales are indexed for this mark alone.
 pub fn items_of<P: ParamReader>(
     alloc: Global,
     mark: &VgMark,
@@ -317,5 +296,10 @@ pub fn items_of<P: ParamReader>(
     ensures { Evaluates result (items_of mark.now unit scales.now width height (P.values params.now) (map datum_of rows.now)) }
 {
     let scales = IndexedSet::of(alloc, scales)?;
-    items_on(alloc, mark, unit, rows, &scales, width, height, params)
+    let plot = PlotHere {
+        scales: &scales,
+        width,
+        height,
+    };
+    items_on(alloc, mark, unit, rows, &plot, params)
 }

@@ -26,6 +26,8 @@ mod values;
 
 pub use channels::ChannelName;
 pub use groups::number_encoded;
-pub use items::{MarkChannels, item_of_row, items_of, items_on, items_over_rows, mark_channels};
+pub use items::{
+    MarkChannels, PlotHere, item_of_row, items_of, items_on, items_over_rows, mark_channels,
+};
 pub use laws::laws_of_items;
 pub use scales::IndexedSet;

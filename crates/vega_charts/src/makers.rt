@@ -13,7 +13,7 @@ ghost use Rattle.vega_charts.specs.inner.Rows.{frame_over, lists_of_rows, AreRow
 
 use cell_value::{Keyed, Named};
 use expr_eval::{EvalError, Stores};
-use mark_encode::items_over_rows;
+use mark_encode::{PlotHere, items_over_rows};
 use scene_tree::{Item, moved_items};
 use std::alloc::Global;
 use text_kit::{OutOfMemory, Seq};
@@ -65,18 +65,12 @@ fn items_in_plot(
         (rows_of_mark (frame_over names.now frame.now).names.lists (plain_of (out-VgMark mark.now)).from)) }
 {
     let rows = rows_of_mark(alloc, names, &mark.from)?;
-    items_over_rows(
-        alloc,
-        mark.type_,
-        &mark.encode,
-        &mark.sort,
-        unit,
-        rows.as_slice(),
-        frame.set,
-        frame.width,
-        frame.height,
-        &frame.values,
-    )
+    let plot = PlotHere {
+        scales: frame.set,
+        width: frame.width,
+        height: frame.height,
+    };
+    items_over_rows(alloc, mark, unit, rows.as_slice(), &plot, &frame.values)
 }
 
 // The items of a mark in a copy of the object that has it.

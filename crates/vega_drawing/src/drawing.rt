@@ -20,13 +20,14 @@ ghost use Rattle.vega_drawing.specs.inner.Framed.{cells_seen, unlisted, IsFrame}
 ghost use Rattle.vega_drawing.specs.inner.Kept.{axis_seen, chart_has, scale_seen, AreKeptAxes, IsKeptScale};
 ghost use Rattle.vega_drawing.specs.inner.Levels.{values_over};
 ghost use Rattle.vega_drawing.specs.inner.Topped.{drawn_grid, drawn_plot, drawn_top, found_on_top, grid_with_axes, held_top, is_of_chart};
-ghost use Rattle.vega_drawing.specs.inner.Topped.{names_on_top, sized_plot, top_seen, with_axes, IsTop};
+ghost use Rattle.vega_drawing.specs.inner.Topped.{names_on_top, sized_plot, top_seen, with_axes, IsTop, found_in_top, frame_of_top};
 
 use crate::axes::{and_axes, axes_in};
 use crate::frames::{Frame, Sizing, slice_of};
 use crate::grids::{grid_view, plot_view};
 use crate::items::MarkItems;
 use crate::kept::kept_scales;
+use crate::marks::Numbers;
 use crate::scales::{AxisHere, OfChart, ScaleHere, and_outer, scale_in, set_of};
 use crate::sizes::{number, padding_round, size_of};
 use crate::values::{ValuesAt, with_signals};
@@ -95,27 +96,40 @@ fn no_length() -> Num
     number(0)
 }
 
+/// What is known of the top before its size is.
+#[derive(Clone, Copy)]
+pub struct Top<'s, 'a> {
+    /// The specification.
+    pub g: &'s VgSpec,
+    /// The facts of the top.
+    pub facts: &'a CopyFacts,
+    /// The values of signals in it.
+    pub values: ValuesAt<'a>,
+    /// Its cells; None outside facets.
+    pub cells: Option<&'a [(Text, Cell)]>,
+    /// The scales that have names in it.
+    pub scales: &'a [ScaleHere<'s, 'a>],
+}
+
 // The top as the one copy of itself, with its size.
 fn top_frame<'s, 'x, 'i>(
     path: &'x [Step],
-    values: ValuesAt<'x>,
-    scales: &'x [ScaleHere<'s, 'x>],
+    top: &Top<'s, 'x>,
     set: &'x IndexedSet<'i>,
     axes: &'x [AxisHere<'s, 'x>],
-    cells: Option<&'x [(Text, Cell)]>,
     headers: &'x [Header],
     width: Num,
     height: Num,
 ) -> Frame<'s, 'x, 'i>
-    ensures { result ≡ held_top path.entry values.entry scales.entry set.entry axes.entry cells.entry headers.entry width height }
+    ensures { result ≡ held_top path.entry top.now.values top.now.scales set.entry axes.entry top.now.cells headers.entry width height }
 {
     Frame {
         path,
-        values,
-        scales,
+        values: top.values,
+        scales: top.scales,
         set,
         axes,
-        cells,
+        cells: top.cells,
         headers,
         width,
         height,
@@ -128,38 +142,31 @@ fn top_frame<'s, 'x, 'i>(
 fn draw_sized<'s, 'x, 'i, M: MarkItems>(
     alloc: Global,
     maker: &M,
-    g: &'s VgSpec,
-    facts: &CopyFacts,
-    values: ValuesAt<'x>,
-    cells: Option<&'x [(Text, Cell)]>,
-    scales: &'x [ScaleHere<'s, 'x>],
+    top: &Top<'s, 'x>,
     set: &'x IndexedSet<'i>,
     width: Num,
     height: Num,
 ) -> Result<Drawing, EvalError>
     requires sound { M.sound maker.now }
-    requires top { IsTop g.now scales.now facts.now }
-    requires set { set.now ≡ set_of width height (map scale_seen scales.now) }
+    requires top { IsTop top.now.g.now top.now.scales.now top.now.facts.now }
+    requires set { set.now ≡ set_of width height (map scale_seen top.now.scales.now) }
     requires scales { AreScales set.now }
     requires width { IsPixel width }
     requires height { IsPixel height }
-    ensures { Evaluates result (drawn_plot (M.items maker.now) g.now
-        (found_on_top (M.lists maker.now) (values_over values.entry.stores.now values.entry.levels.now) facts.now)
-        (top_seen (names_on_top (M.lists maker.now) (values_over values.entry.stores.now values.entry.levels.now))
-        (cells_seen cells.entry) (map scale_seen scales.now)
-        width height)) }
+    ensures { Evaluates result (drawn_plot (M.items maker.now) top.now.g.now (found_in_top (M.lists maker.now) top.now)
+        (frame_of_top (M.lists maker.now) top.now width height)) }
 {
-    let frame = top_frame(&[], values, scales, set, &[], cells, &[], width, height);
+    let frame = top_frame(&[], top, set, &[], &[], width, height);
+    let numbers = Numbers { unit: 0, number: 0 };
     match plot_view(
         alloc,
         maker,
         &frame,
-        &g.group,
-        facts.inside.as_slice(),
-        0,
-        0,
+        &top.g.group,
+        top.facts.inside.as_slice(),
+        numbers,
     ) {
-        Ok(view) => view_drawn(alloc, g, &frame, view),
+        Ok(view) => view_drawn(alloc, top.g, &frame, view),
         Err(error) => Err(error),
     }
 }
@@ -168,81 +175,62 @@ fn draw_sized<'s, 'x, 'i, M: MarkItems>(
 fn draw_plot<'s, 'x, M: MarkItems>(
     alloc: Global,
     maker: &M,
-    g: &'s VgSpec,
-    facts: &CopyFacts,
-    sizing: &Sizing<'s, 'x>,
-    cells: Option<&'x [(Text, Cell)]>,
+    top: &Top<'s, 'x>,
 ) -> Result<Drawing, EvalError>
     requires sound { M.sound maker.now }
-    requires top { IsTop g.now sizing.now.scales.now facts.now }
-    ensures { Evaluates result (sized_plot (M.items maker.now) g.now
-        (found_on_top (M.lists maker.now) (values_over sizing.now.values.stores.now sizing.now.values.levels.now) facts.now)
-        (top_seen (names_on_top (M.lists maker.now) (values_over sizing.now.values.stores.now sizing.now.values.levels.now)) (cells_seen cells.entry)
-        (map scale_seen sizing.now.scales.now) (pos 0) (pos 0))) }
+    requires top { IsTop top.now.g.now top.now.scales.now top.now.facts.now }
+    ensures { Evaluates result (sized_plot (M.items maker.now) top.now.g.now (found_in_top (M.lists maker.now) top.now)
+        (frame_of_top (M.lists maker.now) top.now (pos 0) (pos 0))) }
 {
-    let width = match size_of(alloc, &g.width, sizing) {
+    let sizing = Sizing {
+        values: top.values,
+        scales: top.scales,
+    };
+    let width = match size_of(alloc, &top.g.width, &sizing) {
         Ok(width) => width,
         Err(error) => return Err(error),
     };
-    let height = match size_of(alloc, &g.height, sizing) {
+    let height = match size_of(alloc, &top.g.height, &sizing) {
         Ok(height) => height,
         Err(error) => return Err(error),
     };
-    let set = set_of(alloc, width, height, sizing.scales)?;
+    let set = set_of(alloc, width, height, top.scales)?;
     let indexed = IndexedSet::of(alloc, &set)?;
-    draw_sized(
-        alloc,
-        maker,
-        g,
-        facts,
-        sizing.values,
-        cells,
-        sizing.scales,
-        &indexed,
-        width,
-        height,
-    )
+    draw_sized(alloc, maker, &*top, &indexed, width, height)
 }
 
 // What is drawn of the top where it is a grid, with the axes in it.
 fn draw_axes<'s, 'x, 'i, M: MarkItems>(
     alloc: Global,
     maker: &M,
-    g: &'s VgSpec,
+    top: &Top<'s, 'x>,
     layout: &Layout,
-    facts: &CopyFacts,
-    values: ValuesAt<'x>,
-    cells: Option<&'x [(Text, Cell)]>,
-    scales: &'x [ScaleHere<'s, 'x>],
     set: &'x IndexedSet<'i>,
     axes: &'x [AxisHere<'s, 'x>],
     size: Num,
 ) -> Result<Drawing, EvalError>
     requires sound { M.sound maker.now }
-    requires top { IsTop g.now scales.now facts.now }
-    requires set { set.now ≡ set_of size size (map scale_seen scales.now) }
+    requires top { IsTop top.now.g.now top.now.scales.now top.now.facts.now }
+    requires set { set.now ≡ set_of size size (map scale_seen top.now.scales.now) }
     requires scales { AreScales set.now }
     requires axes { AreKeptAxes axes.now }
     requires columns { IfSome layout.now.columns IsCount }
     requires size { IsPixel size }
-    ensures { Evaluates result (drawn_grid (M.items maker.now) g.now layout.now
-        (found_on_top (M.lists maker.now) (values_over values.entry.stores.now values.entry.levels.now) facts.now)
-        (with_axes (map axis_seen axes.now)
-        (top_seen (names_on_top (M.lists maker.now) (values_over values.entry.stores.now values.entry.levels.now)) (cells_seen cells.entry)
-        (map scale_seen scales.now) size size))) }
+    ensures { Evaluates result (drawn_grid (M.items maker.now) top.now.g.now layout.now (found_in_top (M.lists maker.now) top.now)
+        (with_axes (map axis_seen axes.now) (frame_of_top (M.lists maker.now) top.now size size))) }
 {
-    let frame = top_frame(&[], values, scales, set, axes, cells, &[], size, size);
+    let frame = top_frame(&[], top, set, axes, &[], size, size);
+    let numbers = Numbers { unit: 0, number: 0 };
     match grid_view(
         alloc,
         maker,
         &frame,
-        &g.group,
-        facts.inside.as_slice(),
+        &top.g.group,
+        top.facts.inside.as_slice(),
         layout,
-        0,
-        0,
+        numbers,
     ) {
-        Ok(view) => view_drawn(alloc, g, &frame, view),
+        Ok(view) => view_drawn(alloc, top.g, &frame, view),
         Err(error) => Err(error),
     }
 }
@@ -251,39 +239,20 @@ fn draw_axes<'s, 'x, 'i, M: MarkItems>(
 fn draw_grid<'s, 'x, M: MarkItems>(
     alloc: Global,
     maker: &M,
-    g: &'s VgSpec,
+    top: &Top<'s, 'x>,
     layout: &Layout,
-    facts: &CopyFacts,
-    values: ValuesAt<'x>,
-    cells: Option<&'x [(Text, Cell)]>,
-    scales: &'x [ScaleHere<'s, 'x>],
 ) -> Result<Drawing, EvalError>
     requires sound { M.sound maker.now }
-    requires top { IsTop g.now scales.now facts.now }
+    requires top { IsTop top.now.g.now top.now.scales.now top.now.facts.now }
     requires columns { IfSome layout.now.columns IsCount }
-    ensures { Evaluates result (grid_with_axes (M.items maker.now) g.now layout.now
-        (found_on_top (M.lists maker.now) (values_over values.entry.stores.now values.entry.levels.now) facts.now)
-        (top_seen (names_on_top (M.lists maker.now) (values_over values.entry.stores.now values.entry.levels.now))
-        (cells_seen cells.entry) (map scale_seen scales.now)
-        (pos 0) (pos 0))) }
+    ensures { Evaluates result (grid_with_axes (M.items maker.now) top.now.g.now layout.now (found_in_top (M.lists maker.now) top.now)
+        (frame_of_top (M.lists maker.now) top.now (pos 0) (pos 0))) }
 {
     let size = no_length();
-    let set = set_of(alloc, size, size, scales)?;
+    let set = set_of(alloc, size, size, top.scales)?;
     let indexed = IndexedSet::of(alloc, &set)?;
-    let axes = and_axes(alloc, &[], scales, axes_in(&g.group))?;
-    draw_axes(
-        alloc,
-        maker,
-        g,
-        layout,
-        facts,
-        values,
-        cells,
-        &*scales,
-        &indexed,
-        axes.as_slice(),
-        size,
-    )
+    let axes = and_axes(alloc, &[], top.scales, axes_in(&top.g.group))?;
+    draw_axes(alloc, maker, &*top, layout, &indexed, axes.as_slice(), size)
 }
 
 // What is drawn of the top with its scales, where these are the values of signals and its cells.
@@ -291,7 +260,7 @@ fn draw_top<'s, 'x, M: MarkItems>(
     alloc: Global,
     maker: &M,
     g: &'s VgSpec,
-    facts: &CopyFacts,
+    facts: &'x CopyFacts,
     values: ValuesAt<'x>,
     cells: Option<&'x [(Text, Cell)]>,
     scales: &'x [ScaleHere<'s, 'x>],
@@ -304,12 +273,16 @@ fn draw_top<'s, 'x, M: MarkItems>(
         (cells_seen cells.entry) (map scale_seen scales.now)
         (pos 0) (pos 0))) }
 {
+    let top = Top {
+        g,
+        facts,
+        values,
+        cells,
+        scales,
+    };
     match &g.group.layout {
-        Some(layout) => draw_grid(alloc, maker, g, layout, facts, values, cells, scales),
-        None => {
-            let sizing = Sizing { values, scales };
-            draw_plot(alloc, maker, g, facts, &sizing, cells)
-        }
+        Some(layout) => draw_grid(alloc, maker, &top, layout),
+        None => draw_plot(alloc, maker, &top),
     }
 }
 
@@ -356,7 +329,7 @@ pub fn drawn<'x, M: MarkItems>(
         alloc,
         maker,
         g,
-        facts,
+        &*facts,
         ValuesAt {
             stores,
             levels: signals,

@@ -5,7 +5,7 @@ ghost use Rattle.vega_spec.specs.declared.spec.VgMark.{out-VgMark};
 ghost use Rattle.vega_copies.specs.inner.Outlined.{group_object};
 ghost use Rattle.vega_drawing.specs.Scales.{with_domains, domain_length_here};
 ghost use Rattle.vega_drawing.specs.Frames.{more_cells, encoded_number};
-ghost use Rattle.vega_drawing.specs.inner.Framed.{unlisted, cells_seen, IsFrame};
+ghost use Rattle.vega_drawing.specs.inner.Framed.{unlisted, cells_seen, entered_by, IsFrame};
 ghost use Rattle.vega_drawing.specs.inner.Kept.{scale_seen};
 ghost use Rattle.vega_drawing.specs.inner.Levels.{values_over};
 
@@ -48,6 +48,32 @@ pub struct Frame<'s, 'a, 'i> {
     pub x: Num,
     /// How far they are moved down.
     pub y: Num,
+}
+
+/// How a copy of a group is entered from the copy round it.
+#[derive(Clone, Copy)]
+pub struct Entered<'a> {
+    /// The steps that lead to it from the top, the inner before the outer.
+    pub path: &'a [Step],
+    /// The levels of signals in it, its own among them.
+    pub levels: &'a [&'a Seq<(Text, Option<Cell>)>],
+    /// The cells of the facets round it and its own; None outside facets.
+    pub cells: Option<&'a [(Text, Cell)]>,
+}
+
+/// How a copy is entered by these steps, with these levels and cells.
+pub(crate) fn entered_by<'x>(
+    path: &'x [Step],
+    levels: &'x [&'x Seq<(Text, Option<Cell>)>],
+    cells: Option<&'x [(Text, Cell)]>,
+) -> Entered<'x>
+    ensures { result ≡ entered_by path.entry levels.entry cells.entry }
+{
+    Entered {
+        path,
+        levels,
+        cells,
+    }
 }
 
 /// What is read where a size is computed: the values of signals, and how long the domains of scales are.

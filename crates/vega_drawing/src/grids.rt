@@ -23,26 +23,25 @@ ghost use Rattle.vega_drawing.specs.inner.Placed.{copies_counted, grid_of_object
 ghost use Rattle.vega_drawing.specs.inner.Placed.{view_at, view_entered, view_named, view_scaled, sized_plot};
 
 use crate::axes::{all_axes_past, and_axes, axes_in};
-use crate::frames::{Frame, encoded_number, more_cells, slice_of};
+use crate::frames::{Entered, Frame, encoded_number, entered_by, more_cells, slice_of};
 use crate::headers::headers_of;
 use crate::items::MarkItems;
 use crate::kept::kept_scales;
 use crate::layouts::{grid_of, spacing_of};
 use crate::legends::push_legends;
+use crate::marks::{CopyHere, MarkHere, Numbers};
 use crate::plots::plot_of;
 use crate::scales::{OfChart, all_past, and_outer, own_set_of, set_of};
 use crate::sizes::size_cut;
 use crate::spots::{Grid, GridSpot, spot_of};
 use crate::values::{ValuesAt, with_signals, with_step};
-use cell_value::Cell;
 use expr_eval::EvalError;
 use mark_encode::{ChannelName, IndexedSet};
 use plot_scenes::{GridShown, Header, Placed, placed_grid, placed_plot};
 use std::alloc::Global;
-use text_kit::{Copies, OutOfMemory, Seq, Text};
+use text_kit::{Copies, OutOfMemory, Seq};
 use vega_copies::{
-    CopyFacts, MarkFacts, Step, count_groups_of, count_marks_of, facet_in, is_group, marks_in,
-    scales_in,
+    MarkFacts, Step, count_groups_of, count_marks_of, facet_in, is_group, marks_in, scales_in,
 };
 use vega_spec::{Group, Layout, VgMark};
 
@@ -53,20 +52,19 @@ pub(crate) fn plot_view<'s, M: MarkItems>(
     frame: &Frame<'s, '_, '_>,
     group: &'s Group,
     found: &[MarkFacts],
-    unit: u32,
-    number: u32,
+    numbers: Numbers,
 ) -> Result<Placed, EvalError>
     requires sound { M.sound maker.now }
     requires frame { IsFrame frame.now }
     requires marks { MayShow (marks_in (out-Group group.now)) found.now }
-    requires object { KeepsObject (object_numbered number (out-Group group.now)) }
-    requires few { AreFew unit (suc number) (marks_in (out-Group group.now)) }
-    ensures value { Evaluates result (option_map placed_plot (plot_of (M.items maker.now) (object_numbered number (out-Group group.now))
-        (marks_from unit (suc number) (marks_in (out-Group group.now))) (found_in_frame (M.lists maker.now) frame.now 0 found.now)
+    requires object { KeepsObject (object_numbered numbers.number (out-Group group.now)) }
+    requires few { AreFew numbers.unit (suc numbers.number) (marks_in (out-Group group.now)) }
+    ensures value { Evaluates result (option_map placed_plot (plot_of (M.items maker.now) (object_numbered numbers.number (out-Group group.now))
+        (marks_from numbers.unit (suc numbers.number) (marks_in (out-Group group.now))) (found_in_frame (M.lists maker.now) frame.now 0 found.now)
         (frame_seen (M.lists maker.now) frame.now))) }
     ensures legends { IfOk result HasLegends }
 {
-    match plot_of(alloc, maker, frame, group, found, unit, number) {
+    match plot_of(alloc, maker, frame, group, found, numbers) {
         Ok(plot) => Ok(placed_plot(alloc, plot)?),
         Err(error) => Err(error),
     }
@@ -100,8 +98,8 @@ fn grid_round(
     placed_grid(alloc, shown, cells)
 }
 
-/// The view of a copy of an object with a layout, of whose marks this was found: a grid over what stands in it. Its own number is `number`,
-/// and its marks are numbered from `unit` on.
+/// The view of a copy of an object with a layout, of whose marks this was found: a grid over what stands in it. The object and its marks are
+/// numbered from these numbers on.
 #[cycle(viewing)]
 pub(crate) fn grid_view<'s, M: MarkItems>(
     alloc: Global,
@@ -110,33 +108,35 @@ pub(crate) fn grid_view<'s, M: MarkItems>(
     group: &'s Group,
     found: &[MarkFacts],
     layout: &Layout,
-    unit: u32,
-    number: u32,
+    numbers: Numbers,
 ) -> Result<Placed, EvalError>
     requires sound { M.sound maker.now }
     requires frame { IsFrame frame.now }
     requires marks { MayShow (marks_in (out-Group group.now)) found.now }
     requires columns { IfSome layout.now.columns IsCount }
-    requires few { AreFew unit (suc number) (marks_in (out-Group group.now)) }
-    ensures value { Evaluates result (grid_of_object (M.items maker.now) (object_numbered number (out-Group group.now)) layout.now
-        (marks_from unit (suc number) (marks_in (out-Group group.now))) (found_in_frame (M.lists maker.now) frame.now 0 found.now)
+    requires few { AreFew numbers.unit (suc numbers.number) (marks_in (out-Group group.now)) }
+    ensures value { Evaluates result (grid_of_object (M.items maker.now) (object_numbered numbers.number (out-Group group.now)) layout.now
+        (marks_from numbers.unit (suc numbers.number) (marks_in (out-Group group.now))) (found_in_frame (M.lists maker.now) frame.now 0 found.now)
         (frame_seen (M.lists maker.now) frame.now)) }
     ensures legends { IfOk result HasLegends }
 {
     let Some(grid) = grid_of(layout, found) else {
         return Err(EvalError::Memory);
     };
-    match cells_of(
-        alloc,
-        maker,
-        frame,
-        grid,
-        marks_in(group),
-        found,
-        unit,
-        number + 1,
-    ) {
-        Ok(cells) => Ok(grid_round(alloc, frame, group, layout, number, grid.columns, cells)?),
+    let inside = Numbers {
+        unit: numbers.unit,
+        number: numbers.number + 1,
+    };
+    match cells_of(alloc, maker, frame, grid, marks_in(group), found, inside) {
+        Ok(cells) => Ok(grid_round(
+            alloc,
+            frame,
+            group,
+            layout,
+            numbers.number,
+            grid.columns,
+            cells,
+        )?),
         Err(error) => Err(error),
     }
 }
@@ -150,36 +150,33 @@ fn cells_of<'s, M: MarkItems>(
     grid: Grid,
     marks: &'s [VgMark],
     found: &[MarkFacts],
-    unit: u32,
-    number: u32,
+    numbers: Numbers,
 ) -> Result<Seq<Placed>, EvalError>
     requires sound { M.sound maker.now }
     requires frame { IsFrame frame.now }
     requires marks { MayShow marks.now found.now }
-    requires few { AreFew unit number marks.now }
+    requires few { AreFew numbers.unit numbers.number marks.now }
     requires columns { 0 < grid.columns }
     requires count { copies_counted found.now ≤ grid.cells }
-    ensures value { Evaluates result (views_in (M.items maker.now) (marks_from unit number marks.now)
+    ensures value { Evaluates result (views_in (M.items maker.now) (marks_from numbers.unit numbers.number marks.now)
         (found_in_frame (M.lists maker.now) frame.now 0 found.now) (frame_seen (M.lists maker.now) frame.now) grid 0) }
     ensures legends { IfOk result (All HasLegends) }
 {
     let mut cells = Seq::new(alloc);
-    let mut next_unit = unit;
-    let mut next_number = number;
+    let mut next_unit = numbers.unit;
+    let mut next_number = numbers.number;
     let mut at = 0;
     for mark in marks {
-        match push_mark(
-            alloc,
-            maker,
-            frame,
-            grid,
-            mark,
-            &found[at],
-            at,
-            next_unit,
-            next_number,
-            &mut cells,
-        ) {
+        let next = Numbers {
+            unit: next_unit,
+            number: next_number,
+        };
+        let here = MarkHere {
+            facts: &found[at],
+            place: at,
+            numbers: next,
+        };
+        match push_mark(alloc, maker, frame, grid, mark, &here, &mut cells) {
             Ok(()) => {}
             Err(error) => return Err(error),
         }
@@ -198,36 +195,24 @@ fn push_mark<'s, M: MarkItems>(
     frame: &Frame<'s, '_, '_>,
     grid: Grid,
     mark: &'s VgMark,
-    found: &MarkFacts,
-    place: usize,
-    unit: u32,
-    number: u32,
+    here: &MarkHere,
     cells: &mut Seq<Placed>,
 ) -> Result<(), EvalError>
     requires sound { M.sound maker.now }
     requires frame { IsFrame frame.now }
-    requires marks { MayShow (mark.now ∷ []) (found.now ∷ []) }
-    requires few { AreFew unit number (mark.now ∷ []) }
+    requires marks { MayShow (mark.now ∷ []) (here.now.facts.now ∷ []) }
+    requires few { AreFew here.now.numbers.unit here.now.numbers.number (mark.now ∷ []) }
     requires columns { 0 < grid.columns }
-    requires within { length cells.old + length (out-MarkFacts found.now).copies ≤ grid.cells }
-    ensures value { AddsViews result cells.old cells.new (views_of_mark (M.items maker.now) (frame_seen (M.lists maker.now) frame.now) grid unit
-        number mark.now (length cells.old) (copies_from (M.lists maker.now) frame.now place 0 (out-MarkFacts found.now).copies)) }
-    ensures count { OnOk result (length cells.new ≡ length cells.old + cells_of_mark mark.now (length (out-MarkFacts found.now).copies)) }
+    requires within { length cells.old + length (out-MarkFacts here.now.facts.now).copies ≤ grid.cells }
+    ensures value { AddsViews result cells.old cells.new (views_of_mark (M.items maker.now) (frame_seen (M.lists maker.now) frame.now) grid
+        here.now.numbers.unit
+        here.now.numbers.number mark.now (length cells.old)
+        (copies_from (M.lists maker.now) frame.now here.now.place 0 (out-MarkFacts here.now.facts.now).copies)) }
+    ensures count { OnOk result (length cells.new ≡ length cells.old + cells_of_mark mark.now (length (out-MarkFacts here.now.facts.now).copies)) }
     ensures legends { All HasLegends cells.old → OnOk result (All HasLegends cells.new) }
 {
     if is_group(mark) {
-        push_cells(
-            alloc,
-            maker,
-            frame,
-            grid,
-            mark,
-            found.copies.as_slice(),
-            place,
-            unit,
-            number,
-            cells,
-        )
+        push_cells(alloc, maker, frame, grid, mark, here, cells)
     } else {
         Ok(())
     }
@@ -241,32 +226,36 @@ fn push_cells<'s, M: MarkItems>(
     frame: &Frame<'s, '_, '_>,
     grid: Grid,
     mark: &'s VgMark,
-    copies: &[CopyFacts],
-    place: usize,
-    unit: u32,
-    number: u32,
+    here: &MarkHere,
     cells: &mut Seq<Placed>,
 ) -> Result<(), EvalError>
     requires sound { M.sound maker.now }
     requires frame { IsFrame frame.now }
     requires kept { KeepsMarks (marks_of (mark.now ∷ [])) }
-    requires copies { All (CopyFits (out-VgMark mark.now)) copies.now }
-    requires few { AreFew unit number (mark.now ∷ []) }
+    requires copies { All (CopyFits (out-VgMark mark.now)) (out-MarkFacts here.now.facts.now).copies }
+    requires few { AreFew here.now.numbers.unit here.now.numbers.number (mark.now ∷ []) }
     requires group { is_group (out-VgMark mark.now) ≡ true }
     requires columns { 0 < grid.columns }
-    requires within { length cells.old + length copies.now ≤ grid.cells }
+    requires within { length cells.old + length (out-MarkFacts here.now.facts.now).copies ≤ grid.cells }
     ensures value { AddsViews result cells.old cells.new (all_found (map (cell_seen (M.items maker.now) (frame_seen (M.lists maker.now) frame.now) grid
-        unit number (out-VgMark mark.now)) (enumerate_from (length cells.old) (copies_from (M.lists maker.now) frame.now place 0 copies.now)))) }
-    ensures count { OnOk result (length cells.new ≡ length cells.old + length copies.now) }
+        here.now.numbers.unit here.now.numbers.number (out-VgMark mark.now)) (enumerate_from (length cells.old)
+        (copies_from (M.lists maker.now) frame.now here.now.place 0 (out-MarkFacts here.now.facts.now).copies)))) }
+    ensures count { OnOk result (length cells.new ≡ length cells.old + length (out-MarkFacts here.now.facts.now).copies) }
     ensures legends { All HasLegends cells.old → OnOk result (All HasLegends cells.new) }
 {
+    let copies = here.facts.copies.as_slice();
     for (at, copy) in copies.iter().enumerate() {
         let spot = spot_of(grid, cells.len() as u64);
         let step = Step {
-            mark: place,
+            mark: here.place,
             copy: at,
         };
-        match cell_view(alloc, maker, frame, spot, mark, copy, step, unit, number) {
+        let one = CopyHere {
+            facts: copy,
+            step,
+            numbers: here.numbers,
+        };
+        match cell_view(alloc, maker, frame, spot, mark, &one) {
             Ok(view) => cells.push(view)?,
             Err(error) => return Err(error),
         }
@@ -282,23 +271,21 @@ fn cell_view<'s, M: MarkItems>(
     outer: &Frame<'s, '_, '_>,
     spot: GridSpot,
     mark: &'s VgMark,
-    copy: &CopyFacts,
-    step: Step,
-    unit: u32,
-    number: u32,
+    here: &CopyHere,
 ) -> Result<Placed, EvalError>
     requires sound { M.sound maker.now }
     requires frame { IsFrame outer.now }
     requires kept { KeepsMarks (marks_of (mark.now ∷ [])) }
-    requires copy { CopyFits (out-VgMark mark.now) copy.now }
-    requires few { AreFew unit number (mark.now ∷ []) }
+    requires copy { CopyFits (out-VgMark mark.now) here.now.facts.now }
+    requires few { AreFew here.now.numbers.unit here.now.numbers.number (mark.now ∷ []) }
     requires group { is_group (out-VgMark mark.now) ≡ true }
-    ensures value { Evaluates result (view_at (M.items maker.now) (frame_past (group_object number (out-VgMark mark.now)) spot
-        (frame_seen (M.lists maker.now) outer.now)) unit number (out-VgMark mark.now) (copy_in_frame (M.lists maker.now) outer.now step copy.now)) }
+    ensures value { Evaluates result (view_at (M.items maker.now) (frame_past (group_object here.now.numbers.number (out-VgMark mark.now)) spot
+        (frame_seen (M.lists maker.now) outer.now)) here.now.numbers.unit here.now.numbers.number (out-VgMark mark.now)
+        (copy_in_frame (M.lists maker.now) outer.now here.now.step here.now.facts.now)) }
     ensures legends { IfOk result HasLegends }
 {
     match facet_in(mark) {
-        None => copy_view(alloc, maker, outer, mark, copy, step, unit, number),
+        None => copy_view(alloc, maker, outer, mark, here),
         Some(_) => {
             let scales = all_past(alloc, spot, outer.scales)?;
             let axes = all_axes_past(alloc, spot, outer.axes)?;
@@ -307,92 +294,75 @@ fn cell_view<'s, M: MarkItems>(
                 axes: axes.as_slice(),
                 ..*outer
             };
-            copy_view(alloc, maker, &past, mark, copy, step, unit, number)
+            copy_view(alloc, maker, &past, mark, here)
         }
     }
 }
 
-// The view of a copy of a group, to which this step leads.
+// The view of a copy of a group.
 #[cycle(viewing)]
 fn copy_view<'s, M: MarkItems>(
     alloc: Global,
     maker: &M,
     outer: &Frame<'s, '_, '_>,
     mark: &'s VgMark,
-    copy: &CopyFacts,
-    step: Step,
-    unit: u32,
-    number: u32,
+    here: &CopyHere,
 ) -> Result<Placed, EvalError>
     requires sound { M.sound maker.now }
     requires frame { IsFrame outer.now }
     requires kept { KeepsMarks (marks_of (mark.now ∷ [])) }
-    requires copy { CopyFits (out-VgMark mark.now) copy.now }
-    requires few { AreFew unit number (mark.now ∷ []) }
+    requires copy { CopyFits (out-VgMark mark.now) here.now.facts.now }
+    requires few { AreFew here.now.numbers.unit here.now.numbers.number (mark.now ∷ []) }
     requires group { is_group (out-VgMark mark.now) ≡ true }
-    ensures value { Evaluates result (view_at (M.items maker.now) (frame_seen (M.lists maker.now) outer.now) unit number (out-VgMark mark.now)
-        (copy_in_frame (M.lists maker.now) outer.now step copy.now)) }
+    ensures value { Evaluates result (view_at (M.items maker.now) (frame_seen (M.lists maker.now) outer.now)
+        here.now.numbers.unit here.now.numbers.number (out-VgMark mark.now)
+        (copy_in_frame (M.lists maker.now) outer.now here.now.step here.now.facts.now)) }
     ensures legends { IfOk result HasLegends }
 {
-    let headers = headers_of(alloc, mark, &copy.cells, outer.headers)?;
-    let cells = more_cells(alloc, outer.cells, &copy.cells)?;
-    let levels = with_signals(alloc, &copy.signals, outer.values.levels)?;
-    let path = with_step(alloc, step, outer.path)?;
+    let headers = headers_of(alloc, mark, &here.facts.cells, outer.headers)?;
+    let cells = more_cells(alloc, outer.cells, &here.facts.cells)?;
+    let levels = with_signals(alloc, &here.facts.signals, outer.values.levels)?;
+    let path = with_step(alloc, here.step, outer.path)?;
     let steps = path.as_slice();
     let signals = levels.as_slice();
     let shown = headers.as_slice();
-    entered_view(
-        alloc,
-        maker,
-        &*outer,
-        steps,
-        signals,
-        slice_of(&cells),
-        shown,
-        mark,
-        copy,
-        unit,
-        number,
-    )
+    let entered = entered_by(steps, signals, slice_of(&cells));
+    entered_view(alloc, maker, &*outer, &entered, shown, mark, here)
 }
 
-// The view of a copy of a group to which these steps lead, with the signals round it and its own, the cells of the facets round it and its
-// own, and its headers.
+// The view of a copy of a group that is entered in this way, with its headers.
 #[cycle(viewing)]
 fn entered_view<'s, 'x, M: MarkItems>(
     alloc: Global,
     maker: &M,
     outer: &Frame<'s, 'x, 'x>,
-    path: &'x [Step],
-    levels: &'x [&'x Seq<(Text, Option<Cell>)>],
-    cells: Option<&'x [(Text, Cell)]>,
+    entered: &Entered<'x>,
     headers: &'x [Header],
     mark: &'s VgMark,
-    copy: &CopyFacts,
-    unit: u32,
-    number: u32,
+    here: &CopyHere,
 ) -> Result<Placed, EvalError>
     requires sound { M.sound maker.now }
     requires frame { IsFrame outer.now }
     requires kept { KeepsMarks (marks_of (mark.now ∷ [])) }
-    requires copy { CopyFits (out-VgMark mark.now) copy.now }
-    requires few { AreFew unit number (mark.now ∷ []) }
+    requires copy { CopyFits (out-VgMark mark.now) here.now.facts.now }
+    requires few { AreFew here.now.numbers.unit here.now.numbers.number (mark.now ∷ []) }
     requires group { is_group (out-VgMark mark.now) ≡ true }
-    ensures value { Evaluates result (view_entered (M.items maker.now) (M.lists maker.now) outer.now path.now levels.now cells.entry headers.now
-        unit number (out-VgMark mark.now) copy.now) }
+    ensures value { Evaluates result (view_entered (M.items maker.now) (M.lists maker.now) outer.now
+        entered.now.path.now entered.now.levels.now entered.now.cells headers.now
+        here.now.numbers.unit here.now.numbers.number (out-VgMark mark.now) here.now.facts.now) }
     ensures legends { IfOk result HasLegends }
 {
     let named = Frame {
-        path,
+        path: entered.path,
         values: ValuesAt {
             stores: outer.values.stores,
-            levels,
+            levels: entered.levels,
         },
-        cells,
+        cells: entered.cells,
         headers,
         ..*outer
     };
-    named_view(alloc, maker, &named, mark, copy, unit, number)
+    named_view(alloc, maker, &named, mark, here)
 }
 
 // The view of a copy of a group whose names are known.
@@ -402,41 +372,40 @@ fn named_view<'s, M: MarkItems>(
     maker: &M,
     named: &Frame<'s, '_, '_>,
     mark: &'s VgMark,
-    copy: &CopyFacts,
-    unit: u32,
-    number: u32,
+    here: &CopyHere,
 ) -> Result<Placed, EvalError>
     requires sound { M.sound maker.now }
     requires frame { IsFrame named.now }
     requires kept { KeepsMarks (marks_of (mark.now ∷ [])) }
-    requires copy { CopyFits (out-VgMark mark.now) copy.now }
-    requires few { AreFew unit number (mark.now ∷ []) }
+    requires copy { CopyFits (out-VgMark mark.now) here.now.facts.now }
+    requires few { AreFew here.now.numbers.unit here.now.numbers.number (mark.now ∷ []) }
     requires group { is_group (out-VgMark mark.now) ≡ true }
-    ensures value { Evaluates result (view_named (M.items maker.now) (frame_seen (M.lists maker.now) named.now) unit number (out-VgMark mark.now)
-        (out-CopyFacts copy.now).domains (found_in_frame (M.lists maker.now) named.now 0 (out-CopyFacts copy.now).inside)) }
+    ensures value { Evaluates result (view_named (M.items maker.now) (frame_seen (M.lists maker.now) named.now)
+        here.now.numbers.unit here.now.numbers.number (out-VgMark mark.now)
+        (out-CopyFacts here.now.facts.now).domains (found_in_frame (M.lists maker.now) named.now 0 (out-CopyFacts here.now.facts.now).inside)) }
     ensures legends { IfOk result HasLegends }
 {
-    let inside = copy.inside.as_slice();
+    let inside = here.facts.inside.as_slice();
     let own = kept_scales(
         alloc,
         OfChart::Group,
         scales_in(&mark.group),
-        copy.domains.as_slice(),
+        here.facts.domains.as_slice(),
     )?;
     if own.is_empty() {
-        return scaled_view(alloc, maker, named, mark, inside, unit, number);
+        return scaled_view(alloc, maker, named, mark, inside, here.numbers);
     }
     let mine = own.as_slice();
     let scales = and_outer(alloc, mine, named.scales)?;
-    let here = scales.as_slice();
+    let seen = scales.as_slice();
     let set = own_set_of(alloc, named.width, named.height, mine)?;
     let indexed = IndexedSet::within(alloc, &set, named.set)?;
     let scaled = Frame {
-        scales: here,
+        scales: seen,
         set: &indexed,
         ..*named
     };
-    scaled_view(alloc, maker, &scaled, mark, inside, unit, number)
+    scaled_view(alloc, maker, &scaled, mark, inside, here.numbers)
 }
 
 // The view of a copy of a group whose scales are known.
@@ -447,31 +416,22 @@ fn scaled_view<'s, M: MarkItems>(
     scaled: &Frame<'s, '_, '_>,
     mark: &'s VgMark,
     found: &[MarkFacts],
-    unit: u32,
-    number: u32,
+    numbers: Numbers,
 ) -> Result<Placed, EvalError>
     requires sound { M.sound maker.now }
     requires frame { IsFrame scaled.now }
     requires marks { MayShow (marks_in (out-Group (out-VgMark mark.now).group)) found.now }
-    requires object { KeepsObject (group_object number (out-VgMark mark.now)) }
-    requires few { AreFew unit number (mark.now ∷ []) }
+    requires object { KeepsObject (group_object numbers.number (out-VgMark mark.now)) }
+    requires few { AreFew numbers.unit numbers.number (mark.now ∷ []) }
     requires group { is_group (out-VgMark mark.now) ≡ true }
-    ensures value { Evaluates result (view_scaled (M.items maker.now) (frame_seen (M.lists maker.now) scaled.now) unit number (out-VgMark mark.now)
+    ensures value { Evaluates result (view_scaled (M.items maker.now) (frame_seen (M.lists maker.now) scaled.now)
+        numbers.unit numbers.number (out-VgMark mark.now)
         (found_in_frame (M.lists maker.now) scaled.now 0 found.now)) }
     ensures legends { IfOk result HasLegends }
 {
     match &mark.group.layout {
-        Some(layout) => inner_grid_view(
-            alloc,
-            maker,
-            scaled,
-            &mark.group,
-            found,
-            layout,
-            unit,
-            number,
-        ),
-        None => inner_plot_view(alloc, maker, scaled, mark, found, unit, number),
+        Some(layout) => inner_grid_view(alloc, maker, scaled, &mark.group, found, layout, numbers),
+        None => inner_plot_view(alloc, maker, scaled, mark, found, numbers),
     }
 }
 
@@ -484,18 +444,17 @@ fn inner_grid_view<'s, M: MarkItems>(
     group: &'s Group,
     found: &[MarkFacts],
     layout: &Layout,
-    unit: u32,
-    number: u32,
+    numbers: Numbers,
 ) -> Result<Placed, EvalError>
     requires sound { M.sound maker.now }
     requires frame { IsFrame scaled.now }
     requires marks { MayShow (marks_in (out-Group group.now)) found.now }
     requires axes { All IsAxis (object_here (out-Group group.now)).axes }
     requires columns { IfSome layout.now.columns IsCount }
-    requires few { AreFew unit (suc number) (marks_in (out-Group group.now)) }
-    ensures value { Evaluates result (grid_of_object (M.items maker.now) (object_numbered number (out-Group group.now)) layout.now
-        (marks_from unit (suc number) (marks_in (out-Group group.now))) (found_in_frame (M.lists maker.now) scaled.now 0 found.now)
-        (as_grid (object_numbered number (out-Group group.now)) (frame_seen (M.lists maker.now) scaled.now))) }
+    requires few { AreFew numbers.unit (suc numbers.number) (marks_in (out-Group group.now)) }
+    ensures value { Evaluates result (grid_of_object (M.items maker.now) (object_numbered numbers.number (out-Group group.now)) layout.now
+        (marks_from numbers.unit (suc numbers.number) (marks_in (out-Group group.now))) (found_in_frame (M.lists maker.now) scaled.now 0 found.now)
+        (as_grid (object_numbered numbers.number (out-Group group.now)) (frame_seen (M.lists maker.now) scaled.now))) }
     ensures legends { IfOk result HasLegends }
 {
     let axes = and_axes(alloc, scaled.axes, scaled.scales, axes_in(group))?;
@@ -503,7 +462,7 @@ fn inner_grid_view<'s, M: MarkItems>(
         axes: axes.as_slice(),
         ..*scaled
     };
-    grid_view(alloc, maker, &here, group, found, layout, unit, number)
+    grid_view(alloc, maker, &here, group, found, layout, numbers)
 }
 
 // The view of a copy of a group without a layout whose scales are known.
@@ -513,16 +472,16 @@ fn inner_plot_view<'s, M: MarkItems>(
     scaled: &Frame<'s, '_, '_>,
     mark: &'s VgMark,
     found: &[MarkFacts],
-    unit: u32,
-    number: u32,
+    numbers: Numbers,
 ) -> Result<Placed, EvalError>
     requires sound { M.sound maker.now }
     requires frame { IsFrame scaled.now }
     requires marks { MayShow (marks_in (out-Group (out-VgMark mark.now).group)) found.now }
-    requires object { KeepsObject (group_object number (out-VgMark mark.now)) }
-    requires few { AreFew unit number (mark.now ∷ []) }
+    requires object { KeepsObject (group_object numbers.number (out-VgMark mark.now)) }
+    requires few { AreFew numbers.unit numbers.number (mark.now ∷ []) }
     requires group { is_group (out-VgMark mark.now) ≡ true }
-    ensures value { Evaluates result (sized_plot (M.items maker.now) (frame_seen (M.lists maker.now) scaled.now) unit number (out-VgMark mark.now)
+    ensures value { Evaluates result (sized_plot (M.items maker.now) (frame_seen (M.lists maker.now) scaled.now)
+        numbers.unit numbers.number (out-VgMark mark.now)
         (found_in_frame (M.lists maker.now) scaled.now 0 found.now)) }
     ensures legends { IfOk result HasLegends }
 {
@@ -542,5 +501,5 @@ fn inner_plot_view<'s, M: MarkItems>(
         height,
         ..*scaled
     };
-    plot_view(alloc, maker, &sized, &mark.group, found, unit, number)
+    plot_view(alloc, maker, &sized, &mark.group, found, numbers)
 }

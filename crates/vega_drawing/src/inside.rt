@@ -16,22 +16,22 @@ ghost use Rattle.vega_drawing.specs.inner.Drawn.{inside_seen, IsInside, DrawsMor
 ghost use Rattle.vega_drawing.specs.inner.Drawn.{placed_from, drawn_framed, drawn_scaled, drawn_entered, drawn_copy, drawn_group, drawn_one};
 
 use crate::axes::{axes_in, push_own_axes};
-use crate::frames::{Frame, encoded_number, more_cells, slice_of};
+use crate::frames::{Entered, Frame, encoded_number, entered_by, more_cells, slice_of};
 use crate::items::MarkItems;
 use crate::kept::kept_scales;
 use crate::legends::push_legends;
+use crate::marks::{CopyHere, MarkHere, Numbers};
 use crate::scales::{OfChart, and_outer, own_set_of};
 use crate::values::{ValuesAt, with_signals, with_step};
-use cell_value::Cell;
 use expr_eval::EvalError;
 use fixed_num::Num;
 use mark_encode::{ChannelName, IndexedSet};
 use plot_scenes::{AxisShown, LegendShown};
 use scene_tree::Item;
 use std::alloc::Global;
-use text_kit::{OutOfMemory, Seq, Text};
+use text_kit::{OutOfMemory, Seq};
 use vega_copies::{
-    CopyFacts, MarkFacts, Step, count_groups_of, count_marks_of, is_group, marks_in, scales_in,
+    MarkFacts, Step, count_groups_of, count_marks_of, is_group, marks_in, scales_in,
 };
 use vega_spec::{Group, VgMark};
 
@@ -133,20 +133,19 @@ fn draw_framed<M: MarkItems>(
     alloc: Global,
     maker: &M,
     frame: &Frame,
-    unit: u32,
-    number: u32,
     mark: &VgMark,
-    copy: &CopyFacts,
+    here: &CopyHere,
     out: &mut Inside,
 ) -> Result<(), EvalError>
     requires sound { M.sound maker.now }
     requires frame { IsFrame frame.now }
-    requires marks { MayShow (marks_in (out-Group (out-VgMark mark.now).group)) (out-CopyFacts copy.now).inside }
-    requires object { KeepsObject (group_object number (out-VgMark mark.now)) }
-    requires few { AreFew unit number (mark.now ∷ []) }
+    requires marks { MayShow (marks_in (out-Group (out-VgMark mark.now).group)) (out-CopyFacts here.now.facts.now).inside }
+    requires object { KeepsObject (group_object here.now.numbers.number (out-VgMark mark.now)) }
+    requires few { AreFew here.now.numbers.unit here.now.numbers.number (mark.now ∷ []) }
     requires group { is_group (out-VgMark mark.now) ≡ true }
-    ensures value { DrawsMore result out.old out.new (drawn_framed (M.items maker.now) (frame_seen (M.lists maker.now) frame.now) unit number
-        (out-VgMark mark.now) (found_in_frame (M.lists maker.now) frame.now 0 (out-CopyFacts copy.now).inside)) }
+    ensures value { DrawsMore result out.old out.new (drawn_framed (M.items maker.now) (frame_seen (M.lists maker.now) frame.now)
+        here.now.numbers.unit here.now.numbers.number
+        (out-VgMark mark.now) (found_in_frame (M.lists maker.now) frame.now 0 (out-CopyFacts here.now.facts.now).inside)) }
     ensures kept { IsInside out.old → OnOk result (IsInside out.new) }
 {
     let x = match place_from(alloc, frame, mark, ChannelName::X, frame.x) {
@@ -157,16 +156,19 @@ fn draw_framed<M: MarkItems>(
         Ok(y) => y,
         Err(error) => return Err(error),
     };
-    let here = Frame { x, y, ..*frame };
-    draw_guides(alloc, &here, number, &mark.group, out)?;
+    let moved = Frame { x, y, ..*frame };
+    draw_guides(alloc, &moved, here.numbers.number, &mark.group, out)?;
+    let inside = Numbers {
+        unit: here.numbers.unit,
+        number: here.numbers.number + 1,
+    };
     draw_all(
         alloc,
         maker,
-        &here,
-        unit,
-        number + 1,
+        &moved,
+        inside,
         marks_in(&mark.group),
-        copy.inside.as_slice(),
+        here.facts.inside.as_slice(),
         out,
     )
 }
@@ -177,156 +179,142 @@ fn draw_named<M: MarkItems>(
     alloc: Global,
     maker: &M,
     named: &Frame,
-    unit: u32,
-    number: u32,
     mark: &VgMark,
-    copy: &CopyFacts,
+    here: &CopyHere,
     out: &mut Inside,
 ) -> Result<(), EvalError>
     requires sound { M.sound maker.now }
     requires frame { IsFrame named.now }
-    requires marks { MayShow (marks_in (out-Group (out-VgMark mark.now).group)) (out-CopyFacts copy.now).inside }
-    requires copy { CopyFits (out-VgMark mark.now) copy.now }
-    requires object { KeepsObject (group_object number (out-VgMark mark.now)) }
-    requires few { AreFew unit number (mark.now ∷ []) }
+    requires marks { MayShow (marks_in (out-Group (out-VgMark mark.now).group)) (out-CopyFacts here.now.facts.now).inside }
+    requires copy { CopyFits (out-VgMark mark.now) here.now.facts.now }
+    requires object { KeepsObject (group_object here.now.numbers.number (out-VgMark mark.now)) }
+    requires few { AreFew here.now.numbers.unit here.now.numbers.number (mark.now ∷ []) }
     requires group { is_group (out-VgMark mark.now) ≡ true }
-    ensures value { DrawsMore result out.old out.new (drawn_scaled (M.items maker.now) (frame_seen (M.lists maker.now) named.now) unit number
-        (out-VgMark mark.now) (out-CopyFacts copy.now).domains (found_in_frame (M.lists maker.now) named.now 0 (out-CopyFacts copy.now).inside)) }
+    ensures value { DrawsMore result out.old out.new (drawn_scaled (M.items maker.now) (frame_seen (M.lists maker.now) named.now)
+        here.now.numbers.unit here.now.numbers.number
+        (out-VgMark mark.now) (out-CopyFacts here.now.facts.now).domains
+        (found_in_frame (M.lists maker.now) named.now 0 (out-CopyFacts here.now.facts.now).inside)) }
     ensures kept { IsInside out.old → OnOk result (IsInside out.new) }
 {
     let own = kept_scales(
         alloc,
         OfChart::Group,
         scales_in(&mark.group),
-        copy.domains.as_slice(),
+        here.facts.domains.as_slice(),
     )?;
     if own.is_empty() {
-        return draw_framed(alloc, maker, named, unit, number, mark, copy, out);
+        return draw_framed(alloc, maker, named, mark, here, out);
     }
     let mine = own.as_slice();
     let scales = and_outer(alloc, mine, named.scales)?;
-    let here = scales.as_slice();
+    let seen = scales.as_slice();
     let set = own_set_of(alloc, named.width, named.height, mine)?;
     let indexed = IndexedSet::within(alloc, &set, named.set)?;
     let frame = Frame {
-        scales: here,
+        scales: seen,
         set: &indexed,
         ..*named
     };
-    draw_framed(alloc, maker, &frame, unit, number, mark, copy, out)
+    draw_framed(alloc, maker, &frame, mark, here, out)
 }
 
-// What a copy of a group draws to which these steps lead, with the signals round it and its own, and the cells of the facets round it and its
-// own.
+// What a copy of a group draws that is entered in this way.
 #[cycle(drawing)]
 fn draw_entered<'x, M: MarkItems>(
     alloc: Global,
     maker: &M,
     outer: &Frame<'x, 'x, 'x>,
-    path: &'x [Step],
-    levels: &'x [&'x Seq<(Text, Option<Cell>)>],
-    cells: Option<&'x [(Text, Cell)]>,
-    unit: u32,
-    number: u32,
+    entered: &Entered<'x>,
     mark: &VgMark,
-    copy: &CopyFacts,
+    here: &CopyHere,
     out: &mut Inside,
 ) -> Result<(), EvalError>
     requires sound { M.sound maker.now }
     requires frame { IsFrame outer.now }
-    requires marks { MayShow (marks_in (out-Group (out-VgMark mark.now).group)) (out-CopyFacts copy.now).inside }
-    requires copy { CopyFits (out-VgMark mark.now) copy.now }
-    requires object { KeepsObject (group_object number (out-VgMark mark.now)) }
-    requires few { AreFew unit number (mark.now ∷ []) }
+    requires marks { MayShow (marks_in (out-Group (out-VgMark mark.now).group)) (out-CopyFacts here.now.facts.now).inside }
+    requires copy { CopyFits (out-VgMark mark.now) here.now.facts.now }
+    requires object { KeepsObject (group_object here.now.numbers.number (out-VgMark mark.now)) }
+    requires few { AreFew here.now.numbers.unit here.now.numbers.number (mark.now ∷ []) }
     requires group { is_group (out-VgMark mark.now) ≡ true }
-    ensures value { DrawsMore result out.old out.new (drawn_entered (M.items maker.now) (M.lists maker.now) outer.now path.now levels.now cells.entry
-        unit number (out-VgMark mark.now) copy.now) }
+    ensures value { DrawsMore result out.old out.new (drawn_entered (M.items maker.now) (M.lists maker.now) outer.now
+        entered.now.path.now entered.now.levels.now entered.now.cells
+        here.now.numbers.unit here.now.numbers.number (out-VgMark mark.now) here.now.facts.now) }
     ensures kept { IsInside out.old → OnOk result (IsInside out.new) }
 {
     let named = Frame {
-        path,
+        path: entered.path,
         values: ValuesAt {
             stores: outer.values.stores,
-            levels,
+            levels: entered.levels,
         },
-        cells,
+        cells: entered.cells,
         ..*outer
     };
-    draw_named(alloc, maker, &named, unit, number, mark, copy, out)
+    draw_named(alloc, maker, &named, mark, here, out)
 }
 
-// What a copy of a group draws, to which this step leads.
+// What a copy of a group draws.
 #[cycle(drawing)]
 fn draw_copy<M: MarkItems>(
     alloc: Global,
     maker: &M,
     outer: &Frame,
-    unit: u32,
-    number: u32,
     mark: &VgMark,
-    copy: &CopyFacts,
-    step: Step,
+    here: &CopyHere,
     out: &mut Inside,
 ) -> Result<(), EvalError>
     requires sound { M.sound maker.now }
     requires frame { IsFrame outer.now }
     requires kept { KeepsMarks (marks_of (mark.now ∷ [])) }
-    requires copy { CopyFits (out-VgMark mark.now) copy.now }
-    requires few { AreFew unit number (mark.now ∷ []) }
+    requires copy { CopyFits (out-VgMark mark.now) here.now.facts.now }
+    requires few { AreFew here.now.numbers.unit here.now.numbers.number (mark.now ∷ []) }
     requires group { is_group (out-VgMark mark.now) ≡ true }
-    ensures value { DrawsMore result out.old out.new (drawn_copy (M.items maker.now) (frame_seen (M.lists maker.now) outer.now) unit number
-        (out-VgMark mark.now) (copy_in_frame (M.lists maker.now) outer.now step copy.now)) }
+    ensures value { DrawsMore result out.old out.new (drawn_copy (M.items maker.now) (frame_seen (M.lists maker.now) outer.now)
+        here.now.numbers.unit here.now.numbers.number
+        (out-VgMark mark.now) (copy_in_frame (M.lists maker.now) outer.now here.now.step here.now.facts.now)) }
     ensures kept { IsInside out.old → OnOk result (IsInside out.new) }
 {
-    let cells = more_cells(alloc, outer.cells, &copy.cells)?;
-    let levels = with_signals(alloc, &copy.signals, outer.values.levels)?;
-    let path = with_step(alloc, step, outer.path)?;
+    let cells = more_cells(alloc, outer.cells, &here.facts.cells)?;
+    let levels = with_signals(alloc, &here.facts.signals, outer.values.levels)?;
+    let path = with_step(alloc, here.step, outer.path)?;
     let steps = path.as_slice();
     let signals = levels.as_slice();
-    draw_entered(
-        alloc,
-        maker,
-        &*outer,
-        steps,
-        signals,
-        slice_of(&cells),
-        unit,
-        number,
-        mark,
-        copy,
-        out,
-    )
+    let entered = entered_by(steps, signals, slice_of(&cells));
+    draw_entered(alloc, maker, &*outer, &entered, mark, here, out)
 }
 
-// What the copies of a group draw that stands at this place among the marks of its object.
+// What the copies of a group draw.
 #[cycle(drawing)]
 fn draw_group<M: MarkItems>(
     alloc: Global,
     maker: &M,
     frame: &Frame,
-    unit: u32,
-    number: u32,
     mark: &VgMark,
-    found: &MarkFacts,
-    place: usize,
+    here: &MarkHere,
     out: &mut Inside,
 ) -> Result<(), EvalError>
     requires sound { M.sound maker.now }
     requires frame { IsFrame frame.now }
-    requires marks { MayShow (mark.now ∷ []) (found.now ∷ []) }
-    requires few { AreFew unit number (mark.now ∷ []) }
+    requires marks { MayShow (mark.now ∷ []) (here.now.facts.now ∷ []) }
+    requires few { AreFew here.now.numbers.unit here.now.numbers.number (mark.now ∷ []) }
     requires group { is_group (out-VgMark mark.now) ≡ true }
-    ensures value { DrawsMore result out.old out.new (drawn_group (M.items maker.now) (frame_seen (M.lists maker.now) frame.now) unit number
-        (out-VgMark mark.now) (copies_from (M.lists maker.now) frame.now place 0 (out-MarkFacts found.now).copies)) }
+    ensures value { DrawsMore result out.old out.new (drawn_group (M.items maker.now) (frame_seen (M.lists maker.now) frame.now)
+        here.now.numbers.unit here.now.numbers.number
+        (out-VgMark mark.now) (copies_from (M.lists maker.now) frame.now here.now.place 0 (out-MarkFacts here.now.facts.now).copies)) }
     ensures kept { IsInside out.old → OnOk result (IsInside out.new) }
 {
-    let copies = found.copies.as_slice();
+    let copies = here.facts.copies.as_slice();
     for (at, copy) in copies.iter().enumerate() {
         let step = Step {
-            mark: place,
+            mark: here.place,
             copy: at,
         };
-        match draw_copy(alloc, maker, frame, unit, number, mark, copy, step, out) {
+        let one = CopyHere {
+            facts: copy,
+            step,
+            numbers: here.numbers,
+        };
+        match draw_copy(alloc, maker, frame, mark, &one, out) {
             Ok(()) => {}
             Err(error) => return Err(error),
         }
@@ -334,43 +322,39 @@ fn draw_group<M: MarkItems>(
     Ok(())
 }
 
-// Adds what a mark draws that is numbered `unit`, or a group that is numbered `number` and in which marks are numbered from `unit` on.
+// Adds what a mark draws.
 #[cycle(drawing)]
 fn draw_one<M: MarkItems>(
     alloc: Global,
     maker: &M,
     frame: &Frame,
-    unit: u32,
-    number: u32,
     mark: &VgMark,
-    found: &MarkFacts,
-    place: usize,
+    here: &MarkHere,
     out: &mut Inside,
 ) -> Result<(), EvalError>
     requires sound { M.sound maker.now }
     requires frame { IsFrame frame.now }
-    requires marks { MayShow (mark.now ∷ []) (found.now ∷ []) }
-    requires few { AreFew unit number (mark.now ∷ []) }
-    ensures value { DrawsMore result out.old out.new (drawn_one (M.items maker.now) (frame_seen (M.lists maker.now) frame.now) unit number mark.now
-        (copies_from (M.lists maker.now) frame.now place 0 (out-MarkFacts found.now).copies)) }
+    requires marks { MayShow (mark.now ∷ []) (here.now.facts.now ∷ []) }
+    requires few { AreFew here.now.numbers.unit here.now.numbers.number (mark.now ∷ []) }
+    ensures value { DrawsMore result out.old out.new (drawn_one (M.items maker.now) (frame_seen (M.lists maker.now) frame.now)
+        here.now.numbers.unit here.now.numbers.number mark.now
+        (copies_from (M.lists maker.now) frame.now here.now.place 0 (out-MarkFacts here.now.facts.now).copies)) }
     ensures kept { IsInside out.old → OnOk result (IsInside out.new) }
 {
     if is_group(mark) {
-        draw_group(alloc, maker, frame, unit, number, mark, found, place, out)
+        draw_group(alloc, maker, frame, mark, here, out)
     } else {
-        draw_mark(alloc, maker, frame, unit, mark, out)
+        draw_mark(alloc, maker, frame, here.numbers.unit, mark, out)
     }
 }
 
-/// Adds what marks draw whose groups have the copies that were found, in the order of the text. They are numbered from `unit` on, and the
-/// groups among them from `number` on.
+/// Adds what marks draw whose groups have the copies that were found, in the order of the text, numbered from these numbers on.
 #[cycle(drawing)]
 pub(crate) fn draw_all<M: MarkItems>(
     alloc: Global,
     maker: &M,
     frame: &Frame,
-    unit: u32,
-    number: u32,
+    numbers: Numbers,
     marks: &[VgMark],
     found: &[MarkFacts],
     out: &mut Inside,
@@ -378,26 +362,25 @@ pub(crate) fn draw_all<M: MarkItems>(
     requires sound { M.sound maker.now }
     requires frame { IsFrame frame.now }
     requires marks { MayShow marks.now found.now }
-    requires few { AreFew unit number marks.now }
-    ensures value { DrawsMore result out.old out.new (drawn_in (M.items maker.now) (marks_from unit number marks.now)
+    requires few { AreFew numbers.unit numbers.number marks.now }
+    ensures value { DrawsMore result out.old out.new (drawn_in (M.items maker.now) (marks_from numbers.unit numbers.number marks.now)
         (found_in_frame (M.lists maker.now) frame.now 0 found.now) (frame_seen (M.lists maker.now) frame.now)) }
     ensures kept { IsInside out.old → OnOk result (IsInside out.new) }
 {
-    let mut next_unit = unit;
-    let mut next_number = number;
+    let mut next_unit = numbers.unit;
+    let mut next_number = numbers.number;
     let mut at = 0;
     for mark in marks {
-        match draw_one(
-            alloc,
-            maker,
-            frame,
-            next_unit,
-            next_number,
-            mark,
-            &found[at],
-            at,
-            out,
-        ) {
+        let next = Numbers {
+            unit: next_unit,
+            number: next_number,
+        };
+        let here = MarkHere {
+            facts: &found[at],
+            place: at,
+            numbers: next,
+        };
+        match draw_one(alloc, maker, frame, mark, &here, out) {
             Ok(()) => {}
             Err(error) => return Err(error),
         }

@@ -16,6 +16,17 @@ use text_kit::{OutOfMemory, Seq, Text};
 use vega_guides::{LegendChannel, legend_shown};
 use vega_spec::{Group, Legend};
 
+/// A legend of an object.
+#[derive(Clone, Copy)]
+pub struct LegendHere<'s> {
+    /// The number of the object.
+    pub object: u32,
+    /// Its place among the legends of the object, from 0 on.
+    pub index: usize,
+    /// The legend.
+    pub legend: &'s Legend,
+}
+
 // The legends of an object.
 fn legends_in(group: &Group) -> &[Legend]
     ensures { result.now ≡ (object_here (out-Group group.now)).legends }
@@ -30,28 +41,26 @@ fn legends_in(group: &Group) -> &[Legend]
 fn push_named(
     alloc: Global,
     frame: &Frame,
-    object: u32,
-    index: usize,
-    legend: &Legend,
+    here: &LegendHere,
     place: u8,
     channel: LegendChannel,
     name: &Text,
     out: &mut Seq<LegendShown>,
 ) -> Result<(), OutOfMemory>
     requires frame { IsFrame frame.now }
-    requires named { scale_shown channel legend.now ≡ Some name.now }
+    requires named { scale_shown channel here.now.legend.now ≡ Some name.now }
     ensures value { OnOk result (out.new ≡ out.old
-        ++ option_to_list (legend_in_channel object (unlisted frame.now) (index, legend.now) (place, channel))) }
+        ++ option_to_list (legend_in_channel here.now.object (unlisted frame.now) (here.now.index, here.now.legend.now) (place, channel))) }
     ensures kept { All IsLegendShown out.old → OnOk result (All IsLegendShown out.new) }
 {
     match scale_named(frame.scales, name.as_str()) {
         Some(scale) => {
-            let shown = legend_shown(alloc, channel, legend)?;
+            let shown = legend_shown(alloc, channel, here.legend)?;
             let laid = laid_over(alloc, frame.width, frame.height, scale)?;
             out.push(LegendShown {
                 channel: place,
-                object: object as usize,
-                index,
+                object: here.object as usize,
+                index: here.index,
                 legend: shown,
                 scale: laid,
             })
@@ -64,22 +73,18 @@ fn push_named(
 fn push_in_channel(
     alloc: Global,
     frame: &Frame,
-    object: u32,
-    index: usize,
-    legend: &Legend,
+    here: &LegendHere,
     place: u8,
     channel: LegendChannel,
     out: &mut Seq<LegendShown>,
 ) -> Result<(), OutOfMemory>
     requires { IsFrame frame.now }
     ensures value { OnOk result (out.new ≡ out.old
-        ++ option_to_list (legend_in_channel object (unlisted frame.now) (index, legend.now) (place, channel))) }
+        ++ option_to_list (legend_in_channel here.now.object (unlisted frame.now) (here.now.index, here.now.legend.now) (place, channel))) }
     ensures kept { All IsLegendShown out.old → OnOk result (All IsLegendShown out.new) }
 {
-    match vega_guides::scale_shown(channel, legend) {
-        Some(name) => push_named(
-            alloc, frame, object, index, legend, place, channel, name, out,
-        ),
+    match vega_guides::scale_shown(channel, here.legend) {
+        Some(name) => push_named(alloc, frame, here, place, channel, name, out),
         None => Ok(()),
     }
 }
@@ -88,56 +93,18 @@ fn push_in_channel(
 fn push_legend(
     alloc: Global,
     frame: &Frame,
-    object: u32,
-    index: usize,
-    legend: &Legend,
+    here: &LegendHere,
     out: &mut Seq<LegendShown>,
 ) -> Result<(), OutOfMemory>
     requires { IsFrame frame.now }
     ensures value { OnOk result (out.new ≡ out.old
-        ++ filter_map (legend_in_channel object (unlisted frame.now) (index, legend.now)) legend_channels) }
+        ++ filter_map (legend_in_channel here.now.object (unlisted frame.now) (here.now.index, here.now.legend.now)) legend_channels) }
     ensures kept { All IsLegendShown out.old → OnOk result (All IsLegendShown out.new) }
 {
-    push_in_channel(
-        alloc,
-        frame,
-        object,
-        index,
-        legend,
-        0,
-        LegendChannel::Fill,
-        out,
-    )?;
-    push_in_channel(
-        alloc,
-        frame,
-        object,
-        index,
-        legend,
-        1,
-        LegendChannel::Opacity,
-        out,
-    )?;
-    push_in_channel(
-        alloc,
-        frame,
-        object,
-        index,
-        legend,
-        2,
-        LegendChannel::Shape,
-        out,
-    )?;
-    push_in_channel(
-        alloc,
-        frame,
-        object,
-        index,
-        legend,
-        3,
-        LegendChannel::Size,
-        out,
-    )
+    push_in_channel(alloc, frame, here, 0, LegendChannel::Fill, out)?;
+    push_in_channel(alloc, frame, here, 1, LegendChannel::Opacity, out)?;
+    push_in_channel(alloc, frame, here, 2, LegendChannel::Shape, out)?;
+    push_in_channel(alloc, frame, here, 3, LegendChannel::Size, out)
 }
 
 /// Adds the legends of a copy of an object that has this number.
@@ -155,7 +122,12 @@ pub(crate) fn push_legends(
 {
     let legends = legends_in(group);
     for (index, legend) in legends.iter().enumerate() {
-        push_legend(alloc, frame, object, index, legend, out)?;
+        let here = LegendHere {
+            object,
+            index,
+            legend,
+        };
+        push_legend(alloc, frame, &here, out)?;
     }
     Ok(())
 }

@@ -12,6 +12,7 @@ mod items;
 mod kept;
 mod layouts;
 mod legends;
+mod marks;
 mod plots;
 mod scales;
 mod sizes;

@@ -20,6 +20,7 @@ use crate::axes::push_all_shown;
 use crate::frames::{Frame, cells_copied};
 use crate::inside::{Inside, draw_all, draw_guides};
 use crate::items::MarkItems;
+use crate::marks::Numbers;
 use crate::scales::{ScaleHere, scale_in};
 use crate::units::in_unit_order;
 use expr_eval::EvalError;
@@ -95,33 +96,27 @@ fn draw_inside<M: MarkItems>(
     frame: &Frame,
     group: &Group,
     found: &[MarkFacts],
-    unit: u32,
-    number: u32,
+    numbers: Numbers,
     out: &mut Inside,
 ) -> Result<(), EvalError>
     requires sound { M.sound maker.now }
     requires frame { IsFrame frame.now }
     requires marks { MayShow (marks_in (out-Group group.now)) found.now }
-    requires object { KeepsObject (object_numbered number (out-Group group.now)) }
-    requires few { AreFew unit (suc number) (marks_in (out-Group group.now)) }
+    requires object { KeepsObject (object_numbered numbers.number (out-Group group.now)) }
+    requires few { AreFew numbers.unit (suc numbers.number) (marks_in (out-Group group.now)) }
     requires empty { inside_seen out.old ≡ nothing_inside }
     ensures value { Evaluates (result_map (λ done. inside_seen out.new) result) (standing_in (M.items maker.now)
-        (object_numbered number (out-Group group.now)) (marks_from unit (suc number) (marks_in (out-Group group.now)))
+        (object_numbered numbers.number (out-Group group.now)) (marks_from numbers.unit (suc numbers.number) (marks_in (out-Group group.now)))
         (found_in_frame (M.lists maker.now) frame.now 0 found.now) (frame_seen (M.lists maker.now) frame.now)) }
     ensures kept { IsInside out.old → OnOk result (IsInside out.new) }
 {
     push_all_shown(alloc, frame.width, frame.height, frame.axes, &mut out.axes)?;
-    draw_guides(alloc, frame, number, group, out)?;
-    draw_all(
-        alloc,
-        maker,
-        frame,
-        unit,
-        number + 1,
-        marks_in(group),
-        found,
-        out,
-    )
+    draw_guides(alloc, frame, numbers.number, group, out)?;
+    let inside = Numbers {
+        unit: numbers.unit,
+        number: numbers.number + 1,
+    };
+    draw_all(alloc, maker, frame, inside, marks_in(group), found, out)
 }
 
 // What stands in a plot.
@@ -131,21 +126,20 @@ fn inside_of<M: MarkItems>(
     frame: &Frame,
     group: &Group,
     found: &[MarkFacts],
-    unit: u32,
-    number: u32,
+    numbers: Numbers,
 ) -> Result<Inside, EvalError>
     requires sound { M.sound maker.now }
     requires frame { IsFrame frame.now }
     requires marks { MayShow (marks_in (out-Group group.now)) found.now }
-    requires object { KeepsObject (object_numbered number (out-Group group.now)) }
-    requires few { AreFew unit (suc number) (marks_in (out-Group group.now)) }
+    requires object { KeepsObject (object_numbered numbers.number (out-Group group.now)) }
+    requires few { AreFew numbers.unit (suc numbers.number) (marks_in (out-Group group.now)) }
     ensures value { Evaluates (result_map inside_seen result) (standing_in (M.items maker.now)
-        (object_numbered number (out-Group group.now)) (marks_from unit (suc number) (marks_in (out-Group group.now)))
+        (object_numbered numbers.number (out-Group group.now)) (marks_from numbers.unit (suc numbers.number) (marks_in (out-Group group.now)))
         (found_in_frame (M.lists maker.now) frame.now 0 found.now) (frame_seen (M.lists maker.now) frame.now)) }
     ensures kept { IfOk result IsInside }
 {
     let mut inside = no_inside(alloc);
-    match draw_inside(alloc, maker, frame, group, found, unit, number, &mut inside) {
+    match draw_inside(alloc, maker, frame, group, found, numbers, &mut inside) {
         Ok(()) => Ok(inside),
         Err(error) => Err(error),
     }
@@ -202,29 +196,28 @@ fn plot_round(
 }
 
 /// The plot of a copy of an object of whose marks this was found: the axes of the grids round it, its own and those of the groups in it, each
-/// where it stands; its items by the numbers of their marks; its own legends and those of the groups in it. Its own number is `number`, and
-/// its marks are numbered from `unit` on. `Overflow` comes exactly where a number is out of range.
+/// where it stands; its items by the numbers of their marks; its own legends and those of the groups in it. The object and its marks are
+/// numbered from these numbers on. `Overflow` comes exactly where a number is out of range.
 pub(crate) fn plot_of<M: MarkItems>(
     alloc: Global,
     maker: &M,
     frame: &Frame,
     group: &Group,
     found: &[MarkFacts],
-    unit: u32,
-    number: u32,
+    numbers: Numbers,
 ) -> Result<Plot, EvalError>
     requires sound { M.sound maker.now }
     requires frame { IsFrame frame.now }
     requires marks { MayShow (marks_in (out-Group group.now)) found.now }
-    requires object { KeepsObject (object_numbered number (out-Group group.now)) }
-    requires few { AreFew unit (suc number) (marks_in (out-Group group.now)) }
-    ensures value { Evaluates result (plot_of (M.items maker.now) (object_numbered number (out-Group group.now))
-        (marks_from unit (suc number) (marks_in (out-Group group.now))) (found_in_frame (M.lists maker.now) frame.now 0 found.now)
+    requires object { KeepsObject (object_numbered numbers.number (out-Group group.now)) }
+    requires few { AreFew numbers.unit (suc numbers.number) (marks_in (out-Group group.now)) }
+    ensures value { Evaluates result (plot_of (M.items maker.now) (object_numbered numbers.number (out-Group group.now))
+        (marks_from numbers.unit (suc numbers.number) (marks_in (out-Group group.now))) (found_in_frame (M.lists maker.now) frame.now 0 found.now)
         (frame_seen (M.lists maker.now) frame.now)) }
     ensures legends { IfOk result (λ plot. All IsLegendShown plot.legends) }
 {
-    match inside_of(alloc, maker, frame, group, found, unit, number) {
-        Ok(inside) => plot_round(alloc, frame, group, unit, inside),
+    match inside_of(alloc, maker, frame, group, found, numbers) {
+        Ok(inside) => plot_round(alloc, frame, group, numbers.unit, inside),
         Err(error) => Err(error),
     }
 }

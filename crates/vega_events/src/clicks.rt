@@ -16,6 +16,21 @@ use std::sync::ledger::Ledger;
 use text_kit::{OutOfMemory, Seq, Text};
 use vega_selections::VgSelection;
 
+/// A click at a point of a panel, on the units that a selection has there.
+#[derive(Clone, Copy)]
+pub(crate) struct ClickAt<'p, 'u> {
+    /// The panel.
+    pub panel: &'p Panel,
+    /// The units.
+    pub units: &'u [u32],
+    /// The least of them.
+    pub least: u32,
+    /// How far to the right in the picture the point is, in pixels.
+    pub x: Num,
+    /// How far down it is.
+    pub y: Num,
+}
+
 // A field of the row that was hit, with its cell.
 #[tactic(auto, using(crate::proofs::HitLemmas::read_is))]
 fn entry_of<R: UnitRows, L: Ledger>(
@@ -74,25 +89,23 @@ fn tuple_of<R: UnitRows, L: Ledger>(
     Row::from_entries(alloc, entries.into_vec())
 }
 
-// The tuple of what is hit at a point of a panel, if something is.
+// The tuple of what a click hits, if something is hit.
 #[tactic(auto, using(crate::proofs::HitLemmas::hit_is_of_row, crate::proofs::HitLemmas::hit_is_among))]
 fn tuple_at<R: UnitRows, L: Ledger>(
     alloc: Global,
     rows: &R,
     fields: &[Text],
-    units: &[u32],
-    panel: &Panel,
-    x: Num,
-    y: Num,
+    click: &ClickAt,
     steps: &mut Steps<L>,
 ) -> Result<Option<Row>, OutOfMemory>
-    requires items { All (ItemIsOfRow (R.rows rows.now)) panel.now.items }
-    requires told { (unit : ℕ) → is_among units.now unit ≡ true → All (λ name. R.tells rows.now unit name ≡ true) fields.now }
-    ensures value { IfOk result (λ tuple. tuple ≡ tuple_there (read_in (R.rows rows.now)) fields.now units.now panel.now x y) }
+    requires items { All (ItemIsOfRow (R.rows rows.now)) click.now.panel.now.items }
+    requires told { (unit : ℕ) → is_among click.now.units.now unit ≡ true → All (λ name. R.tells rows.now unit name ≡ true) fields.now }
+    ensures value { IfOk result (λ tuple. tuple ≡ tuple_there (read_in (R.rows rows.now)) fields.now click.now.units.now click.now.panel.now
+        click.now.x click.now.y) }
     ensures counted { steps.old ≤ steps.new }
     ensures few { steps.new ≤ steps.old + length fields.now }
 {
-    match hit_at(units, panel, x, y) {
+    match hit_at(click.units, click.panel, click.x, click.y) {
         Some(hit) => Ok(Some(tuple_of(alloc, rows, fields, hit, steps)?)),
         None => Ok(None),
     }
@@ -104,43 +117,36 @@ fn clicked_with<R: UnitRows, L: Ledger>(
     rows: &R,
     name: &str,
     fields: &[Text],
-    units: &[u32],
-    panel: &Panel,
-    least: u32,
-    x: Num,
-    y: Num,
+    click: &ClickAt,
     steps: &mut Steps<L>,
 ) -> Result<StoreOf, OutOfMemory>
-    requires items { All (ItemIsOfRow (R.rows rows.now)) panel.now.items }
-    requires told { (unit : ℕ) → is_among units.now unit ≡ true → All (λ name. R.tells rows.now unit name ≡ true) fields.now }
-    ensures value { IfOk result (λ after. after ≡ clicked_store name.now panel.now.facet least
-        (tuple_there (read_in (R.rows rows.now)) fields.now units.now panel.now x y)) }
+    requires items { All (ItemIsOfRow (R.rows rows.now)) click.now.panel.now.items }
+    requires told { (unit : ℕ) → is_among click.now.units.now unit ≡ true → All (λ name. R.tells rows.now unit name ≡ true) fields.now }
+    ensures value { IfOk result (λ after. after ≡ clicked_store name.now click.now.panel.now.facet click.now.least
+        (tuple_there (read_in (R.rows rows.now)) fields.now click.now.units.now click.now.panel.now click.now.x click.now.y)) }
     ensures counted { steps.old ≤ steps.new }
     ensures few { steps.new ≤ steps.old + length fields.now }
 {
-    let tuple = tuple_at(alloc, rows, fields, units, panel, x, y, steps)?;
-    store_clicked(alloc, name, &panel.facet, least, tuple)
+    let tuple = tuple_at(alloc, rows, fields, click, steps)?;
+    store_clicked(alloc, name, &click.panel.facet, click.least, tuple)
 }
 
-/// The store of a selection that has these units in a panel, the least of which is this, after a click there.
+/// The store of a selection after a click on its units in a panel.
 #[tactic(auto, using(crate::proofs::CountLemmas::of_click))]
 pub(crate) fn clicked<R: UnitRows, L: Ledger>(
     alloc: Global,
     rows: &R,
     v: &VgSelection,
-    units: &[u32],
-    panel: &Panel,
-    least: u32,
-    x: Num,
-    y: Num,
+    click: &ClickAt,
     store: &StoreOf,
     steps: &mut Steps<L>,
 ) -> Result<StoreOf, OutOfMemory>
-    requires items { All (ItemIsOfRow (R.rows rows.now)) panel.now.items }
-    requires told { (unit : ℕ) → is_among units.now unit ≡ true → (fields : List (List ℕ)) → AreKept v.now.selection fields
+    requires items { All (ItemIsOfRow (R.rows rows.now)) click.now.panel.now.items }
+    requires told { (unit : ℕ) → is_among click.now.units.now unit ≡ true → (fields : List (List ℕ)) → AreKept v.now.selection fields
         → All (λ name. R.tells rows.now unit name ≡ true) fields }
     ensures value { IfOk result (λ after. (index : ℕ) → after
-        ≡ clicked_at (read_in (R.rows rows.now)) x y v.now.selection (index, panel.now) least units.now store.now) }
+        ≡ clicked_at (read_in (R.rows rows.now)) click.now.x click.now.y v.now.selection (index, click.now.panel.now) click.now.least
+        click.now.units.now store.now) }
     ensures counted { steps.old ≤ steps.new }
     ensures few { steps.new ≤ steps.old + count_kept v.now.selection }
 {
@@ -150,11 +156,7 @@ pub(crate) fn clicked<R: UnitRows, L: Ledger>(
             rows,
             v.selection.name.as_str(),
             fields.as_slice(),
-            units,
-            panel,
-            least,
-            x,
-            y,
+            click,
             steps,
         ),
         None => store.copy(alloc),
@@ -166,60 +168,42 @@ fn toggled_with<R: UnitRows, L: Ledger>(
     alloc: Global,
     rows: &R,
     fields: &[Text],
-    units: &[u32],
-    panel: &Panel,
-    least: u32,
-    x: Num,
-    y: Num,
+    click: &ClickAt,
     store: &StoreOf,
     steps: &mut Steps<L>,
 ) -> Result<StoreOf, OutOfMemory>
-    requires items { All (ItemIsOfRow (R.rows rows.now)) panel.now.items }
-    requires told { (unit : ℕ) → is_among units.now unit ≡ true → All (λ name. R.tells rows.now unit name ≡ true) fields.now }
-    ensures value { IfOk result (λ after. after ≡ toggled_store fields.now panel.now.facet least store.now
-        (tuple_there (read_in (R.rows rows.now)) fields.now units.now panel.now x y)) }
+    requires items { All (ItemIsOfRow (R.rows rows.now)) click.now.panel.now.items }
+    requires told { (unit : ℕ) → is_among click.now.units.now unit ≡ true → All (λ name. R.tells rows.now unit name ≡ true) fields.now }
+    ensures value { IfOk result (λ after. after ≡ toggled_store fields.now click.now.panel.now.facet click.now.least store.now
+        (tuple_there (read_in (R.rows rows.now)) fields.now click.now.units.now click.now.panel.now click.now.x click.now.y)) }
     ensures counted { steps.old ≤ steps.new }
     ensures few { steps.new ≤ steps.old + length fields.now }
 {
-    let tuple = tuple_at(alloc, rows, fields, units, panel, x, y, steps)?;
-    store_toggled(alloc, fields, &panel.facet, least, store, tuple)
+    let tuple = tuple_at(alloc, rows, fields, click, steps)?;
+    store_toggled(alloc, fields, &click.panel.facet, click.least, store, tuple)
 }
 
-/// The store of a selection that has these units in a panel, the least of which is this, after a click with the shift key there.
+/// The store of a selection after a click with the shift key on its units in a panel.
 #[tactic(auto, using(crate::proofs::CountLemmas::of_toggle))]
 pub(crate) fn toggled<R: UnitRows, L: Ledger>(
     alloc: Global,
     rows: &R,
     v: &VgSelection,
-    units: &[u32],
-    panel: &Panel,
-    least: u32,
-    x: Num,
-    y: Num,
+    click: &ClickAt,
     store: &StoreOf,
     steps: &mut Steps<L>,
 ) -> Result<StoreOf, OutOfMemory>
-    requires items { All (ItemIsOfRow (R.rows rows.now)) panel.now.items }
-    requires told { (unit : ℕ) → is_among units.now unit ≡ true → (fields : List (List ℕ)) → AreKept v.now.selection fields
+    requires items { All (ItemIsOfRow (R.rows rows.now)) click.now.panel.now.items }
+    requires told { (unit : ℕ) → is_among click.now.units.now unit ≡ true → (fields : List (List ℕ)) → AreKept v.now.selection fields
         → All (λ name. R.tells rows.now unit name ≡ true) fields }
     ensures value { IfOk result (λ after. (index : ℕ) → after
-        ≡ toggled_at (read_in (R.rows rows.now)) x y v.now.selection (index, panel.now) least units.now store.now) }
+        ≡ toggled_at (read_in (R.rows rows.now)) click.now.x click.now.y v.now.selection (index, click.now.panel.now) click.now.least
+        click.now.units.now store.now) }
     ensures counted { steps.old ≤ steps.new }
     ensures few { steps.new ≤ steps.old + count_kept v.now.selection }
 {
     match &v.selection.toggle {
-        Some(fields) => toggled_with(
-            alloc,
-            rows,
-            fields.as_slice(),
-            units,
-            panel,
-            least,
-            x,
-            y,
-            store,
-            steps,
-        ),
+        Some(fields) => toggled_with(alloc, rows, fields.as_slice(), click, store, steps),
         None => store.copy(alloc),
     }
 }

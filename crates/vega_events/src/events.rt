@@ -10,7 +10,7 @@ ghost use Rattle.vega_events.specs.Scales.{inverted_by};
 ghost use Rattle.vega_events.specs.Events.{read_in, begin_of, change_on, store_after, stores_after, params_after};
 ghost use Rattle.vega_events.specs.Premises.{ItemIsOfRow, ItemsAreOfRows, AreKept, IsTold, FieldsAreTold, count_kept, count_all};
 
-use crate::clicks::{clicked, toggled};
+use crate::clicks::{ClickAt, clicked, toggled};
 use crate::drags::dragged;
 use cell_value::{Params, Steps, StoreOf};
 use fixed_num::Num;
@@ -23,6 +23,43 @@ use std::sync::ledger::Ledger;
 use text_kit::{OutOfMemory, Seq, copy_list};
 use vega_selections::{VgSelection, plots_of, selections_of};
 use vega_spec::VgSpec;
+
+/// An event over what is drawn of a chart, but for the rows.
+#[derive(Clone, Copy)]
+struct EventOver<'a> {
+    /// The event.
+    event: &'a Event,
+    /// The plots of the chart.
+    plots: &'a [PlotOf],
+    /// Its scales, and those of its plots.
+    scales: &'a ScaleSet,
+    /// Its picture.
+    scene: &'a Scene,
+}
+
+/// An event in a panel of a chart.
+#[derive(Clone, Copy)]
+struct EventIn<'a> {
+    /// The event.
+    event: &'a Event,
+    /// The plots of the chart.
+    plots: &'a [PlotOf],
+    /// Its scales, and those of its plots.
+    scales: &'a ScaleSet,
+    /// The index of the panel in the picture.
+    index: usize,
+    /// The panel.
+    panel: &'a Panel,
+}
+
+/// The units that a selection has in a panel, where it has some.
+#[derive(Clone, Copy)]
+struct UnitsHere<'a> {
+    /// The units.
+    units: &'a [u32],
+    /// The least of them.
+    least: u32,
+}
 
 // Where an event begins.
 fn begin_of(e: &Event) -> (Num, Num)
@@ -47,32 +84,46 @@ fn cleared(alloc: Global, v: &VgSelection, store: &StoreOf) -> Result<StoreOf, O
     }
 }
 
-// The store of a selection that has these units in the panel of an index, the least of which is this, after an event there.
+// The store of a selection after an event in a panel in which it has these units.
 fn changed<R: UnitRows, L: Ledger>(
     alloc: Global,
-    set: &ScaleSet,
+    here: &EventIn,
+    met: &UnitsHere,
     rows: &R,
-    e: &Event,
-    index: usize,
-    panel: &Panel,
     v: &VgSelection,
-    units: &[u32],
-    least: u32,
     store: &StoreOf,
     steps: &mut Steps<L>,
 ) -> Result<StoreOf, OutOfMemory>
-    requires scales { AreScales set.now }
-    requires items { All (ItemIsOfRow (R.rows rows.now)) panel.now.items }
-    requires told { (unit : ℕ) → is_among units.now unit ≡ true → (fields : List (List ℕ)) → AreKept v.now.selection fields
+    requires scales { AreScales here.now.scales.now }
+    requires items { All (ItemIsOfRow (R.rows rows.now)) here.now.panel.now.items }
+    requires told { (unit : ℕ) → is_among met.now.units.now unit ≡ true → (fields : List (List ℕ)) → AreKept v.now.selection fields
         → All (λ name. R.tells rows.now unit name ≡ true) fields }
-    ensures value { IfOk result (λ after. after ≡ change_on e.now (read_in (R.rows rows.now)) (inverted_by set.now v.now)
-        v.now.selection (index, panel.now) least units.now store.now) }
+    ensures value { IfOk result (λ after. after ≡ change_on here.now.event.now (read_in (R.rows rows.now))
+        (inverted_by here.now.scales.now v.now) v.now.selection (here.now.index, here.now.panel.now) met.now.least met.now.units.now store.now) }
     ensures counted { steps.old ≤ steps.new }
     ensures few { steps.new ≤ steps.old + count_kept v.now.selection }
 {
-    match e {
-        Event::Click { x, y } => clicked(alloc, rows, v, units, panel, least, *x, *y, store, steps),
-        Event::Shift { x, y } => toggled(alloc, rows, v, units, panel, least, *x, *y, store, steps),
+    match here.event {
+        Event::Click { x, y } => {
+            let click = ClickAt {
+                panel: here.panel,
+                units: met.units,
+                least: met.least,
+                x: *x,
+                y: *y,
+            };
+            clicked(alloc, rows, v, &click, store, steps)
+        }
+        Event::Shift { x, y } => {
+            let click = ClickAt {
+                panel: here.panel,
+                units: met.units,
+                least: met.least,
+                x: *x,
+                y: *y,
+            };
+            toggled(alloc, rows, v, &click, store, steps)
+        }
         Event::Double { .. } => cleared(alloc, v, store),
         Event::Drag { x1, y1, x2, y2 } => {
             let d = Drag {
@@ -81,67 +132,72 @@ fn changed<R: UnitRows, L: Ledger>(
                 x2: *x2,
                 y2: *y2,
             };
-            dragged(alloc, set, v, index, panel, least, d, store)
+            dragged(
+                alloc,
+                here.scales,
+                v,
+                here.index,
+                here.panel,
+                met.least,
+                d,
+                store,
+            )
         }
     }
 }
 
-// The store of a selection after an event in the panel of an index.
+// The store of a selection after an event in a panel.
 #[tactic(auto, using(crate::proofs::HitLemmas::told_in_panel))]
 fn store_after<R: UnitRows, L: Ledger>(
     alloc: Global,
-    plots: &[PlotOf],
-    set: &ScaleSet,
+    here: &EventIn,
     rows: &R,
-    e: &Event,
-    index: usize,
-    panel: &Panel,
     v: &VgSelection,
     store: &StoreOf,
     steps: &mut Steps<L>,
 ) -> Result<StoreOf, OutOfMemory>
-    requires scales { AreScales set.now }
-    requires items { All (ItemIsOfRow (R.rows rows.now)) panel.now.items }
+    requires scales { AreScales here.now.scales.now }
+    requires items { All (ItemIsOfRow (R.rows rows.now)) here.now.panel.now.items }
     requires told { IsTold (R.tells rows.now) v.now }
-    ensures value { IfOk result (λ after. after
-        ≡ store_after plots.now set.now (R.rows rows.now) e.now (index, panel.now) v.now store.now) }
+    ensures value { IfOk result (λ after. after ≡ store_after here.now.plots.now here.now.scales.now (R.rows rows.now) here.now.event.now
+        (here.now.index, here.now.panel.now) v.now store.now) }
     ensures counted { steps.old ≤ steps.new }
     ensures few { steps.new ≤ steps.old + count_kept v.now.selection }
 {
-    let here = units_in_panel(alloc, plots, &v.selection, panel)?;
-    let units = here.as_slice();
+    let found = units_in_panel(alloc, here.plots, &v.selection, here.panel)?;
+    let units = found.as_slice();
     match units {
         [] => store.copy(alloc),
-        [least, ..] => changed(
-            alloc, set, rows, e, index, panel, v, units, *least, store, steps,
-        ),
+        [least, ..] => {
+            let met = UnitsHere {
+                units,
+                least: *least,
+            };
+            changed(alloc, here, &met, rows, v, store, steps)
+        }
     }
 }
 
-// The stores of selections after an event in the panel of an index.
+// The stores of selections after an event in a panel.
 fn stores_in<R: UnitRows, L: Ledger>(
     alloc: Global,
-    plots: &[PlotOf],
-    set: &ScaleSet,
+    here: &EventIn,
     rows: &R,
-    e: &Event,
-    index: usize,
-    panel: &Panel,
     selections: &[VgSelection],
     stores: &[StoreOf],
     steps: &mut Steps<L>,
 ) -> Result<Seq<StoreOf>, OutOfMemory>
-    requires scales { AreScales set.now }
-    requires items { All (ItemIsOfRow (R.rows rows.now)) panel.now.items }
+    requires scales { AreScales here.now.scales.now }
+    requires items { All (ItemIsOfRow (R.rows rows.now)) here.now.panel.now.items }
     requires told { FieldsAreTold (R.tells rows.now) selections.now }
-    ensures value { IfOk result (λ after. after
-        ≡ stores_after plots.now set.now (R.rows rows.now) e.now (Some (index, panel.now)) selections.now stores.now) }
+    ensures value { IfOk result (λ after. after ≡ stores_after here.now.plots.now here.now.scales.now (R.rows rows.now) here.now.event.now
+        (Some (here.now.index, here.now.panel.now)) selections.now stores.now) }
     ensures counted { steps.old ≤ steps.new }
     ensures few { steps.new ≤ steps.old + count_all selections.now }
 {
     let mut out = Seq::with_capacity(alloc, stores.len())?;
     for (v, store) in selections.iter().zip(stores) {
-        out.push(store_after(alloc, plots, set, rows, e, index, panel, v, store, steps)?)?;
+        out.push(store_after(alloc, here, rows, v, store, steps)?)?;
     }
     Ok(out)
 }
@@ -150,28 +206,32 @@ fn stores_in<R: UnitRows, L: Ledger>(
 #[tactic(auto, using(crate::proofs::HitLemmas::items_of_panel))]
 fn stores_at<R: UnitRows, L: Ledger>(
     alloc: Global,
-    plots: &[PlotOf],
-    set: &ScaleSet,
-    scene: &Scene,
-    rows: &R,
-    e: &Event,
+    over: &EventOver,
     index: usize,
+    rows: &R,
     selections: &[VgSelection],
     stores: &[StoreOf],
     steps: &mut Steps<L>,
 ) -> Result<Seq<StoreOf>, OutOfMemory>
-    requires scales { AreScales set.now }
-    requires items { ItemsAreOfRows (R.rows rows.now) scene.now }
+    requires scales { AreScales over.now.scales.now }
+    requires items { ItemsAreOfRows (R.rows rows.now) over.now.scene.now }
     requires told { FieldsAreTold (R.tells rows.now) selections.now }
-    ensures value { IfOk result (λ after. after ≡ stores_after plots.now set.now (R.rows rows.now) e.now
-        (option_map (λ panel. (index, panel)) (slice_get scene.now.panels index)) selections.now stores.now) }
+    ensures value { IfOk result (λ after. after ≡ stores_after over.now.plots.now over.now.scales.now (R.rows rows.now) over.now.event.now
+        (option_map (λ panel. (index, panel)) (slice_get over.now.scene.now.panels index)) selections.now stores.now) }
     ensures counted { steps.old ≤ steps.new }
     ensures few { steps.new ≤ steps.old + count_all selections.now }
 {
-    match scene.panels.get(index) {
-        Some(panel) => stores_in(
-            alloc, plots, set, rows, e, index, panel, selections, stores, steps,
-        ),
+    match over.scene.panels.get(index) {
+        Some(panel) => {
+            let here = EventIn {
+                event: over.event,
+                plots: over.plots,
+                scales: over.scales,
+                index,
+                panel,
+            };
+            stores_in(alloc, &here, rows, selections, stores, steps)
+        }
         None => copy_list(alloc, stores),
     }
 }
@@ -179,29 +239,44 @@ fn stores_at<R: UnitRows, L: Ledger>(
 // The stores of selections after an event.
 fn stores_by<R: UnitRows, L: Ledger>(
     alloc: Global,
-    plots: &[PlotOf],
-    set: &ScaleSet,
-    scene: &Scene,
+    over: &EventOver,
     rows: &R,
-    e: &Event,
     selections: &[VgSelection],
     stores: &[StoreOf],
     steps: &mut Steps<L>,
 ) -> Result<Seq<StoreOf>, OutOfMemory>
-    requires scales { AreScales set.now }
-    requires items { ItemsAreOfRows (R.rows rows.now) scene.now }
+    requires scales { AreScales over.now.scales.now }
+    requires items { ItemsAreOfRows (R.rows rows.now) over.now.scene.now }
     requires told { FieldsAreTold (R.tells rows.now) selections.now }
-    ensures value { IfOk result (λ after. after ≡ stores_after plots.now set.now (R.rows rows.now) e.now
-        (place_at scene.now (begin_of e.now).0 (begin_of e.now).1) selections.now stores.now) }
+    ensures value { IfOk result (λ after. after ≡ stores_after over.now.plots.now over.now.scales.now (R.rows rows.now) over.now.event.now
+        (place_at over.now.scene.now (begin_of over.now.event.now).0 (begin_of over.now.event.now).1) selections.now stores.now) }
     ensures counted { steps.old ≤ steps.new }
     ensures few { steps.new ≤ steps.old + count_all selections.now }
 {
-    let (x, y) = begin_of(e);
-    match panel_at(scene, x, y) {
-        Some(index) => stores_at(
-            alloc, plots, set, scene, rows, e, index, selections, stores, steps,
-        ),
+    let (x, y) = begin_of(over.event);
+    match panel_at(over.scene, x, y) {
+        Some(index) => stores_at(alloc, over, index, rows, selections, stores, steps),
         None => copy_list(alloc, stores),
+    }
+}
+
+// An event over what is drawn of a chart.
+fn event_over<'a>(
+    event: &'a Event,
+    plots: &'a [PlotOf],
+    scales: &'a ScaleSet,
+    scene: &'a Scene,
+) -> EventOver<'a>
+    ensures event { result.event.now ≡ event.now }
+    ensures plots { result.plots.now ≡ plots.now }
+    ensures scales { result.scales.now ≡ scales.now }
+    ensures scene { result.scene.now ≡ scene.now }
+{
+    EventOver {
+        event,
+        plots,
+        scales,
+        scene,
     }
 }
 
@@ -226,13 +301,11 @@ pub fn on_event<R: UnitRows, L: Ledger>(
 {
     let selections = selections_of(alloc, g)?;
     let plots = plots_of(alloc, g)?;
+    let over = event_over(&*e, plots.as_slice(), &*scales, &*scene);
     let stores = stores_by(
         alloc,
-        plots.as_slice(),
-        scales,
-        scene,
+        &over,
         rows,
-        e,
         selections.as_slice(),
         now.stores.as_slice(),
         steps,

@@ -24,6 +24,19 @@ use std::alloc::Global;
 use text_kit::{OutOfMemory, Seq, Text};
 use vega_parts::{GivenName, Part, Place, RangeKind, ScaleTraits, ScaleType, Used};
 
+/// The parts of a specification, with the indexes by which drags look names up among them.
+#[derive(Clone, Copy)]
+struct PartsByName<'a> {
+    /// The parts.
+    parts: &'a [Part],
+    /// The first part that gives each name.
+    index: &'a Keyed,
+    /// The first that gives each name of a scale in a group under an object without a layout.
+    in_plot: &'a Keyed,
+    /// The first that gives each name of a scale in a group.
+    elsewhere: &'a Keyed,
+}
+
 // Whether the places of scales of a type have an inverse.
 fn is_continuous(kind: ScaleType) -> bool
     ensures { result ≡ is_continuous kind }
@@ -268,23 +281,28 @@ fn is_given_in_plot(
 // Whether a drag over a scale is wrong.
 fn fails_drag(
     alloc: Global,
-    index: &Keyed,
-    in_plot: &Keyed,
-    elsewhere: &Keyed,
-    parts: &[Part],
+    among: &PartsByName,
     scale: &Text,
     scope: &Place,
     names: &Option<Seq<Text>>,
 ) -> Result<bool, OutOfMemory>
-    requires index { IsIndex by.Name index.now parts.now }
-    requires in_plot { IsIndex by.InPlot in_plot.now parts.now }
-    requires elsewhere { IsIndex by.Elsewhere elsewhere.now parts.now }
-    ensures { IfOk result (λ b. b ≡ fails_drag parts.now scale.now scope.now names.now) }
+    requires index { IsIndex by.Name among.now.index.now among.now.parts.now }
+    requires in_plot { IsIndex by.InPlot among.now.in_plot.now among.now.parts.now }
+    requires elsewhere { IsIndex by.Elsewhere among.now.elsewhere.now among.now.parts.now }
+    ensures { IfOk result (λ b. b ≡ fails_drag among.now.parts.now scale.now scope.now names.now) }
 {
-    if is_given_in_plot(alloc, in_plot, parts, scale)? {
+    if is_given_in_plot(alloc, among.in_plot, among.parts, scale)? {
         return Ok(true);
     }
-    Ok(!all_invert(alloc, index, elsewhere, parts, scale, scope, names)?)
+    Ok(!all_invert(
+        alloc,
+        among.index,
+        among.elsewhere,
+        among.parts,
+        scale,
+        scope,
+        names,
+    )?)
 }
 
 // Whether a fault at a place would stand before the one so far.
@@ -302,25 +320,22 @@ fn is_sooner(so_far: &Option<PlacedFault>, at: &Place) -> bool
 fn sooner_failing(
     alloc: Global,
     so_far: Option<PlacedFault>,
-    index: &Keyed,
-    in_plot: &Keyed,
-    elsewhere: &Keyed,
-    parts: &[Part],
+    among: &PartsByName,
     at: &Place,
     scale: &Text,
     scope: &Place,
     names: &Option<Seq<Text>>,
 ) -> Result<Option<PlacedFault>, OutOfMemory>
-    requires index { IsIndex by.Name index.now parts.now }
-    requires in_plot { IsIndex by.InPlot in_plot.now parts.now }
-    requires elsewhere { IsIndex by.Elsewhere elsewhere.now parts.now }
+    requires index { IsIndex by.Name among.now.index.now among.now.parts.now }
+    requires in_plot { IsIndex by.InPlot among.now.in_plot.now among.now.parts.now }
+    requires elsewhere { IsIndex by.Elsewhere among.now.elsewhere.now among.now.parts.now }
     ensures { IfOk result (λ f. f ≡ sooner so_far
-        (earliest (fault_if (fails_drag parts.now scale.now scope.now names.now) Wrong at.now))) }
+        (earliest (fault_if (fails_drag among.now.parts.now scale.now scope.now names.now) Wrong at.now))) }
 {
     if !is_sooner(&so_far, at) {
         return Ok(so_far);
     }
-    let fails = fails_drag(alloc, index, in_plot, elsewhere, parts, scale, scope, names)?;
+    let fails = fails_drag(alloc, among, scale, scope, names)?;
     let so_far = sooner_if(alloc, so_far, fails, SpecKind::Wrong, at)?;
     Ok(so_far)
 }
@@ -329,16 +344,13 @@ fn sooner_failing(
 fn sooner_drag(
     alloc: Global,
     so_far: Option<PlacedFault>,
-    index: &Keyed,
-    in_plot: &Keyed,
-    elsewhere: &Keyed,
-    parts: &[Part],
+    among: &PartsByName,
     part: &Part,
 ) -> Result<Option<PlacedFault>, OutOfMemory>
-    requires index { IsIndex by.Name index.now parts.now }
-    requires in_plot { IsIndex by.InPlot in_plot.now parts.now }
-    requires elsewhere { IsIndex by.Elsewhere elsewhere.now parts.now }
-    ensures { IfOk result (λ f. f ≡ sooner so_far (earliest (interval_by parts.now part.now))) }
+    requires index { IsIndex by.Name among.now.index.now among.now.parts.now }
+    requires in_plot { IsIndex by.InPlot among.now.in_plot.now among.now.parts.now }
+    requires elsewhere { IsIndex by.Elsewhere among.now.elsewhere.now among.now.parts.now }
+    ensures { IfOk result (λ f. f ≡ sooner so_far (earliest (interval_by among.now.parts.now part.now))) }
 {
     match part {
         Part::Interval {
@@ -346,9 +358,7 @@ fn sooner_drag(
             scope,
             scale,
             marks,
-        } => sooner_failing(
-            alloc, so_far, index, in_plot, elsewhere, parts, at, scale, scope, marks,
-        ),
+        } => sooner_failing(alloc, so_far, among, at, scale, scope, marks),
         Part::Fault { .. }
         | Part::Given(_)
         | Part::Used(_)
@@ -363,21 +373,27 @@ fn sooner_drag(
 /// The fault so far, or the first drag over a scale that can't be inverted. A scale that the top alone names takes one look where it
 /// can be inverted; for any other each drag that stands before the fault so far takes a look at each mark, and at the names
 /// of marks that its signal has.
-pub fn sooner_intervals(
+pub fn sooner_intervals<'a>(
     alloc: Global,
     mut so_far: Option<PlacedFault>,
-    index: &Keyed,
-    in_plot: &Keyed,
-    elsewhere: &Keyed,
-    parts: &[Part],
+    index: &'a Keyed,
+    in_plot: &'a Keyed,
+    elsewhere: &'a Keyed,
+    parts: &'a [Part],
 ) -> Result<Option<PlacedFault>, OutOfMemory>
     requires index { IsIndex by.Name index.now parts.now }
     requires in_plot { IsIndex by.InPlot in_plot.now parts.now }
     requires elsewhere { IsIndex by.Elsewhere elsewhere.now parts.now }
     ensures { IfOk result (λ f. f ≡ sooner so_far (earliest (intervals parts.now))) }
 {
+    let among = PartsByName {
+        parts,
+        index,
+        in_plot,
+        elsewhere,
+    };
     for part in parts {
-        so_far = sooner_drag(alloc, so_far, index, in_plot, elsewhere, parts, part)?;
+        so_far = sooner_drag(alloc, so_far, &among, part)?;
     }
     Ok(so_far)
 }

@@ -6,9 +6,12 @@ use Rattle.cell_value.specs.declared.cell.Cell.{Cell}
 use Rattle.expr_eval.specs.Values.{Values}
 use Rattle.scale_kit.specs.Scale.{IsPixel, AreScales}
 use Rattle.vega_lists.specs.Scopes.{no_lists}
+use Rattle.vega_signals.specs.Extents.{Settled}
 use Rattle.vega_copies.specs.declared.facts.MarkFacts.{MarkFacts}
+use Rattle.vega_copies.specs.declared.facts.Step.{Step}
 use Rattle.vega_copies.specs.Facts.{Found}
 use Rattle.vega_copies.specs.inner.FactsSeen.{ListsOnPaths, marks_seen}
+use Rattle.vega_drawing.specs.declared.frames.Entered.{Entered}
 use Rattle.vega_drawing.specs.declared.frames.Frame.{Frame as HeldFrame}
 use Rattle.vega_drawing.specs.Scales.{set_of}
 use Rattle.vega_drawing.specs.Frames.{Frame}
@@ -40,6 +43,10 @@ frame_seen lists f = record {
 -- the same where nothing asks for rows
 abbrev pub unlisted : HeldFrame → Frame
 unlisted f = frame_seen (λ path. no_lists) f
+
+-- how a copy is entered, by references
+abbrev pub entered_by : Bor (List Step) → Bor (List (Bor Settled)) → Option (Bor (List (List ℕ × Cell))) → Entered
+entered_by path levels cells = record { path = path; levels = levels; cells = cells }
 
 -- what was found of marks in a copy, from a place on
 abbrev pub found_in_frame : ListsOnPaths → HeldFrame → ℕ → List MarkFacts → Found

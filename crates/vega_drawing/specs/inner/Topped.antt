@@ -1,5 +1,5 @@
 -- The top of a specification behind references, step by step.
-use Rattle.std.specs.Prelude.{ℕ, Bool, ℤ, pos, Option, List, []}
+use Rattle.std.specs.Prelude.{ℕ, Bool, ℤ, pos, Option, List, [], map}
 use Rattle.std.specs.Option.{option_map}
 use Rattle.std.specs.Borrow.{Bor}
 use Rattle.cell_value.specs.declared.cell.Cell.{Cell}
@@ -22,6 +22,7 @@ use Rattle.vega_copies.specs.inner.Kept.{KeepsAll}
 use Rattle.vega_copies.specs.Facts.{Found}
 use Rattle.vega_copies.specs.inner.FactsSeen.{ListsOnPaths, marks_seen, FactsFit}
 use Rattle.vega_copies.specs.inner.Outlined.{marks_in, marks_of, marks_from}
+use Rattle.vega_drawing.specs.declared.drawing.Top.{Top}
 use Rattle.vega_drawing.specs.declared.frames.Frame.{Frame as HeldFrame}
 use Rattle.vega_drawing.specs.declared.scales.AxisHere.{AxisHere as HeldAxis}
 use Rattle.vega_drawing.specs.declared.scales.ScaleHere.{ScaleHere as HeldScale}
@@ -34,7 +35,9 @@ use Rattle.vega_drawing.specs.Plots.{plot_of}
 use Rattle.vega_drawing.specs.Tops.{round_top, sized_top, top_with_size}
 use Rattle.vega_drawing.specs.Drawings.{scales_of_chart}
 use Rattle.vega_drawing.specs.Views.{view_of}
-use Rattle.vega_drawing.specs.inner.Kept.{AreKeptScales}
+use Rattle.vega_drawing.specs.inner.Framed.{cells_seen}
+use Rattle.vega_drawing.specs.inner.Kept.{scale_seen, AreKeptScales}
+use Rattle.vega_drawing.specs.inner.Levels.{values_over}
 use Rattle.vega_drawing.specs.inner.Placed.{grid_of_object}
 
 -- whether a scale belongs to the whole chart
@@ -77,6 +80,14 @@ held_top path values scales set axes cells headers width height = record {
 -- the same, as definitions see it
 abbrev pub top_seen : Names → Option (List (List ℕ × Cell)) → List ScaleHere → ℤ → ℤ → Frame
 top_seen names cells scales width height = record (round_top names) { scales = scales; cells = cells; width = width; height = height }
+
+-- the same of what is known of the top, and what was found of its marks
+abbrev pub frame_of_top : ListsOnPaths → Top → ℤ → ℤ → Frame
+frame_of_top lists top width height =
+    top_seen (names_on_top lists (values_over top.values.stores.now top.values.levels.now)) (cells_seen top.cells) (map scale_seen top.scales.now) width height
+
+abbrev pub found_in_top : ListsOnPaths → Top → Found
+found_in_top lists top = found_on_top lists (values_over top.values.stores.now top.values.levels.now) top.facts.now
 
 abbrev pub with_axes : List AxisHere → Frame → Frame
 with_axes axes frame = record frame { axes = axes }

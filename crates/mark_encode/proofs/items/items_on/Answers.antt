@@ -13,6 +13,7 @@ items_over_rows-requires g c =
 pub returns : goal.returns
 returns g c =
     let P : List Datum → Type 0 = λ rows. Evaluates c.items_over_rows.result
-    (items_of c.args.mark.now c.args.unit c.args.scales.now c.args.width c.args.height (g.P.ParamReader.values c.args.params.now) rows) in
+    (items_of c.args.mark.now c.args.unit c.args.plot.now.scales.now c.args.plot.now.width c.args.plot.now.height
+    (g.P.ParamReader.values c.args.params.now) rows) in
     subst (λ rows. P (map datum_of rows)) c.as_slice.ensures
     (subst P c.in_ok-rows.ensures.reads (subst (λ xs. P (data_of xs)) c.as_slice-2.ensures c.items_over_rows.ensures))

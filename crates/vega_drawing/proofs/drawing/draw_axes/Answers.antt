@@ -15,29 +15,31 @@ use Rattle.vega_drawing.proofs.drawing.draw_axes.Goals as goal
 pub grid_view-requires-clause-frame : goal.grid_view-requires-clause-frame
 grid_view-requires-clause-frame g c =
     subst IsFrame (sym c.top_frame-frame.ensures)
-    (top_is_frame _ c.args.values c.args.scales c.args.set c.args.axes c.args.cells _ c.args.size c.args.size c.requires.top.scales c.requires.set
+    (top_is_frame _ c.args.top.now.values c.args.top.now.scales c.args.set c.args.axes
+    c.args.top.now.cells _ c.args.size c.args.size c.requires.top.scales c.requires.set
     c.requires.scales c.requires.axes c.requires.size c.requires.size)
 
 pub grid_view-requires-clause-marks : goal.grid_view-requires-clause-marks
 grid_view-requires-clause-marks g c =
-    subst (MayShow (marks_in (out-Group c.args.g.now.group))) (sym c.as_slice.ensures)
-    (top_shows c.args.g.now c.requires.top.kept c.args.facts.now c.requires.top.fits)
+    subst (MayShow (marks_in (out-Group c.args.top.now.g.now.group))) (sym c.as_slice.ensures)
+    (top_shows c.args.top.now.g.now c.requires.top.kept c.args.top.now.facts.now c.requires.top.fits)
 
 pub grid_view-requires-clause-few : goal.grid_view-requires-clause-few
-grid_view-requires-clause-few g c = top_few c.args.g.now c.requires.top.kept
+grid_view-requires-clause-few g c = top_few c.args.top.now.g.now c.requires.top.kept
 
 pub view_drawn-requires-clause-frame : goal.view_drawn-requires-clause-frame
 view_drawn-requires-clause-frame g c =
     subst IsFrame (sym c.top_frame-frame.ensures)
-    (top_is_frame _ c.args.values c.args.scales c.args.set c.args.axes c.args.cells _ c.args.size c.args.size c.requires.top.scales c.requires.set
+    (top_is_frame _ c.args.top.now.values c.args.top.now.scales c.args.set c.args.axes
+    c.args.top.now.cells _ c.args.size c.args.size c.requires.top.scales c.requires.set
     c.requires.scales c.requires.axes c.requires.size c.requires.size)
 
 pub returns-in-Ok : goal.returns-in-Ok
 returns-in-Ok g c =
     let items = g.M.MarkItems.items c.args.maker.now in
     let lists = g.M.MarkItems.lists c.args.maker.now in
-    let spec = c.args.g.now in
-    let inside = (out-CopyFacts c.args.facts.now).inside in
+    let spec = c.args.top.now.g.now in
+    let inside = (out-CopyFacts c.args.top.now.facts.now).inside in
     let drawn : Frame → Type 0 = λ frame. Evaluates c.view_drawn.result
     (grid_of_object items (top_of spec).object c.args.layout.now (top_of spec).marks (found_in_frame lists frame 0 inside) (frame_seen lists frame)
     >>= drawn_view spec (frame_seen lists frame)) in
@@ -51,8 +53,8 @@ pub returns-in-Err : goal.returns-in-Err
 returns-in-Err g c =
     let items = g.M.MarkItems.items c.args.maker.now in
     let lists = g.M.MarkItems.lists c.args.maker.now in
-    let spec = c.args.g.now in
-    let inside = (out-CopyFacts c.args.facts.now).inside in
+    let spec = c.args.top.now.g.now in
+    let inside = (out-CopyFacts c.args.top.now.facts.now).inside in
     let drawn : Frame → Type 0 = λ frame. Evaluates (Err c.in-Err.error)
     (grid_of_object items (top_of spec).object c.args.layout.now (top_of spec).marks (found_in_frame lists frame 0 inside) (frame_seen lists frame)
     >>= drawn_view spec (frame_seen lists frame)) in

@@ -21,7 +21,7 @@ pub and_axes-requires-clause-outer : goal.and_axes-requires-clause-outer
 and_axes-requires-clause-outer g c = All-nil _
 
 pub and_axes-requires-clause-axes : goal.and_axes-requires-clause-axes
-and_axes-requires-clause-axes g c = subst (All IsAxis) (sym c.axes_in.ensures) (top_kept c.args.g.now c.requires.top.kept).axes
+and_axes-requires-clause-axes g c = subst (All IsAxis) (sym c.axes_in.ensures) (top_kept c.args.top.now.g.now c.requires.top.kept).axes
 
 pub draw_axes-requires-clause-axes : goal.draw_axes-requires-clause-axes
 draw_axes-requires-clause-axes g c = subst AreKeptAxes (sym c.as_slice.ensures) c.in_ok-axes.ensures.kept
@@ -30,13 +30,13 @@ pub returns : goal.returns
 returns g c =
     let items = g.M.MarkItems.items c.args.maker.now in
     let lists = g.M.MarkItems.lists c.args.maker.now in
-    let values = values_over c.args.values.stores.now c.args.values.levels.now in
+    let values = values_over c.args.top.now.values.stores.now c.args.top.now.values.levels.now in
     let names = names_on_top lists values in
-    let found = found_on_top lists values c.args.facts.now in
-    let cells = cells_seen c.args.cells in
-    let scales = map scale_seen c.args.scales.now in
-    subst (λ size. Evaluates c.draw_axes.result (drawn_grid items c.args.g.now c.args.layout.now found
-    (with_axes (axes_here scales (top_of c.args.g.now).object.axes) (top_seen names cells scales size size)))) c.no_length-size.ensures.value
-    (subst (λ axes. Evaluates c.draw_axes.result (drawn_grid items c.args.g.now c.args.layout.now found
+    let found = found_on_top lists values c.args.top.now.facts.now in
+    let cells = cells_seen c.args.top.now.cells in
+    let scales = map scale_seen c.args.top.now.scales.now in
+    subst (λ size. Evaluates c.draw_axes.result (drawn_grid items c.args.top.now.g.now c.args.layout.now found
+    (with_axes (axes_here scales (top_of c.args.top.now.g.now).object.axes) (top_seen names cells scales size size)))) c.no_length-size.ensures.value
+    (subst (λ axes. Evaluates c.draw_axes.result (drawn_grid items c.args.top.now.g.now c.args.layout.now found
     (with_axes axes (top_seen names cells scales c.no_length-size.result c.no_length-size.result))))
     (ap (map axis_seen) c.as_slice.ensures ∙ c.in_ok-axes.ensures.value ∙ ap (axes_here scales) c.axes_in.ensures) c.draw_axes.ensures)

@@ -18,32 +18,34 @@ use Rattle.vega_drawing.proofs.drawing.draw_sized.Goals as goal
 pub plot_view-requires-clause-frame : goal.plot_view-requires-clause-frame
 plot_view-requires-clause-frame g c =
     subst IsFrame (sym c.top_frame-frame.ensures)
-    (top_is_frame _ c.args.values c.args.scales c.args.set _ c.args.cells _ c.args.width c.args.height c.requires.top.scales c.requires.set c.requires.scales
+    (top_is_frame _ c.args.top.now.values c.args.top.now.scales c.args.set _ c.args.top.now.cells _
+    c.args.width c.args.height c.requires.top.scales c.requires.set c.requires.scales
     (All-nil _) c.requires.width c.requires.height)
 
 pub plot_view-requires-clause-marks : goal.plot_view-requires-clause-marks
 plot_view-requires-clause-marks g c =
-    subst (MayShow (marks_in (out-Group c.args.g.now.group))) (sym c.as_slice.ensures)
-    (top_shows c.args.g.now c.requires.top.kept c.args.facts.now c.requires.top.fits)
+    subst (MayShow (marks_in (out-Group c.args.top.now.g.now.group))) (sym c.as_slice.ensures)
+    (top_shows c.args.top.now.g.now c.requires.top.kept c.args.top.now.facts.now c.requires.top.fits)
 
 pub plot_view-requires-clause-object : goal.plot_view-requires-clause-object
-plot_view-requires-clause-object g c = top_kept c.args.g.now c.requires.top.kept
+plot_view-requires-clause-object g c = top_kept c.args.top.now.g.now c.requires.top.kept
 
 pub plot_view-requires-clause-few : goal.plot_view-requires-clause-few
-plot_view-requires-clause-few g c = top_few c.args.g.now c.requires.top.kept
+plot_view-requires-clause-few g c = top_few c.args.top.now.g.now c.requires.top.kept
 
 pub view_drawn-requires-clause-frame : goal.view_drawn-requires-clause-frame
 view_drawn-requires-clause-frame g c =
     subst IsFrame (sym c.top_frame-frame.ensures)
-    (top_is_frame _ c.args.values c.args.scales c.args.set _ c.args.cells _ c.args.width c.args.height c.requires.top.scales c.requires.set c.requires.scales
+    (top_is_frame _ c.args.top.now.values c.args.top.now.scales c.args.set _ c.args.top.now.cells _
+    c.args.width c.args.height c.requires.top.scales c.requires.set c.requires.scales
     (All-nil _) c.requires.width c.requires.height)
 
 pub returns-in-Ok : goal.returns-in-Ok
 returns-in-Ok g c =
     let items = g.M.MarkItems.items c.args.maker.now in
     let lists = g.M.MarkItems.lists c.args.maker.now in
-    let spec = c.args.g.now in
-    let inside = (out-CopyFacts c.args.facts.now).inside in
+    let spec = c.args.top.now.g.now in
+    let inside = (out-CopyFacts c.args.top.now.facts.now).inside in
     let drawn : Frame → Type 0 = λ frame. Evaluates c.view_drawn.result
     (option_map placed_plot (plot_of items (top_of spec).object (top_of spec).marks (found_in_frame lists frame 0 inside) (frame_seen lists frame))
     >>= drawn_view spec (frame_seen lists frame)) in
@@ -57,8 +59,8 @@ pub returns-in-Err : goal.returns-in-Err
 returns-in-Err g c =
     let items = g.M.MarkItems.items c.args.maker.now in
     let lists = g.M.MarkItems.lists c.args.maker.now in
-    let spec = c.args.g.now in
-    let inside = (out-CopyFacts c.args.facts.now).inside in
+    let spec = c.args.top.now.g.now in
+    let inside = (out-CopyFacts c.args.top.now.facts.now).inside in
     let drawn : Frame → Type 0 = λ frame. Evaluates (Err c.in-Err.error)
     (option_map placed_plot (plot_of items (top_of spec).object (top_of spec).marks (found_in_frame lists frame 0 inside) (frame_seen lists frame))
     >>= drawn_view spec (frame_seen lists frame)) in

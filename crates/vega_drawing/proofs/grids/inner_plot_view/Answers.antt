@@ -19,7 +19,8 @@ returns-clause-value g c =
     let found = found_in_frame lists c.args.scaled.now 0 c.args.found.now in
     let m = out-VgMark c.args.mark.now in
     subst (Evaluates c.plot_view.result)
-    ((λ i. plot_sized items frame c.args.unit c.args.number m found
+    ((λ i. plot_sized items frame c.args.numbers.unit c.args.numbers.number m found
     (record frame { width = c.size_cut-width.ensures.value i; height = c.size_cut-height.ensures.value i }))
-    ∙ with_sizes items frame c.args.unit c.args.number m found c.in-Ok.width c.in-Ok-encoded_number.height c.in-Ok.ensures c.in-Ok-encoded_number.ensures)
+    ∙ with_sizes items frame c.args.numbers.unit c.args.numbers.number m found c.in-Ok.width
+    c.in-Ok-encoded_number.height c.in-Ok.ensures c.in-Ok-encoded_number.ensures)
     c.plot_view.ensures.value

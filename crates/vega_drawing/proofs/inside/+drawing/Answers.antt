@@ -16,7 +16,7 @@ use Rattle.vega_copies.proofs.StandLemmas.{few_inside}
 use Rattle.vega_drawing.specs.Frames.{of_no_chart}
 use Rattle.vega_drawing.specs.Insides.{drawn_in}
 use Rattle.vega_drawing.specs.Scales.{and_outer, own_scales}
-use Rattle.vega_drawing.specs.inner.Drawn.{inside_seen, MayShow, copies_from, placed_from, drawn_group, drawn_framed, DrawsMore}
+use Rattle.vega_drawing.specs.inner.Drawn.{inside_seen, MayShow, copies_from, placed_from, drawn_entered, drawn_group, drawn_framed, DrawsMore}
 use Rattle.vega_drawing.specs.inner.Framed.{frame_seen, found_in_frame}
 use Rattle.vega_drawing.specs.inner.Kept.{kept_seen, scale_seen, IsKeptScale, AreKeptScales}
 use Rattle.vega_drawing.proofs.DrawnLemmas.{stops_drawing, nothing_left, facts_within, next_shows, next_few, marks_fit, groups_fit}
@@ -67,7 +67,7 @@ draw_all-returns-in-Err-clause-value g t c =
     next_stops _ _ _ _ _ _ _ _ c.args.marks.now c.loop-mark.mark-index c.mark-item.result c.args.found.now c.loop-mark.out c.loop-mark-test.true
     c.mark-item.is c.loop-mark.invariant c.index-found-at.result c.index-found-at.is
     c.in-Err.error c.draw_one.new.out (inside_seen c.args.out.now)
-    (drawn_in items (marks_from c.args.unit c.args.number c.args.marks.now)
+    (drawn_in items (marks_from c.args.numbers.unit c.args.numbers.number c.args.marks.now)
     (found_in_frame lists c.args.frame.now 0 c.args.found.now) (frame_seen lists c.args.frame.now))
     refl c.in-Err.ensures.value c.draw_one.new.out c.args.out.now
 
@@ -128,8 +128,8 @@ draw_one-returns-then-is_group-clause-value g t c =
     let items = g.M.MarkItems.items c.args.maker.now in
     let lists = g.M.MarkItems.lists c.args.maker.now in
     subst (DrawsMore {X = Unit {0}} c.draw_group.result c.args.out.now c.draw_group.new.out)
-    (sym (group_one items (frame_seen lists c.args.frame.now) c.args.unit c.args.number c.args.mark.now
-    (copies_from lists c.args.frame.now c.args.place 0 (out-MarkFacts c.args.found.now).copies)
+    (sym (group_one items (frame_seen lists c.args.frame.now) c.args.here.now.numbers.unit c.args.here.now.numbers.number c.args.mark.now
+    (copies_from lists c.args.frame.now c.args.here.now.place 0 (out-MarkFacts c.args.here.now.facts.now).copies)
     (sym c.is_group.ensures ∙ c.if-is_group.true))) c.draw_group.ensures.value
 
 pub draw_one-returns-then-is_group-clause-kept : goal.draw_one-returns-then-is_group-clause-kept
@@ -140,8 +140,8 @@ draw_one-returns-else-is_group-clause-value g t c =
     let items = g.M.MarkItems.items c.args.maker.now in
     let lists = g.M.MarkItems.lists c.args.maker.now in
     subst (DrawsMore {X = Unit {0}} c.draw_mark.result c.args.out.now c.draw_mark.new.out)
-    (sym (plain_one items (frame_seen lists c.args.frame.now) c.args.unit c.args.number c.args.mark.now
-    (copies_from lists c.args.frame.now c.args.place 0 (out-MarkFacts c.args.found.now).copies)
+    (sym (plain_one items (frame_seen lists c.args.frame.now) c.args.here.now.numbers.unit c.args.here.now.numbers.number c.args.mark.now
+    (copies_from lists c.args.frame.now c.args.here.now.place 0 (out-MarkFacts c.args.here.now.facts.now).copies)
     (sym c.is_group.ensures ∙ c.if-is_group.false))) c.draw_mark.ensures.value
 
 pub draw_one-returns-else-is_group-clause-kept : goal.draw_one-returns-else-is_group-clause-kept
@@ -151,8 +151,9 @@ draw_one-returns-else-is_group-clause-kept g t c = c.draw_mark.ensures.kept
 
 pub draw_group-loop-at-init : goal.draw_group-loop-at-init
 draw_group-loop-at-init g t c =
-    copies_begun (g.M.MarkItems.items c.args.maker.now) (g.M.MarkItems.lists c.args.maker.now) c.args.frame.now c.args.out.now c.args.unit c.args.number
-    c.args.place c.args.mark.now c.args.found.now c.as_slice-copies.result.now c.as_slice-copies.ensures c.requires.group c.requires.marks
+    copies_begun (g.M.MarkItems.items c.args.maker.now) (g.M.MarkItems.lists c.args.maker.now) c.args.frame.now
+    c.args.out.now c.args.here.now.numbers.unit c.args.here.now.numbers.number
+    c.args.here.now.place c.args.mark.now c.args.here.now.facts.now c.as_slice-copies.result.now c.as_slice-copies.ensures c.requires.group c.requires.marks
 
 pub draw_group-draw_copy-requires : goal.draw_group-draw_copy-requires
 draw_group-draw_copy-requires g t c = λ κs lives. (
@@ -186,8 +187,8 @@ draw_group-returns-in-Err-clause-value g t c =
     let lists = g.M.MarkItems.lists c.args.maker.now in
     copy_ends _ _ _ _ _ _ _ _ _ _ c.as_slice-copies.result.now c.index-copies-at.result _ c.loop-at-test.true c.index-copies-at.is c.loop-at.invariant
     c.in-Err.error c.draw_copy.new.out c.args.out.now c.draw_copy.new.out (inside_seen c.args.out.now)
-    (drawn_group items (frame_seen lists c.args.frame.now) c.args.unit c.args.number (out-VgMark c.args.mark.now)
-    (copies_from lists c.args.frame.now c.args.place 0 (out-MarkFacts c.args.found.now).copies)) refl
+    (drawn_group items (frame_seen lists c.args.frame.now) c.args.here.now.numbers.unit c.args.here.now.numbers.number (out-VgMark c.args.mark.now)
+    (copies_from lists c.args.frame.now c.args.here.now.place 0 (out-MarkFacts c.args.here.now.facts.now).copies)) refl
     c.in-Err.ensures.value
 
 pub draw_group-returns-clause-value : goal.draw_group-returns-clause-value
@@ -210,10 +211,10 @@ draw_copy-draw_entered-requires g t c = λ κs lives. (
       (
         c.requires.frame,
         (
-          shows_inside c.args.mark.now c.requires.group c.requires.kept c.args.copy.now c.requires.copy,
+          shows_inside c.args.mark.now c.requires.group c.requires.kept c.args.here.now.facts.now c.requires.copy,
           (
             c.requires.copy,
-            (object_shown c.args.mark.now c.requires.group c.requires.kept c.args.number, (c.requires.few, c.requires.group)),
+            (object_shown c.args.mark.now c.requires.group c.requires.kept c.args.here.now.numbers.number, (c.requires.few, c.requires.group)),
           ),
         ),
       ),
@@ -223,9 +224,17 @@ draw_copy-draw_entered-requires g t c = λ κs lives. (
 
 pub draw_copy-returns-clause-value : goal.draw_copy-returns-clause-value
 draw_copy-returns-clause-value g t c =
+    let items = g.M.MarkItems.items c.args.maker.now in
+    let lists = g.M.MarkItems.lists c.args.maker.now in
+    let outer = c.args.outer.now in
+    let here = c.args.here.now in
+    let unit = here.numbers.unit in
+    let number = here.numbers.number in
+    let m = out-VgMark c.args.mark.now in
     subst (DrawsMore {X = Unit {0}} c.draw_entered.result c.args.out.now c.draw_entered.new.out)
-    (copy_entered (g.M.MarkItems.items c.args.maker.now) (g.M.MarkItems.lists c.args.maker.now) c.args.outer.now c.args.unit c.args.number
-    (out-VgMark c.args.mark.now) c.args.copy.now c.args.step c.as_slice-steps.result.now c.as_slice-signals.result.now c.slice_of.result
+    ((λ i. drawn_entered items lists outer (c.entered_by-entered.ensures i).path.now (c.entered_by-entered.ensures i).levels.now
+    (c.entered_by-entered.ensures i).cells unit number m here.facts.now)
+    ∙ copy_entered items lists outer unit number m here.facts.now here.step c.as_slice-steps.result.now c.as_slice-signals.result.now c.slice_of.result
     (c.as_slice-steps.ensures ∙ c.in_ok-path.ensures) (ap (map (λ l. l.now)) c.as_slice-signals.ensures ∙ c.in_ok-levels.ensures)
     (c.slice_of.ensures ∙ c.in_ok-cells.ensures))
     c.draw_entered.ensures.value
@@ -243,7 +252,7 @@ draw_entered-draw_named-requires g t c = λ κs lives. (
     (
       c.requires.sound,
       (
-        entered_frame c.args.outer.now c.args.path c.args.levels c.args.cells c.requires.frame,
+        entered_frame c.args.outer.now c.args.entered.now.path c.args.entered.now.levels c.args.entered.now.cells c.requires.frame,
         (c.requires.marks, (c.requires.copy, (c.requires.object, (c.requires.few, c.requires.group)))),
       ),
     ),
@@ -280,12 +289,13 @@ draw_named-returns-then-is_empty-clause-value g t c =
     let lists = g.M.MarkItems.lists c.args.maker.now in
     let named = frame_seen lists c.args.named.now in
     let m = out-VgMark c.args.mark.now in
-    let copy = out-CopyFacts c.args.copy.now in
+    let copy = out-CopyFacts c.args.here.now.facts.now in
     let nothing : c.in_ok-own.own ≡ [] = c.is_empty.ensures.0 c.if-is_empty.true in
     let own : map kept_seen c.in_ok-own.own ≡ own_scales of_no_chart (group_object 0 m).scales copy.domains =
     c.in_ok-own.ensures.value ∙ (λ i. own_scales of_no_chart (c.scales_in.ensures i) (c.as_slice.ensures i)) in
     subst (DrawsMore {X = Unit {0}} c.draw_framed.result c.args.out.now c.draw_framed.new.out)
-    (scaled_with items named c.args.unit c.args.number m copy.domains (found_in_frame lists c.args.named.now 0 copy.inside) named.scales
+    (scaled_with items named c.args.here.now.numbers.unit c.args.here.now.numbers.number m
+    copy.domains (found_in_frame lists c.args.named.now 0 copy.inside) named.scales
     (none_hidden named.scales (own_scales of_no_chart (group_object 0 m).scales copy.domains) (sym own ∙ ap (map kept_seen) nothing)))
     c.draw_framed.ensures.value
 
@@ -307,8 +317,8 @@ draw_named-draw_framed-requires-2 g t c = λ κs lives. (
       c.requires.sound,
       (
         within_frame c.args.named.now _ _ c.as_slice-mine.result.now _ c.requires.frame
-            (subst AreKeptScales (sym c.as_slice-here.ensures) c.in_ok-scales.ensures.kept)
-            (ap (map scale_seen) c.as_slice-here.ensures ∙ c.in_ok-scales.ensures.value) c.in_ok-set.ensures.value c.in_ok-set.ensures.sound
+            (subst AreKeptScales (sym c.as_slice-seen.ensures) c.in_ok-scales.ensures.kept)
+            (ap (map scale_seen) c.as_slice-seen.ensures ∙ c.in_ok-scales.ensures.value) c.in_ok-set.ensures.value c.in_ok-set.ensures.sound
             c.in_ok-indexed.ensures,
         (c.requires.marks, (c.requires.object, (c.requires.few, c.requires.group))),
       ),
@@ -322,11 +332,11 @@ draw_named-returns-clause-value g t c =
     let lists = g.M.MarkItems.lists c.args.maker.now in
     let named = frame_seen lists c.args.named.now in
     let m = out-VgMark c.args.mark.now in
-    let copy = out-CopyFacts c.args.copy.now in
+    let copy = out-CopyFacts c.args.here.now.facts.now in
     subst (DrawsMore {X = Unit {0}} c.draw_framed-2.result c.args.out.now c.draw_framed-2.new.out)
-    (scaled_with items named c.args.unit c.args.number m copy.domains (found_in_frame lists c.args.named.now 0 copy.inside)
-    (map scale_seen c.as_slice-here.result.now)
-    (ap (map scale_seen) c.as_slice-here.ensures ∙ c.in_ok-scales.ensures.value
+    (scaled_with items named c.args.here.now.numbers.unit c.args.here.now.numbers.number m copy.domains (found_in_frame lists c.args.named.now 0 copy.inside)
+    (map scale_seen c.as_slice-seen.result.now)
+    (ap (map scale_seen) c.as_slice-seen.ensures ∙ c.in_ok-scales.ensures.value
     ∙ ap (and_outer named.scales) (ap (map kept_seen) c.as_slice-mine.ensures ∙ c.in_ok-own.ensures.value
     ∙ (λ i. own_scales of_no_chart (c.scales_in.ensures i) (c.as_slice.ensures i))))) c.draw_framed-2.ensures.value
 
@@ -341,10 +351,10 @@ draw_framed-returns-in-Err-clause-value g t c =
     let lists = g.M.MarkItems.lists c.args.maker.now in
     let frame = frame_seen lists c.args.frame.now in
     let m = out-VgMark c.args.mark.now in
-    let found = found_in_frame lists c.args.frame.now 0 (out-CopyFacts c.args.copy.now).inside in
+    let found = found_in_frame lists c.args.frame.now 0 (out-CopyFacts c.args.here.now.facts.now).inside in
     stops_drawing c.in-Err.error (placed_from frame (group_object 0 m) channel.X frame.x)
-    (drawn_framed items frame c.args.unit c.args.number m found) c.args.out.now c.args.out.now c.in-Err.ensures
-    (no_x items frame c.args.unit c.args.number m found)
+    (drawn_framed items frame c.args.here.now.numbers.unit c.args.here.now.numbers.number m found) c.args.out.now c.args.out.now c.in-Err.ensures
+    (no_x items frame c.args.here.now.numbers.unit c.args.here.now.numbers.number m found)
 
 pub draw_framed-returns-in-Err-place_from-clause-value : goal.draw_framed-returns-in-Err-place_from-clause-value
 draw_framed-returns-in-Err-place_from-clause-value g t c =
@@ -352,10 +362,10 @@ draw_framed-returns-in-Err-place_from-clause-value g t c =
     let lists = g.M.MarkItems.lists c.args.maker.now in
     let frame = frame_seen lists c.args.frame.now in
     let m = out-VgMark c.args.mark.now in
-    let found = found_in_frame lists c.args.frame.now 0 (out-CopyFacts c.args.copy.now).inside in
+    let found = found_in_frame lists c.args.frame.now 0 (out-CopyFacts c.args.here.now.facts.now).inside in
     stops_drawing c.in-Err-place_from.error (placed_from frame (group_object 0 m) channel.Y frame.y)
-    (drawn_framed items frame c.args.unit c.args.number m found) c.args.out.now c.args.out.now c.in-Err-place_from.ensures
-    (no_y items frame c.args.unit c.args.number m found)
+    (drawn_framed items frame c.args.here.now.numbers.unit c.args.here.now.numbers.number m found) c.args.out.now c.args.out.now c.in-Err-place_from.ensures
+    (no_y items frame c.args.here.now.numbers.unit c.args.here.now.numbers.number m found)
 
 pub draw_framed-draw_guides-requires-clause-frame : goal.draw_framed-draw_guides-requires-clause-frame
 draw_framed-draw_guides-requires-clause-frame g t c = moved_frame c.args.frame.now c.in-Ok.x c.in-Ok-place_from.y c.requires.frame
@@ -363,9 +373,10 @@ draw_framed-draw_guides-requires-clause-frame g t c = moved_frame c.args.frame.n
 pub draw_framed-draw_guides-requires-clause-axes : goal.draw_framed-draw_guides-requires-clause-axes
 draw_framed-draw_guides-requires-clause-axes g t c = c.requires.object.axes
 
-pub draw_framed-overflow_add-number : goal.draw_framed-overflow_add-number
-draw_framed-overflow_add-number g t c =
-    let fits : c.args.number + 1 < 2 ^ 32 = group_numbered c.args.unit c.args.number c.args.mark.now c.requires.group c.requires.few in
+pub draw_framed-overflow_add-inside : goal.draw_framed-overflow_add-inside
+draw_framed-overflow_add-inside g t c =
+    let fits : c.args.here.now.numbers.number + 1 < 2 ^ 32 =
+    group_numbered c.args.here.now.numbers.unit c.args.here.now.numbers.number c.args.mark.now c.requires.group c.requires.few in
     omega arith
 
 pub draw_framed-draw_all-requires : goal.draw_framed-draw_all-requires
@@ -381,10 +392,10 @@ draw_framed-draw_all-requires g t c =
             moved_frame c.args.frame.now c.in-Ok.x c.in-Ok-place_from.y c.requires.frame,
             (
               subst (λ found. MayShow c.marks_in.result.now found) (sym c.as_slice.ensures)
-                  (subst (λ marks. MayShow marks (out-CopyFacts c.args.copy.now).inside) (sym c.marks_in.ensures) c.requires.marks),
-              subst (λ n. AreFew c.args.unit n c.marks_in.result.now) (sym (add-one c.args.number))
-                  (subst (AreFew c.args.unit (suc c.args.number)) (sym c.marks_in.ensures)
-                  (few_inside c.args.unit c.args.number c.args.mark.now c.requires.group c.requires.few)),
+                  (subst (λ marks. MayShow marks (out-CopyFacts c.args.here.now.facts.now).inside) (sym c.marks_in.ensures) c.requires.marks),
+              subst (λ n. AreFew c.args.here.now.numbers.unit n c.marks_in.result.now) (sym (add-one c.args.here.now.numbers.number))
+                  (subst (AreFew c.args.here.now.numbers.unit (suc c.args.here.now.numbers.number)) (sym c.marks_in.ensures)
+                  (few_inside c.args.here.now.numbers.unit c.args.here.now.numbers.number c.args.mark.now c.requires.group c.requires.few)),
             ),
           ),
         ),
@@ -397,15 +408,16 @@ draw_framed-returns-clause-value g t c =
     let lists = g.M.MarkItems.lists c.args.maker.now in
     let frame = frame_seen lists c.args.frame.now in
     let m = out-VgMark c.args.mark.now in
-    let found = found_in_frame lists c.args.frame.now 0 (out-CopyFacts c.args.copy.now).inside in
+    let found = found_in_frame lists c.args.frame.now 0 (out-CopyFacts c.args.here.now.facts.now).inside in
     let here = record frame { x = c.in-Ok.x; y = c.in-Ok-place_from.y } in
     subst (DrawsMore {X = Unit {0}} c.draw_all.result c.args.out.now c.draw_all.new.out)
-    (sym (framed_at items frame c.args.unit c.args.number m found c.in-Ok.x c.in-Ok-place_from.y c.in-Ok.ensures c.in-Ok-place_from.ensures))
-    (behind_guides c.draw_all.result c.args.out.now c.draw_guides.new.out c.draw_all.new.out (group_object c.args.number m) here
-    (drawn_in items (marks_from c.args.unit (suc c.args.number) (marks_in (out-Group m.group))) found here)
+    (sym (framed_at items frame c.args.here.now.numbers.unit c.args.here.now.numbers.number m found
+    c.in-Ok.x c.in-Ok-place_from.y c.in-Ok.ensures c.in-Ok-place_from.ensures))
+    (behind_guides c.draw_all.result c.args.out.now c.draw_guides.new.out c.draw_all.new.out (group_object c.args.here.now.numbers.number m) here
+    (drawn_in items (marks_from c.args.here.now.numbers.unit (suc c.args.here.now.numbers.number) (marks_in (out-Group m.group))) found here)
     c.in_ok-draw_guides.ensures.value
     (subst (DrawsMore {X = Unit {0}} c.draw_all.result c.draw_guides.new.out c.draw_all.new.out)
-    (λ i. drawn_in items (marks_from c.args.unit (add-one c.args.number i) (c.marks_in.ensures i))
+    (λ i. drawn_in items (marks_from c.args.here.now.numbers.unit (add-one c.args.here.now.numbers.number i) (c.marks_in.ensures i))
     (found_in_frame lists c.args.frame.now 0 (c.as_slice.ensures i)) here) c.draw_all.ensures.value))
 
 pub draw_framed-returns-clause-kept : goal.draw_framed-returns-clause-kept

@@ -16,7 +16,7 @@ invariant-draw_all-loop-mark g l =
     let lists = g.M.MarkItems.lists l.maker in
     MarksLeft items lists l.frame l.initial.out
     (option_map (and_inside (inside_seen l.initial.out))
-    (drawn_in items (marks_from l.unit l.number l.marks) (found_in_frame lists l.frame 0 l.found) (frame_seen lists l.frame)))
+    (drawn_in items (marks_from l.fn.numbers.unit l.fn.numbers.number l.marks) (found_in_frame lists l.frame 0 l.found) (frame_seen lists l.frame)))
     l.next_unit l.next_number l.at (drop l.mark-index l.marks) (drop l.at l.found) l.out
 
 abbrev pub invariant-draw_group-loop-at : goal.invariant-draw_group-loop-at
@@ -25,5 +25,6 @@ invariant-draw_group-loop-at g l =
     let lists = g.M.MarkItems.lists l.maker in
     CopiesLeft items lists l.frame l.initial.out
     (option_map (and_inside (inside_seen l.initial.out))
-    (drawn_group items (frame_seen lists l.frame) l.unit l.number (out-VgMark l.mark) (copies_from lists l.frame l.place 0 (out-MarkFacts l.found).copies)))
-    l.unit l.number l.place l.mark l.at (drop l.at l.copies) l.out
+    (drawn_group items (frame_seen lists l.frame) l.here.numbers.unit l.here.numbers.number (out-VgMark l.mark)
+    (copies_from lists l.frame l.here.place 0 (out-MarkFacts l.here.facts.now).copies)))
+    l.here.numbers.unit l.here.numbers.number l.here.place l.mark l.at (drop l.at l.copies) l.out

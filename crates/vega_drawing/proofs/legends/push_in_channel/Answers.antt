@@ -9,5 +9,5 @@ push_named-requires-clause-named c = sym c.scale_shown.ensures ∙ c.in-Some.is
 pub returns-in-None-clause-value : goal.returns-in-None-clause-value
 returns-in-None-clause-value c =
     none_listed _ c.args.out.now
-    (no_name c.args.object (unlisted c.args.frame.now) c.args.index c.args.legend.now c.args.place c.args.channel
+    (no_name c.args.here.now.object (unlisted c.args.frame.now) c.args.here.now.index c.args.here.now.legend.now c.args.place c.args.channel
     (sym c.scale_shown.ensures ∙ c.in-None.is))

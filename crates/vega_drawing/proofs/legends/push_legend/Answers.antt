@@ -7,7 +7,7 @@ use Rattle.vega_drawing.proofs.legends.push_legend.Goals as goal
 
 pub returns-clause-value : goal.returns-clause-value
 returns-clause-value c =
-    let shown = legend_in_channel c.args.object (unlisted c.args.frame.now) (c.args.index, c.args.legend.now) in
+    let shown = legend_in_channel c.args.here.now.object (unlisted c.args.frame.now) (c.args.here.now.index, c.args.here.now.legend.now) in
     on_ok_weaker c.push_in_channel-4.result
     (λ e. four_pushed (shown (0, Fill)) (shown (1, Opacity)) (shown (2, Shape)) (shown (3, Size)) c.args.out.now c.push_in_channel.new.out
     c.push_in_channel-2.new.out c.push_in_channel-3.new.out c.push_in_channel-4.new.out c.in_ok-push_in_channel.ensures.value

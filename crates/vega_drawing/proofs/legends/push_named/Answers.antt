@@ -23,12 +23,13 @@ returns-in_ok-laid-in-Some-clause-value c =
     ∙ ap (λ o. c.args.out.now ++ option_to_list o)
     ((λ i. Some (record {
       channel = c.args.place;
-      object = c.args.object;
-      index = c.args.index;
+      object = c.args.here.now.object;
+      index = c.args.here.now.index;
       legend = c.in_ok-shown-in-Some.ensures.value i;
       scale = c.in_ok-laid-in-Some.ensures.value i;
     }))
-    ∙ sym (one_legend c.args.object (unlisted c.args.frame.now) c.args.index c.args.legend.now c.args.place c.args.channel c.args.name.now
+    ∙ sym (one_legend c.args.here.now.object (unlisted c.args.frame.now) c.args.here.now.index
+    c.args.here.now.legend.now c.args.place c.args.channel c.args.name.now
     (scale_seen c.in-Some.scale.now) c.requires.named
     (sym (c.in-Some.ensures ∙ ap (scale_named (map scale_seen c.args.frame.now.scales.now)) c.as_str.ensures)))))
     c.push.ensures.ok
@@ -43,5 +44,6 @@ returns-in_ok-laid-in-Some-clause-kept c all =
 pub returns-in-None-clause-value : goal.returns-in-None-clause-value
 returns-in-None-clause-value c =
     none_listed _ c.args.out.now
-    (no_scale c.args.object (unlisted c.args.frame.now) c.args.index c.args.legend.now c.args.place c.args.channel c.args.name.now c.requires.named
+    (no_scale c.args.here.now.object (unlisted c.args.frame.now) c.args.here.now.index
+    c.args.here.now.legend.now c.args.place c.args.channel c.args.name.now c.requires.named
     (sym (c.in-None.ensures ∙ ap (scale_named (map scale_seen c.args.frame.now.scales.now)) c.as_str.ensures)))

@@ -16,8 +16,8 @@ draw_all-requires-clause-marks g c = subst (λ marks. MayShow marks c.args.found
 
 pub draw_all-requires-clause-few : goal.draw_all-requires-clause-few
 draw_all-requires-clause-few g c =
-    subst (AreFew c.args.unit (c.args.number + 1)) (sym c.marks_in.ensures)
-    (subst (λ n. AreFew c.args.unit n (marks_in (out-Group c.args.group.now))) (sym (one_more c.args.number)) c.requires.few)
+    subst (AreFew c.args.numbers.unit (c.args.numbers.number + 1)) (sym c.marks_in.ensures)
+    (subst (λ n. AreFew c.args.numbers.unit n (marks_in (out-Group c.args.group.now))) (sym (one_more c.args.numbers.number)) c.requires.few)
 
 pub returns-clause-value : goal.returns-clause-value
 returns-clause-value g c =
@@ -25,9 +25,9 @@ returns-clause-value g c =
     let lists = g.M.MarkItems.lists c.args.maker.now in
     let frame = frame_seen lists c.args.frame.now in
     let found = found_in_frame lists c.args.frame.now 0 c.args.found.now in
-    let o = object_numbered c.args.number (out-Group c.args.group.now) in
+    let o = object_numbered c.args.numbers.number (out-Group c.args.group.now) in
     subst (λ marks. Evaluates (result_map (λ done. inside_seen c.draw_all.new.out) c.draw_all.result) (standing_in items o marks found frame))
-    (λ i. marks_from c.args.unit (one_more c.args.number i) (c.marks_in.ensures i))
+    (λ i. marks_from c.args.numbers.unit (one_more c.args.numbers.number i) (c.marks_in.ensures i))
     (stands_behind frame o
     (record { axes = c.push_all_shown.new.out; legends = c.args.out.now.legends; items = c.args.out.now.items })
     c.draw_guides.new.out c.draw_all.new.out _ c.draw_all.result

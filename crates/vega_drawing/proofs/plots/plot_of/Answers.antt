@@ -15,10 +15,12 @@ returns-in-Ok-clause-value g c =
     let frame = frame_seen lists c.args.frame.now in
     let found = found_in_frame lists c.args.frame.now 0 c.args.found.now in
     let group = out-Group c.args.group.now in
-    let o = object_numbered c.args.number group in
+    let o = object_numbered c.args.numbers.number group in
     subst (Evaluates c.plot_round.result)
-    (ap (λ first. plot_round o first frame (inside_seen c.in-Ok.inside)) (first_alike c.args.unit (suc c.args.number) (marks_of (marks_in group)))
-    ∙ sym (plot_is items o (marks_from c.args.unit (suc c.args.number) (marks_in group)) found frame (inside_seen c.in-Ok.inside) c.in-Ok.ensures.value))
+    (ap (λ first. plot_round o first frame (inside_seen c.in-Ok.inside))
+    (first_alike c.args.numbers.unit (suc c.args.numbers.number) (marks_of (marks_in group)))
+    ∙ sym (plot_is items o (marks_from c.args.numbers.unit (suc c.args.numbers.number) (marks_in group))
+    found frame (inside_seen c.in-Ok.inside) c.in-Ok.ensures.value))
     c.plot_round.ensures.value
 
 pub returns-in-Err-clause-value : goal.returns-in-Err-clause-value
@@ -26,5 +28,5 @@ returns-in-Err-clause-value g c =
     let items = g.M.MarkItems.items c.args.maker.now in
     let lists = g.M.MarkItems.lists c.args.maker.now in
     let group = out-Group c.args.group.now in
-    plot_stops items (object_numbered c.args.number group) (marks_from c.args.unit (suc c.args.number) (marks_in group))
+    plot_stops items (object_numbered c.args.numbers.number group) (marks_from c.args.numbers.unit (suc c.args.numbers.number) (marks_in group))
     (found_in_frame lists c.args.frame.now 0 c.args.found.now) (frame_seen lists c.args.frame.now) c.in-Err.error c.in-Err.ensures.value

@@ -5,5 +5,7 @@ use Rattle.vega_events.proofs.events.store_after.Goals as goal
 
 pub changed-requires-clause-told : goal.changed-requires-clause-told
 changed-requires-clause-told g c =
-    let here : c.as_slice-units.result.now ≡ units_in_panel c.args.plots.now c.args.v.now.selection c.args.panel.now = search rules in
-    told_in_panel (g.R.UnitRows.tells c.args.rows.now) c.args.plots.now c.args.v.now c.args.panel.now c.as_slice-units.result.now here c.requires.told
+    let here = c.args.here.now in
+    let units : c.as_slice-units.result.now ≡ units_in_panel here.plots.now c.args.v.now.selection here.panel.now = search rules in
+    told_in_panel (g.R.UnitRows.tells c.args.rows.now) here.plots.now c.args.v.now here.panel.now c.as_slice-units.result.now units
+    c.requires.told
