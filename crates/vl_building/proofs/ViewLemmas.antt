@@ -6,8 +6,10 @@ use Rattle.json_exact.specs.declared.json.Json.{Json}
 use Rattle.json_exact.specs.declared.json.Json.TheVariants as json
 use Rattle.json_exact.specs.declared.json.Member.{Member}
 use Rattle.vl_spec.specs.declared.views.View.{View}
+use Rattle.vl_spec.specs.declared.views.ViewKind.{ViewKind}
 use Rattle.vl_building.specs.Inside.{member_gives}
-use Rattle.vl_building.specs.Views.{Naming, Place, AsView, child, as_view, as_view_with, object_view, views_in, view_of, views_of}
+use Rattle.vl_building.specs.Views.{Naming, Place, AsView, child, as_view, as_view_with, view_word, kind_by, view_with, object_view, views_in, view_of, views_of}
+use Rattle.vl_building.specs.inner.Heads.{views_inside}
 use Rattle.vl_building.proofs.Inside.{object_members, at_object, at_list}
 
 of_object : (naming : Naming) (members : List Member) (place : Place) →
@@ -15,11 +17,19 @@ of_object : (naming : Naming) (members : List Member) (place : Place) →
 of_object naming members place = ap (λ (a : AsView). (a place).0) (at_object (as_view_with naming) members)
     ∙ ap (λ ms. object_view naming ms (member_gives (as_view naming) members) place) (object_members members)
 
-pub object_is : (naming : Naming) (tree : Json) (members slice : List Member) (place : Place) → tree ≡ json.Object members → slice ≡ members →
+object_is : (naming : Naming) (tree : Json) (members slice : List Member) (place : Place) → tree ≡ json.Object members → slice ≡ members →
     object_view naming slice (member_gives (as_view naming) slice) place ≡ view_of naming tree place
 object_is naming tree members slice place is same =
     ap (λ ms. object_view naming ms (member_gives (as_view naming) ms) place) same ∙ sym (of_object naming members place)
     ∙ ap (λ t. view_of naming t place) (sym is)
+
+-- the view of these members
+pub view_is : (naming : Naming) (tree : Json) (members slice : List Member) (place : Place) (word : List ℕ) (kind : ViewKind) →
+    tree ≡ json.Object members → slice ≡ members → word ≡ view_word slice → kind ≡ kind_by word slice (views_inside naming slice place) →
+    view_with naming slice place kind ≡ view_of naming tree place
+view_is naming tree members slice place word kind is same decides found =
+    ap (view_with naming slice place) (found ∙ ap (λ w. kind_by w slice (views_inside naming slice place)) decides)
+    ∙ object_is naming tree members slice place is same
 
 pub list_is : (naming : Naming) (tree : Json) (items slice : List Json) (place : Place) → tree ≡ json.List items → slice ≡ items →
     views_in (map (as_view naming) slice) place ≡ views_of naming tree place

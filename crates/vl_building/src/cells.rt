@@ -1,11 +1,10 @@
 // Values of several forms.
 ghost use Rattle.std.specs.Prelude.{◌≡◌, IfOk};
-ghost use Rattle.json_exact.specs.declared.json.Json.{out-Json};
-ghost use Rattle.vl_building.specs.Values.{scalar_in, scalar_of, needed_scalar, title_in, title_at, nullable_in, nullable_at, texts_in, both_names, names_in};
+ghost use Rattle.vl_building.specs.Values.{scalar_in, scalar_of, needed_scalar, title_at, nullable_at, texts_in, both_names, names_in};
 ghost use Rattle.vl_building.specs.Values.{needed_names};
 
 use crate::parts;
-use crate::parts::{Item, Items, Object, Value, each};
+use crate::parts::{Items, Object, Reads, Value, each};
 use crate::several::Part;
 use cell_value::Cell;
 use json_exact::{Json, Member};
@@ -14,11 +13,11 @@ use text_kit::{OutOfMemory, Text};
 use tree_readers::{member_value, text_of};
 use vl_spec::{Names, Texts};
 
-// A scalar, null where an item is none.
-impl Item for Cell {
-    ghost item = { scalar_of };
+// Scalars, null where an item is none.
+impl Reads<Json, Cell> for Items {
+    ghost reads = { scalar_of };
 
-    fn of_item(_: Global, tree: &Json) -> Result<Cell, OutOfMemory> {
+    fn read(_: Global, tree: &Json) -> Result<Cell, OutOfMemory> {
         match tree {
             Json::Flag(flag) => Ok(Cell::Flag(*flag)),
             Json::Number(number) => Ok(Cell::Number(*number)),
@@ -34,7 +33,7 @@ impl Value for Cell {
 
     fn of_value(alloc: Global, tree: &Json) -> Result<Option<Cell>, OutOfMemory> {
         match tree {
-            Json::Null | Json::Flag(_) | Json::Number(_) | Json::Text(_) => Ok(Some(Cell::of_item(
+            Json::Null | Json::Flag(_) | Json::Number(_) | Json::Text(_) => Ok(Some(Items::read(
                 alloc, tree,
             )?)),
             Json::Huge | Json::List(_) | Json::Object(_) => Ok(None),
@@ -47,49 +46,30 @@ pub fn needed_scalar(alloc: Global, members: &[Member], name: &str) -> Result<Ce
     ensures { IfOk result (λ cell. cell ≡ needed_scalar members.now name.now) }
 {
     match member_value(members, name) {
-        Some(tree) => Cell::of_item(alloc, tree),
+        Some(tree) => Items::read(alloc, tree),
         None => Ok(Cell::Null),
     }
 }
 
 // A title: null for none, or a text.
-impl Value for Option<Text> {
-    ghost read = { title_in };
-
-    fn of_value(_: Global, tree: &Json) -> Result<Option<Option<Text>>, OutOfMemory> {
-        match tree {
-            Json::Null => Ok(Some(None)),
-            Json::Text(text) => Ok(Some(Some(text.copy()?))),
-            Json::Flag(_) | Json::Number(_) | Json::Huge | Json::List(_) | Json::Object(_) => Ok(
-                None,
-            ),
-        }
-    }
-}
-
 impl Part for Option<Option<Text>> {
     ghost part = { title_at };
 
     fn part_at(
-        alloc: Global,
+        _: Global,
         members: &[Member],
         name: &str,
     ) -> Result<Option<Option<Text>>, OutOfMemory> {
-        parts::found_at(alloc, members, name)
+        match member_value(members, name) {
+            Some(Json::Null) => Ok(Some(None)),
+            Some(Json::Text(text)) => Ok(Some(Some(text.copy()?))),
+            Some(Json::Flag(_) | Json::Number(_) | Json::Huge | Json::List(_) | Json::Object(_))
+            | None => Ok(None),
+        }
     }
 }
 
 // Null, or what an object is by its members.
-fn nullable_in<T: Object>(alloc: Global, tree: &Json) -> Result<Option<Option<T>>, OutOfMemory>
-    ensures { IfOk result (λ value. value ≡ nullable_in T.built (out-Json tree.now)) }
-{
-    match tree {
-        Json::Null => Ok(Some(None)),
-        Json::Object(members) => Ok(Some(Some(T::of_members(alloc, members.as_slice())?))),
-        Json::Flag(_) | Json::Number(_) | Json::Huge | Json::Text(_) | Json::List(_) => Ok(None),
-    }
-}
-
 impl<T: Object> Part for Option<Option<T>> {
     ghost part = { nullable_at T.built };
 
@@ -99,8 +79,13 @@ impl<T: Object> Part for Option<Option<T>> {
         name: &str,
     ) -> Result<Option<Option<T>>, OutOfMemory> {
         match member_value(members, name) {
-            Some(tree) => nullable_in(alloc, tree),
-            None => Ok(None),
+            Some(Json::Null) => Ok(Some(None)),
+            Some(Json::Object(members)) => Ok(Some(Some(T::of_members(
+                alloc,
+                members.as_slice(),
+            )?))),
+            Some(Json::Flag(_) | Json::Number(_) | Json::Huge | Json::Text(_) | Json::List(_))
+            | None => Ok(None),
         }
     }
 }

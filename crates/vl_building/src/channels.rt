@@ -1,13 +1,12 @@
 // Channels, and their conditions.
-ghost use Rattle.std.specs.Prelude.{◌≡◌, ◌++◌, [], None, Some, map, codes, IfOk, OnOk};
+ghost use Rattle.std.specs.Prelude.{◌≡◌, ◌++◌, [], None, map, codes, IfOk, OnOk};
 ghost use Rattle.json_exact.specs.declared.json.Json.{out-Json};
-ghost use Rattle.vl_spec.specs.declared.channels.Conditions.TheVariants as conditions;
 ghost use Rattle.vl_building.specs.Inside.{member_gives};
-ghost use Rattle.vl_building.specs.Channels.{test_of, channel_with, condition_showing, several_in, as_condition, condition_with, condition_of, conditions_of};
-ghost use Rattle.vl_building.specs.Channels.{conditions_at, channel_of, shown_in, channel_coded, channel_in, encoding_of};
+ghost use Rattle.vl_building.specs.Channels.{test_of, channel_with, condition_showing, as_condition, condition_with, condition_of, conditions_of};
+ghost use Rattle.vl_building.specs.Channels.{conditions_at, channel_of, shown_in, channel_in, encoding_of};
 
 use crate::filters::{needed_filter, param_test_of};
-use crate::parts::{Object, Objects, OfMember, each, given_by};
+use crate::parts::{Object, Objects, Picks, each, picked};
 use crate::several::both;
 use json_exact::{Json, Member};
 use std::alloc::Global;
@@ -86,30 +85,17 @@ fn conditions_of(alloc: Global, tree: &Json) -> Result<Option<Conditions>, OutOf
     ensures { IfOk result (λ conditions. conditions ≡ conditions_of tree.now) }
 {
     match tree {
-        Json::Object(members) => one_condition(alloc, members.as_slice()),
-        Json::List(items) => several_conditions(alloc, items.as_slice()),
+        Json::Object(members) => {
+            let condition = object_condition(alloc, members.as_slice())?;
+            Ok(Some(Conditions::One(Boxed::new(alloc, condition)?)))
+        }
+        Json::List(items) => {
+            let mut out = Seq::new(alloc);
+            push_conditions(alloc, items.as_slice(), &mut out)?;
+            Ok(Some(Conditions::Several(out)))
+        }
         Json::Null | Json::Flag(_) | Json::Number(_) | Json::Huge | Json::Text(_) => Ok(None),
     }
-}
-
-// The condition of these members, which stands alone.
-#[cycle(conditions)]
-fn one_condition(alloc: Global, members: &[Member]) -> Result<Option<Conditions>, OutOfMemory>
-    ensures { IfOk result (λ held. held
-        ≡ Some (conditions.One (condition_with members.now (member_gives as_condition members.now)))) }
-{
-    let condition = object_condition(alloc, members)?;
-    Ok(Some(Conditions::One(Boxed::new(alloc, condition)?)))
-}
-
-// The conditions that items are.
-#[cycle(conditions)]
-fn several_conditions(alloc: Global, items: &[Json]) -> Result<Option<Conditions>, OutOfMemory>
-    ensures { IfOk result (λ held. held ≡ Some (conditions.Several (map condition_of items.now))) }
-{
-    let mut out = Seq::new(alloc);
-    push_conditions(alloc, items, &mut out)?;
-    Ok(Some(Conditions::Several(out)))
 }
 
 // Adds the conditions that items are.
@@ -157,18 +143,7 @@ impl Object for Channel {
     }
 }
 
-// A list of definitions, for `detail` alone.
-fn several_in(alloc: Global, name: &str, items: &[Json]) -> Result<Option<ChannelKind>, OutOfMemory>
-    ensures { IfOk result (λ shows. shows ≡ several_in name.now items.now) }
-{
-    if name == "detail" {
-        Ok(Some(ChannelKind::Several(each::<Json, Channel, Objects>(alloc, items)?)))
-    } else {
-        Ok(None)
-    }
-}
-
-// What a channel shows.
+// What a channel shows; a list of definitions is for `detail` alone.
 fn shown_in(alloc: Global, name: &str, tree: &Json) -> Result<Option<ChannelKind>, OutOfMemory>
     ensures { IfOk result (λ shows. shows ≡ shown_in name.now (out-Json tree.now)) }
 {
@@ -177,33 +152,34 @@ fn shown_in(alloc: Global, name: &str, tree: &Json) -> Result<Option<ChannelKind
             alloc,
             members.as_slice(),
         )?))),
-        Json::List(items) => several_in(alloc, name, items.as_slice()),
+        Json::List(items) => {
+            if name == "detail" {
+                Ok(Some(ChannelKind::Several(each::<Json, Channel, Objects>(
+                    alloc,
+                    items.as_slice(),
+                )?)))
+            } else {
+                Ok(None)
+            }
+        }
         Json::Null | Json::Flag(_) | Json::Number(_) | Json::Huge | Json::Text(_) => Ok(None),
     }
 }
 
-// A channel of this code.
-fn channel_coded(
-    alloc: Global,
-    member: &Member,
-    channel: u16,
-) -> Result<Option<ChannelOf>, OutOfMemory>
-    ensures { IfOk result (λ of. of ≡ channel_coded member.now.name member.now.value channel) }
-{
-    match shown_in(alloc, member.name.as_str(), &member.value)? {
-        Some(shows) => Ok(Some(ChannelOf { channel, shows })),
-        None => Ok(None),
-    }
-}
+// The channels that members are.
+struct Channels;
 
-// The channel that a member is, if it is one.
-impl OfMember for ChannelOf {
-    ghost given = { channel_in };
+impl Picks<Member, ChannelOf> for Channels {
+    ghost picks = { channel_in };
 
     #[tactic(auto, unfolding(crate::specs::Channels::channel_in))]
-    fn of_member(alloc: Global, member: &Member) -> Result<Option<ChannelOf>, OutOfMemory> {
-        match case_table::channel_of(member.name.as_str()) {
-            Some(code) => channel_coded(alloc, member, code),
+    fn pick(alloc: Global, member: &Member) -> Result<Option<ChannelOf>, OutOfMemory> {
+        let name = member.name.as_str();
+        let Some(channel) = case_table::channel_of(name) else {
+            return Ok(None);
+        };
+        match shown_in(alloc, name, &member.value)? {
+            Some(shows) => Ok(Some(ChannelOf { channel, shows })),
             None => Ok(None),
         }
     }
@@ -215,7 +191,7 @@ impl Object for Encoding {
     #[tactic(auto, unfolding(crate::specs::Channels::encoding_of))]
     fn of_members(alloc: Global, members: &[Member]) -> Result<Encoding, OutOfMemory> {
         Ok(Encoding {
-            channels: given_by(alloc, members)?,
+            channels: picked::<Member, ChannelOf, Channels>(alloc, members)?,
         })
     }
 }

@@ -1,7 +1,7 @@
 // What a specification has of data and parameters.
 ghost use Rattle.std.specs.Prelude.{◌≡◌, IfOk};
 ghost use Rattle.json_exact.specs.Path.{member_value};
-ghost use Rattle.vl_building.specs.Sources.{parse_of, parse_at, format_of, data_at};
+ghost use Rattle.vl_building.specs.Sources.{parse_of, format_of, data_at};
 
 use crate::names::{named_at, named_in};
 use crate::parts::{Object, Reads, each};
@@ -60,32 +60,19 @@ impl Reads<Member, (Text, ParseKind)> for Parses {
     }
 }
 
-// How the texts of fields are read, by the members of the object under a name.
-fn parse_at(
-    alloc: Global,
-    members: &[Member],
-    name: &str,
-) -> Result<Option<Seq<(Text, ParseKind)>>, OutOfMemory>
-    ensures { IfOk result (λ parses. parses ≡ parse_at members.now name.now) }
-{
-    match members_at(members, name) {
-        Some(members) => Ok(Some(each::<Member, (Text, ParseKind), Parses>(
-            alloc,
-            members.as_slice(),
-        )?)),
-        None => Ok(None),
-    }
-}
-
 impl Object for Format {
     ghost built = { format_of };
 
     #[tactic(auto, unfolding(crate::specs::Sources::format_of))]
     fn of_members(alloc: Global, members: &[Member]) -> Result<Format, OutOfMemory> {
-        Ok(Format {
-            type_: named_at(members, "type"),
-            parse: parse_at(alloc, members, "parse")?,
-        })
+        let type_ = named_at(members, "type");
+        match members_at(members, "parse") {
+            Some(inner) => Ok(Format {
+                type_,
+                parse: Some(each::<Member, (Text, ParseKind), Parses>(alloc, inner.as_slice())?),
+            }),
+            None => Ok(Format { type_, parse: None }),
+        }
     }
 }
 

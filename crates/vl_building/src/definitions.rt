@@ -2,15 +2,15 @@
 ghost use Rattle.std.specs.Prelude.{◌≡◌, Some, IfOk};
 ghost use Rattle.vl_spec.specs.declared.orders.Sort.TheVariants as sort;
 ghost use Rattle.vl_spec.specs.declared.definitions.Definition.TheVariants as variant;
-ghost use Rattle.vl_building.specs.Definitions.{bin_settings_of, bin_in, sort_named, field_sort_of, sort_in, sort_at, stacking_in, datum_definition_of};
-ghost use Rattle.vl_building.specs.Definitions.{field_definition_of, definition_by, definition_of};
+ghost use Rattle.vl_building.specs.Definitions.{bin_settings_of, bin_in, sort_named, field_sort_of, sort_at, stacking_in, datum_definition_of};
+ghost use Rattle.vl_building.specs.Definitions.{field_definition_of, definition_of};
 
 use crate::cells::needed_scalar;
 use crate::fields::field_at;
 use crate::names::{ByName, named_at};
-use crate::numbers::{count_at, number_between, space_at};
+use crate::numbers::{count_between, number_between};
 use crate::parts;
-use crate::parts::{Items, Object, Plain, Value, each, plain_at};
+use crate::parts::{Items, Object, Plain, each, plain_at};
 use crate::several::{Part, all_four, all_three, three_parts, two_parts};
 use crate::tables::{operation_at, time_unit_at};
 use crate::words::first_among;
@@ -18,9 +18,10 @@ use cell_value::Cell;
 use json_exact::{Json, Member};
 use std::alloc::Global;
 use text_kit::OutOfMemory;
+use tree_readers::member_value;
 use vl_spec::{
-    Bin, BinSettings, DatumDefinition, Definition, FieldDefinition, FieldSort, MOST_NUMBER,
-    OVER_ZERO, Offset, Order, Sort, Stacking,
+    Bin, BinSettings, DatumDefinition, Definition, FieldDefinition, FieldSort, LEAST_COUNT,
+    MOST_COUNT, MOST_NUMBER, MOST_SPACE, OVER_ZERO, Offset, Order, Sort, Stacking,
 };
 
 /// In which way a field is put into bins.
@@ -29,7 +30,7 @@ pub fn bin_settings_of(members: &[Member]) -> BinSettings
     ensures { result ≡ bin_settings_of members.now }
 {
     BinSettings {
-        maxbins: count_at(members, "maxbins"),
+        maxbins: count_between(members, "maxbins", LEAST_COUNT, MOST_COUNT),
         step: number_between(members, "step", OVER_ZERO, MOST_NUMBER),
     }
 }
@@ -78,28 +79,20 @@ fn field_sort_of(alloc: Global, members: &[Member]) -> Result<Option<Sort>, OutO
 }
 
 // How the cells of a channel stand.
-impl Value for Sort {
-    ghost read = { sort_in };
-
-    fn of_value(alloc: Global, tree: &Json) -> Result<Option<Sort>, OutOfMemory> {
-        match tree {
-            Json::Null => Ok(Some(Sort::Null)),
-            Json::Text(text) => Ok(sort_named(text.as_str())),
-            Json::List(items) => Ok(Some(Sort::Listed(each::<Json, Cell, Items>(
-                alloc,
-                items.as_slice(),
-            )?))),
-            Json::Object(members) => field_sort_of(alloc, members.as_slice()),
-            Json::Flag(_) | Json::Number(_) | Json::Huge => Ok(None),
-        }
-    }
-}
-
 impl Part for Option<Sort> {
     ghost part = { sort_at };
 
     fn part_at(alloc: Global, members: &[Member], name: &str) -> Result<Option<Sort>, OutOfMemory> {
-        parts::found_at(alloc, members, name)
+        match member_value(members, name) {
+            Some(Json::Null) => Ok(Some(Sort::Null)),
+            Some(Json::Text(text)) => Ok(sort_named(text.as_str())),
+            Some(Json::List(items)) => Ok(Some(Sort::Listed(each::<Json, Cell, Items>(
+                alloc,
+                items.as_slice(),
+            )?))),
+            Some(Json::Object(members)) => field_sort_of(alloc, members.as_slice()),
+            Some(Json::Flag(_) | Json::Number(_) | Json::Huge) | None => Ok(None),
+        }
     }
 }
 
@@ -162,32 +155,24 @@ fn field_definition_of(alloc: Global, members: &[Member]) -> Result<Definition, 
         legend,
         header,
         format,
-        columns: count_at(members, "columns"),
-        spacing: space_at(members, "spacing"),
+        columns: count_between(members, "columns", LEAST_COUNT, MOST_COUNT),
+        spacing: number_between(members, "spacing", 0, MOST_SPACE),
     }))
 }
 
 // The members of which the first decides what a definition is.
 const KINDS: [&str; 6] = ["value", "datum", "field", "aggregate", "bin", "timeUnit"];
 
-// A definition by its first deciding member.
-#[tactic(auto, unfolding(crate::specs::Definitions::definition_by))]
-fn definition_by(alloc: Global, kind: &str, members: &[Member]) -> Result<Definition, OutOfMemory>
-    ensures { IfOk result (λ definition. definition ≡ definition_by kind.now members.now) }
-{
-    match kind {
-        "value" => Ok(Definition::Value(needed_scalar(alloc, members, "value")?)),
-        "datum" => datum_definition_of(alloc, members),
-        _ => field_definition_of(alloc, members),
-    }
-}
-
-// What a channel shows, by its members.
+// What a channel shows, by its first deciding member.
 impl Object for Definition {
     ghost built = { definition_of };
 
-    #[tactic(auto, unfolding(crate::specs::Definitions::definition_of, crate::specs::Definitions::is_channel_kind))]
+    #[tactic(auto, unfolding(crate::specs::Definitions::definition_of, crate::specs::Definitions::definition_by, crate::specs::Definitions::is_channel_kind))]
     fn of_members(alloc: Global, members: &[Member]) -> Result<Definition, OutOfMemory> {
-        definition_by(alloc, first_among(members, &KINDS, ""), members)
+        match first_among(members, &KINDS, "") {
+            "value" => Ok(Definition::Value(needed_scalar(alloc, members, "value")?)),
+            "datum" => datum_definition_of(alloc, members),
+            _ => field_definition_of(alloc, members),
+        }
     }
 }

@@ -1,5 +1,5 @@
 // The text of a field without its escapes.
-ghost use Rattle.std.specs.Prelude.{◌≡◌, ◌++◌, IfOk, OnOk, encode_utf8};
+ghost use Rattle.std.specs.Prelude.{◌≡◌, ◌++◌, IfOk, OnOk};
 ghost use Rattle.vl_building.specs.Fields.{field_name};
 ghost use Rattle.vl_building.specs.inner.Escapes.{waiting, stepped};
 
@@ -13,24 +13,17 @@ fn push_waiting(out: &mut Text, waits: bool) -> Result<(), OutOfMemory>
     if waits { out.push_str("\\") } else { Ok(()) }
 }
 
-// Adds a character as it is.
-fn push_plain(out: &mut Text, c: char) -> Result<(), OutOfMemory>
-    ensures { OnOk result (out.new ≡ out.old ++ encode_utf8 c) }
-{
-    let mut bytes = [0; 4];
-    out.push_str(c.encode_utf8(&mut bytes))
-}
-
 // Adds a character behind a `\` that waits or not.
 fn push_behind(out: &mut Text, waits: bool, c: char) -> Result<(), OutOfMemory>
     ensures { OnOk result (out.new ≡ out.old ++ stepped waits c) }
 {
+    let mut bytes = [0; 4];
     match c {
-        '.' | '[' | ']' => push_plain(out, c),
+        '.' | '[' | ']' => out.push_str(c.encode_utf8(&mut bytes)),
         '\\' => push_waiting(out, waits),
         _ => {
             push_waiting(out, waits)?;
-            push_plain(out, c)
+            out.push_str(c.encode_utf8(&mut bytes))
         }
     }
 }

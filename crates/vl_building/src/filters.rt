@@ -6,7 +6,7 @@ ghost use Rattle.tree_readers.specs.Parts.{found_at};
 ghost use Rattle.json_exact.specs.declared.json.Json.{out-Json};
 ghost use Rattle.vl_spec.specs.declared.filters.Filter.TheVariants as filter;
 ghost use Rattle.vl_building.specs.Inside.{member_gives};
-ghost use Rattle.vl_building.specs.Filters.{param_test_of, bound_in, range_in, later_comparison, comparison_of, field_test_of, as_filter, text_filter};
+ghost use Rattle.vl_building.specs.Filters.{param_test_of, bound_in, range_in, later_comparison, comparison_of, field_test_of, as_filter};
 ghost use Rattle.vl_building.specs.Filters.{filters_given, object_filter, filter_of, filters_of, needed_filter};
 
 use crate::cells::needed_scalar;
@@ -45,23 +45,16 @@ pub fn bound_in(tree: &Json) -> Option<Option<Num>>
     }
 }
 
-// From one bound to another.
-fn range_in(items: &[Json]) -> Option<Comparison>
-    ensures { result ≡ range_in items.now }
+// From one bound to another, where both are well-formed.
+fn range_at(members: &[Member], name: &str) -> Option<Comparison>
+    ensures { result ≡ option_and_then range_in (found_at items_in members.now name.now) }
 {
-    let [low, high] = items else {
+    let [low, high] = items_at(members, name)?.as_slice() else {
         return None;
     };
     let low = bound_in(low)?;
     let high = bound_in(high)?;
     Some(Comparison::Range(low, high))
-}
-
-// The range of two bounds, where it is well-formed.
-fn range_at(members: &[Member], name: &str) -> Option<Comparison>
-    ensures { result ≡ option_and_then range_in (found_at items_in members.now name.now) }
-{
-    range_in(items_at(members, name)?.as_slice())
 }
 
 // A comparison by one of these members.
@@ -114,21 +107,14 @@ fn field_test_of(alloc: Global, members: &[Member]) -> Result<Filter, OutOfMemor
     }))
 }
 
-// A filter that is a text.
-#[tactic(auto, unfolding(crate::specs::Filters::text_filter))]
-fn text_filter(alloc: Global, text: &str) -> Result<Filter, OutOfMemory>
-    ensures { IfOk result (λ filter. filter ≡ text_filter text.now) }
-{
-    Ok(Filter::Expr(expression_or_null(alloc, text)?))
-}
-
 /// The filter that a value is.
 #[cycle(filters)]
+#[tactic(auto, unfolding(crate::specs::Filters::text_filter))]
 pub fn filter_of(alloc: Global, tree: &Json) -> Result<Filter, OutOfMemory>
     ensures { IfOk result (λ filter. filter ≡ filter_of tree.now) }
 {
     match tree {
-        Json::Text(text) => text_filter(alloc, text.as_str()),
+        Json::Text(text) => Ok(Filter::Expr(expression_or_null(alloc, text.as_str())?)),
         Json::Object(members) => object_filter(alloc, members.as_slice()),
         Json::Null | Json::Flag(_) | Json::Number(_) | Json::Huge | Json::List(_) => Ok(
             Filter::Expr(Expr::Null),
@@ -174,7 +160,11 @@ fn filters_of(alloc: Global, tree: &Json) -> Result<Seq<Filter>, OutOfMemory>
     ensures { IfOk result (λ filters. filters ≡ filters_of tree.now) }
 {
     match tree {
-        Json::List(items) => filters_in(alloc, items.as_slice()),
+        Json::List(items) => {
+            let mut filters = Seq::new(alloc);
+            push_filters(alloc, items.as_slice(), &mut filters)?;
+            Ok(filters)
+        }
         Json::Null
         | Json::Flag(_)
         | Json::Number(_)
@@ -182,16 +172,6 @@ fn filters_of(alloc: Global, tree: &Json) -> Result<Seq<Filter>, OutOfMemory>
         | Json::Text(_)
         | Json::Object(_) => Ok(Seq::new(alloc)),
     }
-}
-
-// The filters that items are.
-#[cycle(filters)]
-fn filters_in(alloc: Global, items: &[Json]) -> Result<Seq<Filter>, OutOfMemory>
-    ensures { IfOk result (λ filters. filters ≡ map filter_of items.now) }
-{
-    let mut filters = Seq::new(alloc);
-    push_filters(alloc, items, &mut filters)?;
-    Ok(filters)
 }
 
 // Adds the filters that items are.

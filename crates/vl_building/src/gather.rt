@@ -1,6 +1,6 @@
 // The visits that find data and parameters.
 ghost use Rattle.std.specs.Prelude.{◌≡◌, ◌++◌, map, reverse, IfOk, OnOk};
-ghost use Rattle.vl_building.specs.Gather.{place_of, param_at, params_in, data_by, params_by, data_seen, params_seen, items_of, gathered};
+ghost use Rattle.vl_building.specs.Gather.{place_of, param_at, params_in, data_seen, params_seen, items_of, gathered};
 
 use crate::data::{DataAt, ParamAt, data_at};
 use crate::marks::param_of;
@@ -108,42 +108,6 @@ fn push_list(
     Ok(())
 }
 
-// Adds the data that a value of a shape is.
-fn push_data(
-    alloc: Global,
-    shape: u16,
-    trail: &[Around],
-    tree: &Json,
-    out: &mut Seq<DataAt>,
-) -> Result<(), OutOfMemory>
-    ensures { OnOk result (out.new ≡ out.old ++ data_by shape (place_of (reverse trail.now)) tree.now) }
-{
-    if shape == DATA {
-        let place = place_of(alloc, trail)?;
-        out.push(data_at(alloc, place, members_of(tree))?)
-    } else {
-        Ok(())
-    }
-}
-
-// Adds the parameters that stand in a value of a shape.
-fn push_params(
-    alloc: Global,
-    shape: u16,
-    trail: &[Around],
-    tree: &Json,
-    out: &mut Seq<ParamAt>,
-) -> Result<(), OutOfMemory>
-    ensures { OnOk result (out.new ≡ out.old ++ params_by shape (place_of (reverse trail.now)) tree.now) }
-{
-    if shape == PARAMETERS {
-        let place = place_of(alloc, trail)?;
-        push_list(alloc, place.as_slice(), items_of(tree), out)
-    } else {
-        Ok(())
-    }
-}
-
 impl Found for DataAt {
     ghost seen = { data_seen };
 
@@ -154,8 +118,11 @@ impl Found for DataAt {
         out: &mut Seq<DataAt>,
     ) -> Result<(), OutOfMemory> {
         match trail {
-            [.., here] => push_data(alloc, here.shape, trail, tree, out),
-            [] => Ok(()),
+            [.., here] if here.shape == DATA => {
+                let place = place_of(alloc, trail)?;
+                out.push(data_at(alloc, place, members_of(tree))?)
+            }
+            _ => Ok(()),
         }
     }
 }
@@ -170,8 +137,11 @@ impl Found for ParamAt {
         out: &mut Seq<ParamAt>,
     ) -> Result<(), OutOfMemory> {
         match trail {
-            [.., here] => push_params(alloc, here.shape, trail, tree, out),
-            [] => Ok(()),
+            [.., here] if here.shape == PARAMETERS => {
+                let place = place_of(alloc, trail)?;
+                push_list(alloc, place.as_slice(), items_of(tree), out)
+            }
+            _ => Ok(()),
         }
     }
 }

@@ -1,7 +1,7 @@
 // Transforms over several rows.
 ghost use Rattle.std.specs.Prelude.{◌≡◌, IfOk};
 ghost use Rattle.vl_spec.specs.declared.transforms.Transform.TheVariants as variant;
-ghost use Rattle.vl_building.specs.Transforms.{operation_of, aggregate_of, sort_field_of, window_operation_of, frame_end, frame_end_of, frame_in};
+ghost use Rattle.vl_building.specs.Transforms.{operation_of, aggregate_of, sort_field_of, window_operation_of, frame_end_of};
 ghost use Rattle.vl_building.specs.Transforms.{frame_at, window_of, lookup_from, lookup_of};
 
 use crate::fields::{Fields, field_at, needed_field};
@@ -88,11 +88,11 @@ impl Object for WindowOperation {
     }
 }
 
-// An end of a frame: a whole number, or null.
-fn frame_end(end: Option<Num>) -> Option<Option<Num>>
-    ensures { result ≡ frame_end end }
+// The end of a frame that an item is: a whole number, or null.
+fn frame_end_of(tree: &Json) -> Option<Option<Num>>
+    ensures { result ≡ frame_end_of tree.now }
 {
-    match end {
+    match bound_in(tree)? {
         Some(number) => {
             if is_whole(number) {
                 Some(Some(number))
@@ -104,30 +104,16 @@ fn frame_end(end: Option<Num>) -> Option<Option<Num>>
     }
 }
 
-// The end that an item is.
-fn frame_end_of(tree: &Json) -> Option<Option<Num>>
-    ensures { result ≡ frame_end_of tree.now }
+// The rows about a row, under a name.
+fn frame_at(members: &[Member], name: &str) -> Option<Frame>
+    ensures { result ≡ frame_at members.now name.now }
 {
-    frame_end(bound_in(tree)?)
-}
-
-// The rows about a row.
-fn frame_in(items: &[Json]) -> Option<Frame>
-    ensures { result ≡ frame_in items.now }
-{
-    let [first, last] = items else {
+    let [first, last] = items_at(members, name)?.as_slice() else {
         return None;
     };
     let first = frame_end_of(first)?;
     let last = frame_end_of(last)?;
     Some(Frame { first, last })
-}
-
-// The same under a name.
-fn frame_at(members: &[Member], name: &str) -> Option<Frame>
-    ensures { result ≡ frame_at members.now name.now }
-{
-    frame_in(items_at(members, name)?.as_slice())
 }
 
 /// `window`

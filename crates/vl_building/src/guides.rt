@@ -1,19 +1,14 @@
 // Scales, axes, legends and headers.
 ghost use Rattle.std.specs.Prelude.{◌≡◌, Some, pos, IfOk};
 ghost use Rattle.vl_spec.specs.declared.scales.Domain.TheVariants as domain;
-ghost use Rattle.std.specs.Option.{option_map};
-ghost use Rattle.cell_value.specs.declared.cell.Cell.TheVariants as cell;
-ghost use Rattle.vl_spec.specs.Bounds.{most_look};
-ghost use Rattle.vl_building.specs.Numbers.{between};
-ghost use Rattle.json_exact.specs.declared.json.Json.{out-Json};
-ghost use Rattle.vl_building.specs.Guides.{axis_of, legend_of, header_of, param_domain_of, domain_in, ranged_in, range_item, range_in, range_at, scale_of};
+ghost use Rattle.vl_building.specs.Guides.{axis_of, legend_of, header_of, param_domain_of, domain_in, range_item, range_at, scale_of};
 
 use crate::names::named_at;
-use crate::numbers::{angle_at, count_between, share_at};
+use crate::numbers::{angle_at, between, count_between, number_between};
+use crate::parts;
 use crate::parts::{Items, Object, Reads, Value, each};
 use crate::several::{both, three_parts, two_parts};
 use crate::tables::{channel_at, scale_kind_at};
-use crate::{numbers, parts};
 use cell_value::Cell;
 use fixed_num::Num;
 use json_exact::{Json, Member};
@@ -21,7 +16,8 @@ use std::alloc::Global;
 use text_kit::{OutOfMemory, Seq};
 use tree_readers::{flag_at, items_at, needed_text};
 use vl_spec::{
-    Axis, Domain, Header, LEAST_COUNT, Legend, MOST_LOOK, MOST_TICKS, ParamDomain, Scale,
+    Axis, Domain, Header, LEAST_COUNT, Legend, MOST_LOOK, MOST_SHARE, MOST_TICKS, ParamDomain,
+    Scale,
 };
 
 impl Object for Axis {
@@ -93,26 +89,6 @@ impl Value for Domain {
     }
 }
 
-// A number of a range.
-fn ranged_number(number: Num) -> Option<Cell>
-    ensures { result ≡ option_map cell.Number (between (pos 0) most_look number) }
-{
-    Some(Cell::Number(numbers::between(number, 0, MOST_LOOK)?))
-}
-
-// What a range may hold.
-fn ranged_in(tree: &Json) -> Result<Option<Cell>, OutOfMemory>
-    ensures { IfOk result (λ cell. cell ≡ ranged_in (out-Json tree.now)) }
-{
-    match tree {
-        Json::Null => Ok(Some(Cell::Null)),
-        Json::Flag(flag) => Ok(Some(Cell::Flag(*flag))),
-        Json::Number(number) => Ok(ranged_number(*number)),
-        Json::Text(text) => Ok(Some(Cell::Text(text.copy()?))),
-        Json::Huge | Json::List(_) | Json::Object(_) => Ok(None),
-    }
-}
-
 // The number 0.
 fn zero() -> Num
     ensures { result ≡ pos 0 }
@@ -130,30 +106,31 @@ impl Reads<Json, Cell> for Ranged {
     ghost reads = { range_item };
 
     fn read(_: Global, tree: &Json) -> Result<Cell, OutOfMemory> {
-        match ranged_in(tree)? {
-            Some(cell) => Ok(cell),
-            None => Ok(Cell::Number(zero())),
+        match tree {
+            Json::Null => Ok(Cell::Null),
+            Json::Flag(flag) => Ok(Cell::Flag(*flag)),
+            Json::Number(number) => match between(*number, 0, MOST_LOOK) {
+                Some(number) => Ok(Cell::Number(number)),
+                None => Ok(Cell::Number(zero())),
+            },
+            Json::Text(text) => Ok(Cell::Text(text.copy()?)),
+            Json::Huge | Json::List(_) | Json::Object(_) => Ok(Cell::Number(zero())),
         }
     }
 }
 
-// The items of a range; an empty list is none.
-fn range_in(alloc: Global, items: &[Json]) -> Result<Option<Seq<Cell>>, OutOfMemory>
-    ensures { IfOk result (λ range. range ≡ range_in items.now) }
-{
-    if items.len() == 0 {
-        Ok(None)
-    } else {
-        Ok(Some(each::<Json, Cell, Ranged>(alloc, items)?))
-    }
-}
-
-// The range under a name.
+// The range under a name; an empty list is none.
 fn range_at(alloc: Global, members: &[Member], name: &str) -> Result<Option<Seq<Cell>>, OutOfMemory>
     ensures { IfOk result (λ range. range ≡ range_at members.now name.now) }
 {
     match items_at(members, name) {
-        Some(items) => range_in(alloc, items.as_slice()),
+        Some(items) => {
+            if items.len() == 0 {
+                Ok(None)
+            } else {
+                Ok(Some(each::<Json, Cell, Ranged>(alloc, items.as_slice())?))
+            }
+        }
         None => Ok(None),
     }
 }
@@ -174,9 +151,9 @@ impl Object for Scale {
             scheme: named_at(members, "scheme"),
             zero: flag_at(members, "zero"),
             nice: flag_at(members, "nice"),
-            padding: share_at(members, "padding"),
-            padding_inner: share_at(members, "paddingInner"),
-            padding_outer: share_at(members, "paddingOuter"),
+            padding: number_between(members, "padding", 0, MOST_SHARE),
+            padding_inner: number_between(members, "paddingInner", 0, MOST_SHARE),
+            padding_outer: number_between(members, "paddingOuter", 0, MOST_SHARE),
             reverse: flag_at(members, "reverse"),
         })
     }

@@ -7,7 +7,7 @@ ghost use Rattle.vl_building.specs.inner.Index.{IsIndex};
 ghost use Rattle.vl_building.specs.inner.Finding.{is_dataset};
 
 use crate::data::ParamAt;
-use crate::keyed::{Keyed, no_numbers, put};
+use crate::keyed::{Keyed, put};
 use crate::naming::NamedData;
 use crate::sources::gives;
 use json_exact::Member;
@@ -66,7 +66,7 @@ pub trait Finding<T> {
 pub fn indexed<T, F: Finding<T>>(alloc: Global, all: &[T]) -> Result<Keyed, OutOfMemory>
     ensures { IfOk result (λ index. IsIndex F.finds index all.now) }
 {
-    let mut index = no_numbers(alloc);
+    let mut index = Keyed::new(alloc);
     let mut left = all.len();
     while left > 0 {
         left -= 1;

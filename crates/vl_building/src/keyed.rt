@@ -1,20 +1,12 @@
 //! Numbers under keys that are lists of numbers.
-ghost use Rattle.std.specs.Prelude.{◌≡◌, ℕ, List, cond, Some, None, OnOk, bytes_eq};
+ghost use Rattle.std.specs.Prelude.{◌≡◌, ℕ, List, cond, Some, OnOk, bytes_eq};
 ghost use Rattle.vl_building.specs.inner.Keyed.{number_at};
 
-use std::alloc::Global;
 use std::collections::BTreeMap;
 use text_kit::OutOfMemory;
 
 /// Numbers under keys.
 pub type Keyed = BTreeMap<Vec<usize>, usize>;
-
-/// No number at all.
-pub fn no_numbers(alloc: Global) -> Keyed
-    ensures { (key : List ℕ) → number_at result key ≡ None }
-{
-    BTreeMap::new(alloc)
-}
 
 /// Puts a number under a key, in place of the one that was there.
 pub fn put(numbers: &mut Keyed, key: Vec<usize>, number: usize) -> Result<(), OutOfMemory>

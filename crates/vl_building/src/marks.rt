@@ -3,12 +3,12 @@ ghost use Rattle.std.specs.Prelude.{◌≡◌, Some, IfOk};
 ghost use Rattle.vl_spec.specs.declared.marks.Mark.TheVariants as mark;
 ghost use Rattle.vl_spec.specs.declared.params.Select.TheVariants as select;
 ghost use Rattle.vl_spec.specs.declared.params.ParamKind.TheVariants as kind;
-ghost use Rattle.vl_building.specs.Marks.{is_sign, sign_size_at, mark_definition_of, mark_named, mark_in, mark_at, clear_in, toggle_in, select_definition_of};
-ghost use Rattle.vl_building.specs.Marks.{select_named, select_in, selection_of, param_kind_of, param_of};
+ghost use Rattle.vl_building.specs.Marks.{sign_size_at, mark_definition_of, mark_at, clear_in, toggle_in, select_definition_of};
+ghost use Rattle.vl_building.specs.Marks.{select_in, selection_of, param_kind_of, param_of};
 
 use crate::fields::Fields;
 use crate::names::{ByName, named_at, select_event_at};
-use crate::numbers::{count_at, number_between, share_at};
+use crate::numbers::{count_between, number_between};
 use crate::parts;
 use crate::parts::{Items, Plain, Value, each_at, needed_expression, plain_at};
 use crate::several::{Part, both};
@@ -18,36 +18,28 @@ use fixed_num::Num;
 use json_exact::{Json, Member};
 use std::alloc::Global;
 use text_kit::{OutOfMemory, Text};
-use tree_readers::{cell_at, flag_at, has_member, needed_text, text_at};
+use tree_readers::{cell_at, flag_at, has_member, member_value, needed_text, text_at};
 use vl_spec::{
-    Clear, LEAST_SHIFT, MOST_LOOK, MOST_SHIFT, Mark, MarkDefinition, MarkType, ParamKind, ParamOf,
-    Select, SelectDefinition, SelectType, Selection, Toggle,
+    Clear, LEAST_COUNT, LEAST_SHIFT, MOST_COUNT, MOST_LOOK, MOST_SHARE, MOST_SHIFT, Mark,
+    MarkDefinition, MarkType, ParamKind, ParamOf, Select, SelectDefinition, SelectType, Selection,
+    Toggle,
 };
 
-// Whether marks of a type are signs, which have a size.
-fn is_sign(type_: MarkType) -> bool
-    ensures { result ≡ is_sign type_ }
+// The size of a sign, under a name; other marks have none.
+fn sign_size_at(type_: MarkType, members: &[Member], name: &str) -> Option<Num>
+    ensures { result ≡ sign_size_at type_ members.now name.now }
 {
     match type_ {
-        MarkType::Point | MarkType::Circle | MarkType::Square => true,
+        MarkType::Point | MarkType::Circle | MarkType::Square => number_between(
+            members, name, 0, MOST_LOOK,
+        ),
         MarkType::Bar
         | MarkType::Rect
         | MarkType::Line
         | MarkType::Area
         | MarkType::Tick
         | MarkType::Rule
-        | MarkType::Text => false,
-    }
-}
-
-// The size of a sign, under a name.
-fn sign_size_at(type_: MarkType, members: &[Member], name: &str) -> Option<Num>
-    ensures { result ≡ sign_size_at type_ members.now name.now }
-{
-    if is_sign(type_) {
-        number_between(members, name, 0, MOST_LOOK)
-    } else {
-        None
+        | MarkType::Text => None,
     }
 }
 
@@ -60,7 +52,7 @@ fn mark_definition_of(members: &[Member]) -> Result<Option<Mark>, OutOfMemory>
     Ok(Some(Mark::Definition(MarkDefinition {
         color: text_at(members, "color")?,
         type_,
-        opacity: share_at(members, "opacity"),
+        opacity: number_between(members, "opacity", 0, MOST_SHARE),
         filled: flag_at(members, "filled"),
         point: flag_at(members, "point"),
         size: sign_size_at(type_, members, "size"),
@@ -69,36 +61,25 @@ fn mark_definition_of(members: &[Member]) -> Result<Option<Mark>, OutOfMemory>
         baseline: named_at(members, "baseline"),
         dx: number_between(members, "dx", LEAST_SHIFT, MOST_SHIFT),
         dy: number_between(members, "dy", LEAST_SHIFT, MOST_SHIFT),
-        font_size: count_at(members, "fontSize"),
+        font_size: count_between(members, "fontSize", LEAST_COUNT, MOST_COUNT),
         interpolate: named_at(members, "interpolate"),
     })))
 }
 
-// A mark that is the name of its type.
-fn mark_named(name: &str) -> Option<Mark>
-    ensures { result ≡ mark_named name.now }
-{
-    Some(Mark::Type(MarkType::by_name(name)?))
-}
-
 // A mark: the name of its type, or an object.
-impl Value for Mark {
-    ghost read = { mark_in };
-
-    fn of_value(_: Global, tree: &Json) -> Result<Option<Mark>, OutOfMemory> {
-        match tree {
-            Json::Text(text) => Ok(mark_named(text.as_str())),
-            Json::Object(members) => mark_definition_of(members.as_slice()),
-            Json::Null | Json::Flag(_) | Json::Number(_) | Json::Huge | Json::List(_) => Ok(None),
-        }
-    }
-}
-
 impl Part for Option<Mark> {
     ghost part = { mark_at };
 
-    fn part_at(alloc: Global, members: &[Member], name: &str) -> Result<Option<Mark>, OutOfMemory> {
-        parts::found_at(alloc, members, name)
+    fn part_at(_: Global, members: &[Member], name: &str) -> Result<Option<Mark>, OutOfMemory> {
+        match member_value(members, name) {
+            Some(Json::Text(text)) => match MarkType::by_name(text.as_str()) {
+                Some(type_) => Ok(Some(Mark::Type(type_))),
+                None => Ok(None),
+            },
+            Some(Json::Object(members)) => mark_definition_of(members.as_slice()),
+            Some(Json::Null | Json::Flag(_) | Json::Number(_) | Json::Huge | Json::List(_))
+            | None => Ok(None),
+        }
     }
 }
 
@@ -170,20 +151,16 @@ fn select_definition_of(alloc: Global, members: &[Member]) -> Result<Option<Sele
     })))
 }
 
-// A selection that is the name of its type.
-fn select_named(name: &str) -> Option<Select>
-    ensures { result ≡ select_named name.now }
-{
-    Some(Select::Type(SelectType::by_name(name)?))
-}
-
 // What a selection keeps: the name of its type, or an object.
 impl Value for Select {
     ghost read = { select_in };
 
     fn of_value(alloc: Global, tree: &Json) -> Result<Option<Select>, OutOfMemory> {
         match tree {
-            Json::Text(text) => Ok(select_named(text.as_str())),
+            Json::Text(text) => match SelectType::by_name(text.as_str()) {
+                Some(type_) => Ok(Some(Select::Type(type_))),
+                None => Ok(None),
+            },
             Json::Object(members) => select_definition_of(alloc, members.as_slice()),
             Json::Null | Json::Flag(_) | Json::Number(_) | Json::Huge | Json::List(_) => Ok(None),
         }

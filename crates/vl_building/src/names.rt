@@ -185,21 +185,15 @@ impl ByName for SelectType {
     }
 }
 
-// The event that sets selections of a type, by its name.
-fn select_event_named(type_: SelectType, name: &str) -> Option<SelectEvent>
-    ensures { result ≡ select_event_named type_ name.now }
-{
-    match type_ {
-        SelectType::Point => word_in(&POINT_EVENTS, name),
-        SelectType::Interval => word_in(&INTERVAL_EVENTS, name),
-    }
-}
-
 /// The event that sets a selection of a type, under a name.
 pub fn select_event_at(members: &[Member], type_: SelectType, name: &str) -> Option<SelectEvent>
     ensures { result ≡ named_at (select_event_named type_) members.now name.now }
 {
-    select_event_named(type_, word_at(members, name)?.as_str())
+    let event = word_at(members, name)?.as_str();
+    match type_ {
+        SelectType::Point => word_in(&POINT_EVENTS, event),
+        SelectType::Interval => word_in(&INTERVAL_EVENTS, event),
+    }
 }
 
 // The event that sets a selection of points.

@@ -3,7 +3,7 @@ ghost use Rattle.std.specs.Prelude.{◌≡◌, IfOk};
 ghost use Rattle.vl_building.specs.Sources.{named_from};
 ghost use Rattle.vl_building.specs.Spec.{naming_of};
 ghost use Rattle.vl_building.specs.Gather.{data_of};
-ghost use Rattle.vl_building.specs.inner.Named.{shown, source_numbered};
+ghost use Rattle.vl_building.specs.inner.Named.{shown};
 
 use crate::data::{DataAt, ParamAt};
 use crate::gather::gathered;
@@ -34,35 +34,17 @@ pub struct Named {
     pub params: Keyed,
 }
 
-// The name of the source of data of this number.
-fn source_numbered(
-    alloc: Global,
-    all: &[NamedData],
-    number: usize,
-) -> Result<Option<Text>, OutOfMemory>
-    ensures { IfOk result (λ name. name ≡ source_numbered all.now number) }
-{
-    match all.get(number) {
-        Some(named) => Copies::copied(&named.source, alloc),
-        None => Ok(None),
-    }
-}
-
 /// The name of the source of the data at a place.
 pub fn source_at(alloc: Global, named: &Named, place: &[usize]) -> Result<Option<Text>, OutOfMemory>
     ensures { IfOk result (λ name. name ≡ (shown named.now).source_at place.now) }
 {
-    match number_at(&named.data_, place) {
-        Some(number) => source_numbered(alloc, named.all.as_slice(), number),
+    let Some(number) = number_at(&named.data_, place) else {
+        return Ok(None);
+    };
+    match named.all.as_slice().get(number) {
+        Some(data_) => Copies::copied(&data_.source, alloc),
         None => Ok(None),
     }
-}
-
-/// The number of the parameter at a place.
-pub fn param_at(named: &Named, place: &[usize]) -> Option<usize>
-    ensures { result ≡ (shown named.now).param_at place.now }
-{
-    number_at(&named.params, place)
 }
 
 // What goes by the places of data and parameters.

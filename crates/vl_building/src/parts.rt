@@ -5,7 +5,7 @@ ghost use Rattle.std.specs.List.{filter_map};
 ghost use Rattle.json_exact.specs.declared.json.Json.{out-Json};
 ghost use Rattle.tree_readers.specs.Parts.{found_at, list_at, object_at, text_of};
 ghost use Rattle.expr_syntax.specs.declared.expr.Expr.TheVariants as expr;
-ghost use Rattle.vl_building.specs.Expressions.{plain_expression, expression_in, needed_expression};
+ghost use Rattle.vl_building.specs.Expressions.{expression_in, needed_expression};
 
 use expr_reading::expression_of;
 use expr_syntax::{Expr, has_domain_length};
@@ -13,17 +13,6 @@ use json_exact::{Json, Member};
 use std::alloc::Global;
 use text_kit::{OutOfMemory, Seq, Text};
 use tree_readers::{items_at, member_value, members_at, word_at};
-
-/// What items of lists are.
-pub trait Item: Sized {
-    ghost use Rattle.json_exact.specs.declared.json.Json.{Json};
-
-    ghost item: { Json → Self };
-
-    /// What an item is.
-    fn of_item(alloc: Global, tree: &Json) -> Result<Self, OutOfMemory>
-        ensures { IfOk result (λ value. value ≡ item tree.now) };
-}
 
 /// What objects are.
 pub trait Object: Sized {
@@ -61,18 +50,6 @@ pub trait Plain: Sized {
         ensures { result ≡ plain (out-Json tree.now) };
 }
 
-/// What members of objects may be.
-pub trait OfMember: Sized {
-    ghost use Rattle.std.specs.Prelude.{Option};
-    ghost use Rattle.json_exact.specs.declared.json.Member.{Member};
-
-    ghost given: { Member → Option Self };
-
-    /// What a member is, if it is one of these.
-    fn of_member(alloc: Global, member: &Member) -> Result<Option<Self>, OutOfMemory>
-        ensures { IfOk result (λ value. value ≡ given member.now) };
-}
-
 /// A reading of values.
 pub trait Reads<X, T> {
     ghost reads: { X → T };
@@ -82,14 +59,25 @@ pub trait Reads<X, T> {
         ensures { IfOk result (λ is. is ≡ reads value.now) };
 }
 
+/// A reading of those values that say something.
+pub trait Picks<X, T> {
+    ghost use Rattle.std.specs.Prelude.{Option};
+
+    ghost picks: { X → Option T };
+
+    /// What a value says, if it says something.
+    fn pick(alloc: Global, value: &X) -> Result<Option<T>, OutOfMemory>
+        ensures { IfOk result (λ said. said ≡ picks value.now) };
+}
+
 /// Items by what they are.
 pub struct Items;
 
-impl<T: Item> Reads<Json, T> for Items {
-    ghost reads = { T.item };
+impl Reads<Json, Text> for Items {
+    ghost reads = { text_of };
 
-    fn read(alloc: Global, tree: &Json) -> Result<T, OutOfMemory> {
-        T::of_item(alloc, tree)
+    fn read(alloc: Global, tree: &Json) -> Result<Text, OutOfMemory> {
+        tree_readers::text_of(alloc, tree)
     }
 }
 
@@ -117,30 +105,30 @@ pub fn each<X, T: Drop, R: Reads<X, T>>(alloc: Global, values: &[X]) -> Result<S
     Ok(list)
 }
 
-// Adds what a member is.
-fn push_given<T: OfMember + Drop>(
+// Adds what a value says.
+fn push_picked<X, T: Drop, R: Picks<X, T>>(
     alloc: Global,
-    member: &Member,
+    value: &X,
     out: &mut Seq<T>,
 ) -> Result<(), OutOfMemory>
-    ensures { OnOk result (out.new ≡ out.old ++ option_to_list (T.given member.now)) }
+    ensures { OnOk result (out.new ≡ out.old ++ option_to_list (R.picks value.now)) }
 {
-    match T::of_member(alloc, member)? {
-        Some(value) => out.push(value),
+    match R::pick(alloc, value)? {
+        Some(said) => out.push(said),
         None => Ok(()),
     }
 }
 
-/// What members are, of those that are one of these.
-pub fn given_by<T: OfMember + Drop>(
+/// What values say in a reading, of those that say something.
+pub fn picked<X, T: Drop, R: Picks<X, T>>(
     alloc: Global,
-    members: &[Member],
+    values: &[X],
 ) -> Result<Seq<T>, OutOfMemory>
-    ensures { IfOk result (λ values. values ≡ filter_map T.given members.now) }
+    ensures { IfOk result (λ list. list ≡ filter_map R.picks values.now) }
 {
     let mut out = Seq::new(alloc);
-    for member in members {
-        push_given(alloc, member, &mut out)?;
+    for value in values {
+        push_picked::<X, T, R>(alloc, value, &mut out)?;
     }
     Ok(out)
 }
@@ -208,14 +196,6 @@ pub fn object_at<T: Object>(
     }
 }
 
-impl Item for Text {
-    ghost item = { text_of };
-
-    fn of_item(alloc: Global, tree: &Json) -> Result<Text, OutOfMemory> {
-        tree_readers::text_of(alloc, tree)
-    }
-}
-
 // A value, unless it is to go.
 fn unless<T: Drop>(goes: bool, value: T) -> Option<T>
     ensures { result ≡ (if goes then None else Some value) }
@@ -223,30 +203,15 @@ fn unless<T: Drop>(goes: bool, value: T) -> Option<T>
     if goes { None } else { Some(value) }
 }
 
-// An expression, if no length of a domain stands in it.
-fn plain_expression(e: Expr) -> Option<Expr>
-    ensures { result ≡ plain_expression e }
-{
-    let goes = has_domain_length(&e);
-    unless(goes, e)
-}
-
-// The expression that a text is, none where the length of a domain stands in it.
-fn expression_in(alloc: Global, text: &str) -> Result<Option<Expr>, OutOfMemory>
-    ensures { IfOk result (λ e. e ≡ expression_in text.now) }
-{
-    match expression_of(alloc, text)? {
-        Some(e) => Ok(plain_expression(e)),
-        None => Ok(None),
-    }
-}
-
-/// The expression that a text is, null where it is none.
+/// The expression that a text is, null where it is none or the length of a domain stands in it.
 pub fn expression_or_null(alloc: Global, text: &str) -> Result<Expr, OutOfMemory>
     ensures { IfOk result (λ e. e ≡ unwrap_or (expression_in text.now) expr.Null) }
 {
-    match expression_in(alloc, text)? {
-        Some(e) => Ok(e),
+    match expression_of(alloc, text)? {
+        Some(e) => {
+            let goes = has_domain_length(&e);
+            Ok(unless(goes, e).unwrap_or(Expr::Null))
+        }
         None => Ok(Expr::Null),
     }
 }

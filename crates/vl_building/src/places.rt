@@ -1,13 +1,13 @@
 // Where values stand, and what goes by it.
-ghost use Rattle.std.specs.Prelude.{◌≡◌, ◌++◌, [], IfOk, OnOk};
-ghost use Rattle.std.specs.Option.{option_map, option_to_list, unwrap_or};
-ghost use Rattle.vl_building.specs.Transforms.{transform_of};
+ghost use Rattle.std.specs.Prelude.{◌≡◌, ◌++◌, IfOk, OnOk};
+ghost use Rattle.std.specs.Option.{option_to_list};
 ghost use Rattle.vl_building.specs.Views.{child, member_number, member_place, source_of, lookup_source, transform_at, transforms_in, param_number, numbers_in};
 ghost use Rattle.vl_building.specs.Views.{list_given};
 ghost use Rattle.vl_building.specs.inner.Named.{shown};
 
-use crate::naming::{Named, param_at, source_at};
-use crate::transforms;
+use crate::keyed::number_at;
+use crate::naming::{Named, source_at};
+use crate::transforms::transform_of;
 use json_exact::{Json, Member};
 use std::alloc::Global;
 use text_kit::{OutOfMemory, Seq, Text};
@@ -85,19 +85,6 @@ fn lookup_source(
     }
 }
 
-// The transform of these members, which stand at a place.
-fn transform_here(
-    alloc: Global,
-    named: &Named,
-    here: &[usize],
-    members: &[Member],
-) -> Result<Transform, OutOfMemory>
-    ensures { IfOk result (λ t. t ≡ transform_of (lookup_source (shown named.now) here.now members.now) members.now) }
-{
-    let source = lookup_source(alloc, named, here, members)?;
-    transforms::transform_of(alloc, &source, members)
-}
-
 // The transform that an item of a list at a place is.
 fn transform_at(
     alloc: Global,
@@ -109,56 +96,46 @@ fn transform_at(
     ensures { IfOk result (λ t. t ≡ transform_at (shown named.now) place.now (number, tree.now)) }
 {
     let here = child(alloc, place, number)?;
-    transform_here(alloc, named, here.as_slice(), members_of(tree))
+    let members = members_of(tree);
+    let source = lookup_source(alloc, named, here.as_slice(), members)?;
+    transform_of(alloc, &source, members)
 }
 
-// The transforms of a list at a place.
-fn transforms_in(
-    alloc: Global,
-    named: &Named,
-    items: &[Json],
-    place: &[usize],
-) -> Result<Seq<Transform>, OutOfMemory>
-    ensures { IfOk result (λ ts. ts ≡ transforms_in (shown named.now) items.now place.now) }
-{
-    let mut transforms = Seq::new(alloc);
-    for (number, tree) in items.iter().enumerate() {
-        transforms.push(transform_at(alloc, named, place, number, tree)?)?;
-    }
-    Ok(transforms)
+/// A reading of lists by their items and their places.
+pub trait Lists<T> {
+    ghost use Rattle.std.specs.Prelude.{List};
+    ghost use Rattle.json_exact.specs.declared.json.Json.{Json};
+    ghost use Rattle.vl_building.specs.Views.{Naming, Place};
+
+    ghost listed: { Naming → List Json → Place → List T };
+
+    /// What a list is.
+    fn list_of(
+        alloc: Global,
+        named: &Named,
+        items: &[Json],
+        place: &[usize],
+    ) -> Result<Seq<T>, OutOfMemory>
+        ensures { IfOk result (λ list. list ≡ listed (shown named.now) items.now place.now) };
 }
 
-// The transforms of the list under a name, which stands at a place.
-fn transforms_there(
-    alloc: Global,
-    named: &Named,
-    items: &[Json],
-    here: &Option<Seq<usize>>,
-) -> Result<Option<Seq<Transform>>, OutOfMemory>
-    ensures { IfOk result (λ ts. ts ≡ option_map (transforms_in (shown named.now) items.now) here.now) }
-{
-    match here {
-        Some(here) => transforms_in(alloc, named, items, here.as_slice()).map(Some),
-        None => Ok(None),
-    }
-}
+/// Transforms.
+pub struct Transforms;
 
-/// The transforms of the list under a name.
-pub fn transforms_at(
-    alloc: Global,
-    named: &Named,
-    place: &[usize],
-    members: &[Member],
-    name: &str,
-) -> Result<Option<Seq<Transform>>, OutOfMemory>
-    ensures { IfOk result (λ ts. ts ≡ list_given (transforms_in (shown named.now)) place.now members.now name.now) }
-{
-    match items_at(members, name) {
-        Some(items) => {
-            let here = member_place(alloc, place, members, name)?;
-            transforms_there(alloc, named, items.as_slice(), &here)
+impl Lists<Transform> for Transforms {
+    ghost listed = { transforms_in };
+
+    fn list_of(
+        alloc: Global,
+        named: &Named,
+        items: &[Json],
+        place: &[usize],
+    ) -> Result<Seq<Transform>, OutOfMemory> {
+        let mut transforms = Seq::new(alloc);
+        for (number, tree) in items.iter().enumerate() {
+            transforms.push(transform_at(alloc, named, place, number, tree)?)?;
         }
-        None => Ok(None),
+        Ok(transforms)
     }
 }
 
@@ -174,59 +151,47 @@ fn push_param(
     ensures { OnOk result (out.new ≡ out.old ++ option_to_list (param_number (shown named.now) place.now (number, tree_.now))) }
 {
     let here = child(alloc, place, number)?;
-    match param_at(named, here.as_slice()) {
+    match number_at(&named.params, here.as_slice()) {
         Some(param) => out.push(param),
         None => Ok(()),
     }
 }
 
-// The numbers of the parameters of a list at a place.
-fn numbers_in(
-    alloc: Global,
-    named: &Named,
-    items: &[Json],
-    place: &[usize],
-) -> Result<Seq<usize>, OutOfMemory>
-    ensures { IfOk result (λ numbers. numbers ≡ numbers_in (shown named.now) items.now place.now) }
-{
-    let mut numbers = Seq::new(alloc);
-    for (number, tree) in items.iter().enumerate() {
-        push_param(alloc, named, place, number, tree, &mut numbers)?;
-    }
-    Ok(numbers)
-}
+/// The numbers of parameters.
+pub struct ParamNumbers;
 
-// The numbers of the parameters of a list, which stands at a place.
-fn numbers_there(
-    alloc: Global,
-    named: &Named,
-    items: &[Json],
-    here: &Option<Seq<usize>>,
-) -> Result<Seq<usize>, OutOfMemory>
-    ensures { IfOk result (λ numbers. numbers ≡ unwrap_or (option_map (numbers_in (shown named.now) items.now) here.now) []) }
-{
-    match here {
-        Some(here) => numbers_in(alloc, named, items, here.as_slice()),
-        None => Ok(Seq::new(alloc)),
+impl Lists<usize> for ParamNumbers {
+    ghost listed = { numbers_in };
+
+    fn list_of(
+        alloc: Global,
+        named: &Named,
+        items: &[Json],
+        place: &[usize],
+    ) -> Result<Seq<usize>, OutOfMemory> {
+        let mut numbers = Seq::new(alloc);
+        for (number, tree) in items.iter().enumerate() {
+            push_param(alloc, named, place, number, tree, &mut numbers)?;
+        }
+        Ok(numbers)
     }
 }
 
-/// The numbers of the parameters of the list under a name, none where there is no list.
-pub fn numbers_at(
+/// What the list under a name is in a reading.
+pub fn listed_at<T: Drop, R: Lists<T>>(
     alloc: Global,
     named: &Named,
     place: &[usize],
     members: &[Member],
     name: &str,
-) -> Result<Seq<usize>, OutOfMemory>
-    ensures { IfOk result (λ numbers. numbers
-        ≡ unwrap_or (list_given (numbers_in (shown named.now)) place.now members.now name.now) []) }
+) -> Result<Option<Seq<T>>, OutOfMemory>
+    ensures { IfOk result (λ list. list ≡ list_given (R.listed (shown named.now)) place.now members.now name.now) }
 {
-    match items_at(members, name) {
-        Some(items) => {
-            let here = member_place(alloc, place, members, name)?;
-            numbers_there(alloc, named, items.as_slice(), &here)
-        }
-        None => Ok(Seq::new(alloc)),
+    let Some(items) = items_at(members, name) else {
+        return Ok(None);
+    };
+    match member_place(alloc, place, members, name)? {
+        Some(here) => R::list_of(alloc, named, items.as_slice(), here.as_slice()).map(Some),
+        None => Ok(None),
     }
 }

@@ -1,9 +1,11 @@
 // What stands under several names at once.
 ghost use Rattle.std.specs.Prelude.{◌≡◌, Ok, IfOk};
-ghost use Rattle.tree_readers.specs.Parts.{list_at, object_at, text_at};
+ghost use Rattle.tree_readers.specs.Parts.{object_at, text_at};
+ghost use Rattle.vl_building.specs.Values.{scalars_at};
 
 use crate::parts;
-use crate::parts::{Item, Items, Object};
+use crate::parts::{Items, Object};
+use cell_value::Cell;
 use json_exact::Member;
 use std::alloc::Global;
 use text_kit::{OutOfMemory, Seq, Text};
@@ -28,15 +30,15 @@ impl Part for Option<Text> {
     }
 }
 
-impl<T: Item + Drop> Part for Option<Seq<T>> {
-    ghost part = { list_at T.item };
+impl Part for Option<Seq<Cell>> {
+    ghost part = { scalars_at };
 
     fn part_at(
         alloc: Global,
         members: &[Member],
         name: &str,
-    ) -> Result<Option<Seq<T>>, OutOfMemory> {
-        parts::each_at::<T, Items>(alloc, members, name)
+    ) -> Result<Option<Seq<Cell>>, OutOfMemory> {
+        parts::each_at::<Cell, Items>(alloc, members, name)
     }
 }
 
@@ -101,6 +103,26 @@ pub fn all_three<A: Drop, B: Drop, C: Drop>(
 {
     let (a, b) = both(a, b)?;
     Ok((a, b, c?))
+}
+
+/// Five values, where all are there.
+#[inline(never)]
+pub fn all_five<A: Drop, B: Drop, C: Drop, D: Drop, E: Drop>(
+    a: Result<A, OutOfMemory>,
+    b: Result<B, OutOfMemory>,
+    c: Result<C, OutOfMemory>,
+    d: Result<D, OutOfMemory>,
+    e: Result<E, OutOfMemory>,
+) -> Result<(A, B, C, D, E), OutOfMemory>
+    ensures first { IfOk result (λ all. a ≡ Ok all.0) }
+    ensures second { IfOk result (λ all. b ≡ Ok all.1) }
+    ensures third { IfOk result (λ all. c ≡ Ok all.2) }
+    ensures fourth { IfOk result (λ all. d ≡ Ok all.3) }
+    ensures fifth { IfOk result (λ all. e ≡ Ok all.4) }
+{
+    let (a, b) = both(a, b)?;
+    let (c, d, e) = all_three(c, d, e)?;
+    Ok((a, b, c, d, e))
 }
 
 /// Four values, where all are there.

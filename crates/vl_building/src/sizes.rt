@@ -1,18 +1,14 @@
 // Sizes, and what views share.
 ghost use Rattle.std.specs.Prelude.{◌≡◌, IfOk};
-ghost use Rattle.std.specs.Option.{option_map};
-ghost use Rattle.std.specs.List.{filter_map};
-ghost use Rattle.json_exact.specs.Inside.{members_in};
-ghost use Rattle.tree_readers.specs.Parts.{found_at};
 ghost use Rattle.vl_building.specs.Sizes.{size_in, config_view_of, config_at, sharing_in, resolve_of};
 
 use crate::names::named_in;
 use crate::numbers::{between, number_between};
 use crate::parts;
-use crate::parts::{Object, OfMember, Plain, given_by, plain_at};
+use crate::parts::{Object, Picks, Plain, picked, plain_at};
 use json_exact::{Json, Member};
 use std::alloc::Global;
-use text_kit::{OutOfMemory, Seq};
+use text_kit::OutOfMemory;
 use tree_readers::members_at;
 use vl_spec::{ConfigView, MOST_SIZE, MOST_STEP, OVER_ZERO, Resolve, SharingOf, Size};
 
@@ -63,37 +59,21 @@ pub fn config_at(
     }
 }
 
-// What a member says of the channel of its name.
-#[tactic(auto, unfolding(crate::specs::Sizes::sharing_in))]
-fn sharing_in(member: &Member) -> Option<SharingOf>
-    ensures { result ≡ sharing_in member.now }
-{
-    let channel = case_table::channel_of(member.name.as_str())?;
-    Some(SharingOf {
-        channel,
-        sharing: named_in(&member.value)?,
-    })
-}
+// What members say of the channels of their names.
+struct Sharings;
 
-impl OfMember for SharingOf {
-    ghost given = { sharing_in };
+impl Picks<Member, SharingOf> for Sharings {
+    ghost picks = { sharing_in };
 
-    fn of_member(_: Global, member: &Member) -> Result<Option<SharingOf>, OutOfMemory> {
-        Ok(sharing_in(member))
-    }
-}
-
-// What the members of the object under a name say.
-fn sharings_at(
-    alloc: Global,
-    members: &[Member],
-    name: &str,
-) -> Result<Option<Seq<SharingOf>>, OutOfMemory>
-    ensures { IfOk result (λ out. out ≡ option_map (filter_map sharing_in) (found_at members_in members.now name.now)) }
-{
-    match members_at(members, name) {
-        Some(inner) => given_by(alloc, inner.as_slice()).map(Some),
-        None => Ok(None),
+    #[tactic(auto, unfolding(crate::specs::Sizes::sharing_in))]
+    fn pick(_: Global, member: &Member) -> Result<Option<SharingOf>, OutOfMemory> {
+        let Some(channel) = case_table::channel_of(member.name.as_str()) else {
+            return Ok(None);
+        };
+        match named_in(&member.value) {
+            Some(sharing) => Ok(Some(SharingOf { channel, sharing })),
+            None => Ok(None),
+        }
     }
 }
 
@@ -102,8 +82,11 @@ impl Object for Resolve {
 
     #[tactic(auto, unfolding(crate::specs::Sizes::resolve_of))]
     fn of_members(alloc: Global, members: &[Member]) -> Result<Resolve, OutOfMemory> {
-        Ok(Resolve {
-            scale: sharings_at(alloc, members, "scale")?,
-        })
+        match members_at(members, "scale") {
+            Some(inner) => Ok(Resolve {
+                scale: Some(picked::<Member, SharingOf, Sharings>(alloc, inner.as_slice())?),
+            }),
+            None => Ok(Resolve { scale: None }),
+        }
     }
 }

@@ -1,10 +1,10 @@
 // The sources that data names.
-ghost use Rattle.std.specs.Prelude.{◌≡◌, ◌++◌, ◌==◌, false, [], ◌∷◌, IfOk, OnOk};
-ghost use Rattle.std.specs.Option.{option_copied, option_map_or, option_to_list};
-ghost use Rattle.vl_building.specs.Sources.{gives, is_unnamed, source_name, name_behind, count_behind, named_behind, named_from, of_dataset, of_data, giver_or};
-ghost use Rattle.vl_building.specs.Sources.{source_for, first_source, source_at, sources_with, sources_of};
+ghost use Rattle.std.specs.Prelude.{◌≡◌, ◌++◌, [], ◌∷◌, IfOk, OnOk};
+ghost use Rattle.std.specs.Option.{option_copied, option_to_list};
+ghost use Rattle.vl_building.specs.Sources.{gives, is_unnamed, name_behind, count_behind, named_behind, named_from, of_dataset, of_data, giver_or};
+ghost use Rattle.vl_building.specs.Sources.{source_for, source_at, sources_with, sources_of};
 ghost use Rattle.vl_building.specs.inner.Index.{at_number};
-ghost use Rattle.vl_building.specs.inner.Finding.{rows_numbered, first_numbered, found_by, Finds};
+ghost use Rattle.vl_building.specs.inner.Finding.{rows_numbered, found_by, Finds};
 
 use crate::data::DataAt;
 use crate::index::{DatasetNames, GiverNames, SourceNames, indexed, name_numbers};
@@ -30,22 +30,15 @@ fn is_unnamed(at: &DataAt) -> bool
     at.name.is_none() && gives(at)
 }
 
-// The name of the source of unnamed data, of which so many stand before.
-fn source_name(alloc: Global, number: usize) -> Result<Text, OutOfMemory>
-    ensures { IfOk result (λ name. name ≡ source_name number) }
-{
-    let mut buffer = itoa::Buffer::new();
-    let mut name = Text::of(alloc, "source_")?;
-    name.push_str(buffer.format(number))?;
-    Ok(name)
-}
-
 // The name of the source of data, where so many unnamed ones stand before.
 fn name_behind(alloc: Global, number: usize, at: &DataAt) -> Result<Option<Text>, OutOfMemory>
     ensures { IfOk result (λ name. name ≡ name_behind number at.now) }
 {
     if is_unnamed(at) {
-        source_name(alloc, number).map(Some)
+        let mut buffer = itoa::Buffer::new();
+        let mut name = Text::of(alloc, "source_")?;
+        name.push_str(buffer.format(number))?;
+        Ok(Some(name))
     } else {
         Copies::copied(&at.name, alloc)
     }
@@ -206,72 +199,27 @@ fn source_for(
     }
 }
 
-// Whether a number is the other.
-fn is_number(first: Option<usize>, number: usize) -> bool
-    ensures { result ≡ option_map_or (λ first. first == number) first false }
-{
-    match first {
-        Some(first) => first == number,
-        None => false,
-    }
-}
-
-// Whether data of a number is the first that names its source so.
-fn is_first(
-    alloc: Global,
-    finders: &Finders,
-    number: usize,
-    name: &Text,
-) -> Result<bool, OutOfMemory>
-    ensures { IfOk result (λ first. first ≡ option_map_or (λ other. other == number) (first_numbered finders.now name.now) false) }
-{
-    let key = name_numbers(alloc, name.as_str())?;
-    Ok(is_number(number_at(&finders.names, key.as_slice()), number))
-}
-
-// The source of a name, if data of this number names it first.
-fn first_source(
-    alloc: Global,
-    datasets: &[Member],
-    all: &[NamedData],
-    finders: &Finders,
-    number: usize,
-    at: &DataAt,
-    name: &Text,
-) -> Result<Option<SourceOf>, OutOfMemory>
-    ensures { IfOk result (λ source. source ≡ first_source (found_by finders.now datasets.now all.now) number at.now name.now) }
-{
-    if is_first(alloc, finders, number, name)? {
-        source_for(alloc, datasets, all, finders, at, name).map(Some)
-    } else {
-        Ok(None)
-    }
-}
-
-// The source that data of a number names first.
-fn source_at(
+// Adds the source that data of a number names first, if it does.
+fn push_source(
     alloc: Global,
     datasets: &[Member],
     all: &[NamedData],
     finders: &Finders,
     number: usize,
     named: &NamedData,
-) -> Result<Option<SourceOf>, OutOfMemory>
-    ensures { IfOk result (λ source. source ≡ source_at (found_by finders.now datasets.now all.now) (number, named.now)) }
+    out: &mut Seq<SourceOf>,
+) -> Result<(), OutOfMemory>
+    ensures { OnOk result (out.new ≡ out.old ++ option_to_list (source_at (found_by finders.now datasets.now all.now) (number, named.now))) }
 {
-    match &named.source {
-        Some(name) => first_source(alloc, datasets, all, finders, number, &named.data_, name),
-        None => Ok(None),
-    }
-}
-
-// Adds a source, if there is one.
-fn push_source(source: Option<SourceOf>, out: &mut Seq<SourceOf>) -> Result<(), OutOfMemory>
-    ensures { OnOk result (out.new ≡ out.old ++ option_to_list source) }
-{
-    match source {
-        Some(source) => out.push(source),
-        None => Ok(()),
+    let Some(name) = &named.source else {
+        return Ok(());
+    };
+    let key = name_numbers(alloc, name.as_str())?;
+    match number_at(&finders.names, key.as_slice()) {
+        Some(first) if first == number => {
+            out.push(source_for(alloc, datasets, all, finders, &named.data_, name)?)
+        }
+        _ => Ok(()),
     }
 }
 
@@ -286,10 +234,7 @@ fn sources_with(
 {
     let mut out = Seq::new(alloc);
     for (number, named) in all.iter().enumerate() {
-        push_source(
-            source_at(alloc, datasets, all, finders, number, named)?,
-            &mut out,
-        )?;
+        push_source(alloc, datasets, all, finders, number, named, &mut out)?;
     }
     Ok(out)
 }

@@ -1,7 +1,7 @@
 // Transforms of rows.
 ghost use Rattle.std.specs.Prelude.{◌≡◌, IfOk};
 ghost use Rattle.vl_spec.specs.declared.transforms.Transform.TheVariants as variant;
-ghost use Rattle.vl_building.specs.Transforms.{calculate_of, needed_bin, bin_of, time_unit_of, stack_of, fold_of, transform_by, transform_of};
+ghost use Rattle.vl_building.specs.Transforms.{calculate_of, needed_bin, bin_of, time_unit_of, stack_of, fold_of, transform_of};
 
 use crate::cells::needed_names;
 use crate::definitions::bin_settings_of;
@@ -122,17 +122,16 @@ const KINDS: [&str; 10] = [
     "fold",
 ];
 
-// A transform by its first deciding member; one without is a filter that no row passes.
-#[tactic(auto, unfolding(crate::specs::Transforms::transform_by))]
-fn transform_by(
+/// The transform of these members by the first that decides, a lookup being one in this source; one without is a filter that no row passes.
+#[tactic(auto, unfolding(crate::specs::Transforms::transform_of, crate::specs::Transforms::transform_by, crate::specs::Transforms::is_transform_kind))]
+pub fn transform_of(
     alloc: Global,
-    kind: &str,
     source: &Option<Text>,
     members: &[Member],
 ) -> Result<Transform, OutOfMemory>
-    ensures { IfOk result (λ transform. transform ≡ transform_by kind.now source.now members.now) }
+    ensures { IfOk result (λ transform. transform ≡ transform_of source.now members.now) }
 {
-    match kind {
+    match first_among(members, &KINDS, "") {
         "calculate" => calculate_of(alloc, members),
         "bin" => bin_of(alloc, members),
         "timeUnit" => time_unit_of(alloc, members),
@@ -148,16 +147,4 @@ fn transform_by(
         "fold" => fold_of(alloc, members),
         _ => Ok(Transform::Filter(needed_filter(alloc, members, "filter")?)),
     }
-}
-
-/// The transform of these members, a lookup being one in this source.
-#[tactic(auto, unfolding(crate::specs::Transforms::transform_of, crate::specs::Transforms::is_transform_kind))]
-pub fn transform_of(
-    alloc: Global,
-    source: &Option<Text>,
-    members: &[Member],
-) -> Result<Transform, OutOfMemory>
-    ensures { IfOk result (λ transform. transform ≡ transform_of source.now members.now) }
-{
-    transform_by(alloc, first_among(members, &KINDS, ""), source, members)
 }

@@ -2,27 +2,26 @@
 ghost use Rattle.std.specs.Prelude.{◌≡◌, ◌++◌, map, codes, IfOk, OnOk};
 ghost use Rattle.vl_spec.specs.declared.views.Facet.TheVariants as facet;
 ghost use Rattle.vl_spec.specs.declared.views.ViewKind.TheVariants as view_kind;
-ghost use Rattle.vl_building.specs.Inside.{member_gives};
 ghost use Rattle.vl_building.specs.Channels.{channel_of};
-ghost use Rattle.vl_building.specs.Views.{child, other_word, view_word, cross_of, facet_of, unit_of, layer_with, faceted_with, joined_with, as_view};
-ghost use Rattle.vl_building.specs.Views.{views_given, view_given, kind_by, object_view, views_in, view_of, views_of, no_view};
+ghost use Rattle.vl_building.specs.Views.{child, other_word, view_word, cross_of, facet_of, unit_of, view_with, joined_with, as_view};
+ghost use Rattle.vl_building.specs.Views.{views_given, view_given, kind_by, views_in, view_of, views_of, no_view};
 ghost use Rattle.vl_building.specs.inner.Named.{shown};
-ghost use Rattle.vl_building.specs.inner.Heads.{head_of, views_inside};
+ghost use Rattle.vl_building.specs.inner.Heads.{views_inside};
 
 use crate::naming::Named;
-use crate::numbers::{count_at, space_at};
+use crate::numbers::{count_between, number_between};
 use crate::parts::{Object, plain_at};
-use crate::places::{numbers_at, source_of, transforms_at};
-use crate::several::{all_four, both, three_parts, two_parts};
+use crate::places::{ParamNumbers, Transforms, listed_at};
+use crate::several::{all_five, both, three_parts, two_parts};
 use crate::words::first_among;
 use crate::{parts, places};
 use json_exact::{Json, Member};
 use std::alloc::Global;
-use text_kit::{Boxed, OutOfMemory, Seq, Text};
+use text_kit::{Boxed, OutOfMemory, Seq};
 use tree_readers::{has_member, needed_members};
 use vl_spec::{
-    Channel, CrossFacet, Facet, Faceted, Joined, Joining, Layer, Resolve, Size, Transform, Unit,
-    View, ViewKind,
+    Channel, CrossFacet, Facet, Faceted, Joined, Joining, LEAST_COUNT, Layer, MOST_COUNT,
+    MOST_SPACE, Transform, Unit, View, ViewKind,
 };
 
 // The members of which the first decides what a view is.
@@ -91,52 +90,35 @@ fn unit_of(alloc: Global, members: &[Member]) -> Result<ViewKind, OutOfMemory>
     Ok(ViewKind::Unit(Unit { mark, encoding }))
 }
 
-/// What a view has of its own.
-#[derive(Drop)]
-pub struct Head {
-    /// Its name.
-    pub name: Option<Text>,
-    /// Its title.
-    pub title: Option<Text>,
-    /// The name of the source of its rows.
-    pub data_: Option<Text>,
-    /// Which scales the views inside it share.
-    pub resolve: Option<Resolve>,
-    /// The numbers of its parameters.
-    pub params: Seq<usize>,
-    /// What is done to its rows.
-    pub transform: Option<Seq<Transform>>,
-    /// Its width.
-    pub width: Option<Size>,
-    /// Its height.
-    pub height: Option<Size>,
-}
-
-// What a view has of its own.
-#[tactic(auto, unfolding(crate::specs::inner::Heads::head_of))]
-fn head_of(
+// A view of this kind.
+#[inline(never)]
+#[tactic(auto, unfolding(crate::specs::Views::view_with))]
+fn view_with(
     alloc: Global,
     named: &Named,
     members: &[Member],
     place: &[usize],
-) -> Result<Head, OutOfMemory>
-    ensures { IfOk result (λ head. head ≡ head_of (shown named.now) members.now place.now) }
+    kind: ViewKind,
+) -> Result<View, OutOfMemory>
+    ensures { IfOk result (λ view. view ≡ view_with (shown named.now) members.now place.now kind) }
 {
-    let (data_, params, transform, (name, title, resolve)) = all_four(
-        source_of(alloc, named, place, members),
-        numbers_at(alloc, named, place, members, "params"),
-        transforms_at(alloc, named, place, members, "transform"),
+    let (kind, data_, params, transform, (name, title, resolve)) = all_five(
+        Ok(kind),
+        places::source_of(alloc, named, place, members),
+        listed_at::<usize, ParamNumbers>(alloc, named, place, members, "params"),
+        listed_at::<Transform, Transforms>(alloc, named, place, members, "transform"),
         three_parts(alloc, members, "name", "title", "resolve"),
     )?;
-    Ok(Head {
+    Ok(View {
         name,
         title,
         data_,
-        resolve,
-        params,
         transform,
+        params: params.unwrap_or(Seq::new(alloc)),
         width: plain_at(members, "width"),
         height: plain_at(members, "height"),
+        resolve,
+        kind,
     })
 }
 
@@ -174,54 +156,19 @@ pub fn view_of(
     ensures { IfOk result (λ view. view ≡ view_of (shown named.now) tree.now place.now) }
 {
     match tree {
-        Json::Object(members) => object_view(alloc, named, members.as_slice(), place),
+        Json::Object(members) => {
+            let members = members.as_slice();
+            let kind = kind_by(alloc, named, view_word(members), members, place)?;
+            view_with(alloc, named, members, place, kind)
+        }
         Json::Null | Json::Flag(_) | Json::Number(_) | Json::Huge | Json::Text(_) | Json::List(_) =>
             Ok(no_view(alloc)),
     }
 }
 
-// The view of these members.
-#[cycle(views)]
-#[tactic(auto, unfolding(crate::specs::Views::view_with, crate::specs::inner::Heads::head_of))]
-fn object_view(
-    alloc: Global,
-    named: &Named,
-    members: &[Member],
-    place: &[usize],
-) -> Result<View, OutOfMemory>
-    ensures { IfOk result (λ view. view
-        ≡ object_view (shown named.now) members.now (member_gives (as_view (shown named.now)) members.now) place.now) }
-{
-    let (kind, head) = both(
-        kind_by(alloc, named, view_word(members), members, place),
-        head_of(alloc, named, members, place),
-    )?;
-    let Head {
-        name,
-        title,
-        data_,
-        resolve,
-        params,
-        transform,
-        width,
-        height,
-    } = head;
-    Ok(View {
-        name,
-        title,
-        data_,
-        transform,
-        params,
-        width,
-        height,
-        resolve,
-        kind,
-    })
-}
-
 // What a view is, by the member that decides.
 #[cycle(views)]
-#[tactic(auto, unfolding(crate::specs::Views::kind_by))]
+#[tactic(auto, unfolding(crate::specs::Views::kind_by, crate::specs::Views::layer_with, crate::specs::Views::faceted_with))]
 fn kind_by(
     alloc: Global,
     named: &Named,
@@ -232,56 +179,30 @@ fn kind_by(
     ensures { IfOk result (λ kind. kind ≡ kind_by word.now members.now (views_inside (shown named.now) members.now place.now)) }
 {
     match word {
-        "layer" => layer_of(alloc, named, members, place),
-        "facet" => faceted_of(alloc, named, members, place),
+        "layer" => {
+            let (layer, encoding) = both(
+                views_at(alloc, named, members, place, "layer"),
+                parts::object_at(alloc, members, "encoding"),
+            )?;
+            Ok(ViewKind::Layer(Layer { layer, encoding }))
+        }
+        "facet" => {
+            let (spec, facet) = both(
+                view_at(alloc, named, members, place),
+                Facet::of_members(alloc, needed_members(members, "facet")),
+            )?;
+            Ok(ViewKind::Facet(Faceted {
+                facet,
+                columns: count_between(members, "columns", LEAST_COUNT, MOST_COUNT),
+                spacing: number_between(members, "spacing", 0, MOST_SPACE),
+                spec,
+            }))
+        }
         "hconcat" => joined_of(alloc, named, Joining::Row, "hconcat", members, place),
         "vconcat" => joined_of(alloc, named, Joining::Column, "vconcat", members, place),
         "concat" => joined_of(alloc, named, Joining::Grid, "concat", members, place),
         _ => unit_of(alloc, members),
     }
-}
-
-// Views on each other.
-#[cycle(views)]
-#[tactic(auto, unfolding(crate::specs::Views::layer_with))]
-fn layer_of(
-    alloc: Global,
-    named: &Named,
-    members: &[Member],
-    place: &[usize],
-) -> Result<ViewKind, OutOfMemory>
-    ensures { IfOk result (λ kind. kind
-        ≡ view_kind.Layer (layer_with members.now (views_given (views_inside (shown named.now) members.now place.now (codes "layer"))))) }
-{
-    let (layer, encoding) = both(
-        views_at(alloc, named, members, place, "layer"),
-        parts::object_at(alloc, members, "encoding"),
-    )?;
-    Ok(ViewKind::Layer(Layer { layer, encoding }))
-}
-
-// A view for each part of the rows.
-#[cycle(views)]
-#[tactic(auto, unfolding(crate::specs::Views::faceted_with))]
-fn faceted_of(
-    alloc: Global,
-    named: &Named,
-    members: &[Member],
-    place: &[usize],
-) -> Result<ViewKind, OutOfMemory>
-    ensures { IfOk result (λ kind. kind
-        ≡ view_kind.Facet (faceted_with members.now (view_given (views_inside (shown named.now) members.now place.now (codes "spec"))))) }
-{
-    let (spec, facet) = both(
-        view_at(alloc, named, members, place),
-        Facet::of_members(alloc, needed_members(members, "facet")),
-    )?;
-    Ok(ViewKind::Facet(Faceted {
-        facet,
-        columns: count_at(members, "columns"),
-        spacing: space_at(members, "spacing"),
-        spec,
-    }))
 }
 
 // Views beside each other.
@@ -301,8 +222,8 @@ fn joined_of(
     Ok(ViewKind::Joined(Joined {
         views: views_at(alloc, named, members, place, name)?,
         joining,
-        columns: count_at(members, "columns"),
-        spacing: space_at(members, "spacing"),
+        columns: count_between(members, "columns", LEAST_COUNT, MOST_COUNT),
+        spacing: number_between(members, "spacing", 0, MOST_SPACE),
     }))
 }
 
@@ -318,26 +239,12 @@ fn view_at(
 {
     for (number, member) in members.iter().enumerate() {
         if member.name.as_str() == "spec" {
-            let view = child_view(alloc, named, &member.value, place, number)?;
+            let here = places::child(alloc, place, number)?;
+            let view = view_of(alloc, named, &member.value, here.as_slice())?;
             return Boxed::new(alloc, view);
         }
     }
     Boxed::new(alloc, no_view(alloc))
-}
-
-// The view that a child of a value at a place is.
-#[cycle(views)]
-fn child_view(
-    alloc: Global,
-    named: &Named,
-    tree: &Json,
-    place: &[usize],
-    number: usize,
-) -> Result<View, OutOfMemory>
-    ensures { IfOk result (λ view. view ≡ view_of (shown named.now) tree.now (child place.now number)) }
-{
-    let here = places::child(alloc, place, number)?;
-    view_of(alloc, named, tree, here.as_slice())
 }
 
 // The views that the items of the list under a name are.
@@ -371,7 +278,12 @@ fn views_of(
     ensures { IfOk result (λ views. views ≡ views_of (shown named.now) tree.now (child place.now number)) }
 {
     match tree {
-        Json::List(items) => views_in(alloc, named, items.as_slice(), place, number),
+        Json::List(items) => {
+            let here = places::child(alloc, place, number)?;
+            let mut views = Seq::new(alloc);
+            push_views(alloc, named, items.as_slice(), here.as_slice(), &mut views)?;
+            Ok(views)
+        }
         Json::Null
         | Json::Flag(_)
         | Json::Number(_)
@@ -379,23 +291,6 @@ fn views_of(
         | Json::Text(_)
         | Json::Object(_) => Ok(Seq::new(alloc)),
     }
-}
-
-// The views that the items of a list are, which is a child of an object at a place.
-#[cycle(views)]
-fn views_in(
-    alloc: Global,
-    named: &Named,
-    items: &[Json],
-    place: &[usize],
-    number: usize,
-) -> Result<Seq<View>, OutOfMemory>
-    ensures { IfOk result (λ views. views ≡ views_in (map (as_view (shown named.now)) items.now) (child place.now number)) }
-{
-    let here = places::child(alloc, place, number)?;
-    let mut views = Seq::new(alloc);
-    push_views(alloc, named, items, here.as_slice(), &mut views)?;
-    Ok(views)
 }
 
 // Adds the views that items at a place are.
@@ -410,7 +305,8 @@ fn push_views(
     ensures { OnOk result (out.new ≡ out.old ++ views_in (map (as_view (shown named.now)) items.now) place.now) }
 {
     for (number, tree) in items.iter().enumerate() {
-        out.push(child_view(alloc, named, tree, place, number)?)?;
+        let here = places::child(alloc, place, number)?;
+        out.push(view_of(alloc, named, tree, here.as_slice())?)?;
     }
     Ok(())
 }

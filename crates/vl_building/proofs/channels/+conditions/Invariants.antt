@@ -13,12 +13,6 @@ decreases-conditions_of l = 6 * size-Json l.tree.now + 1
 abbrev pub decreases-object_condition : goal.decreases-object_condition
 decreases-object_condition l = 6 * goal.size-object_condition l + 3
 
-abbrev pub decreases-one_condition : goal.decreases-one_condition
-decreases-one_condition l = 6 * goal.size-one_condition l + 4
-
-abbrev pub decreases-several_conditions : goal.decreases-several_conditions
-decreases-several_conditions l = 6 * goal.size-several_conditions l + 2
-
 abbrev pub decreases-push_conditions : goal.decreases-push_conditions
 decreases-push_conditions l = 6 * goal.size-push_conditions l + 1
 

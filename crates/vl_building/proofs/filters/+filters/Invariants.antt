@@ -19,9 +19,6 @@ decreases-needed_filter l = 6 * goal.size-needed_filter l + 2
 abbrev pub decreases-filters_at : goal.decreases-filters_at
 decreases-filters_at l = 6 * goal.size-filters_at l + 2
 
-abbrev pub decreases-filters_in : goal.decreases-filters_in
-decreases-filters_in l = 6 * goal.size-filters_in l + 2
-
 abbrev pub decreases-push_filters : goal.decreases-push_filters
 decreases-push_filters l = 6 * goal.size-push_filters l + 1
 

@@ -13,20 +13,8 @@ decreases-view_of l = 10 * size-Json l.tree.now + 0
 abbrev pub decreases-views_of : goal.decreases-views_of
 decreases-views_of l = 10 * size-Json l.tree.now + 1
 
-abbrev pub decreases-child_view : goal.decreases-child_view
-decreases-child_view l = 10 * size-Json l.tree.now + 1
-
-abbrev pub decreases-object_view : goal.decreases-object_view
-decreases-object_view l = 10 * goal.size-object_view l + 8
-
 abbrev pub decreases-kind_by : goal.decreases-kind_by
 decreases-kind_by l = 10 * goal.size-kind_by l + 7
-
-abbrev pub decreases-layer_of : goal.decreases-layer_of
-decreases-layer_of l = 10 * goal.size-layer_of l + 6
-
-abbrev pub decreases-faceted_of : goal.decreases-faceted_of
-decreases-faceted_of l = 10 * goal.size-faceted_of l + 6
 
 abbrev pub decreases-joined_of : goal.decreases-joined_of
 decreases-joined_of l = 10 * goal.size-joined_of l + 6
@@ -36,9 +24,6 @@ decreases-views_at l = 10 * goal.size-views_at l + 5
 
 abbrev pub decreases-view_at : goal.decreases-view_at
 decreases-view_at l = 10 * goal.size-view_at l + 5
-
-abbrev pub decreases-views_in : goal.decreases-views_in
-decreases-views_in l = 10 * goal.size-views_in l + 9
 
 abbrev pub decreases-push_views : goal.decreases-push_views
 decreases-push_views l = 10 * goal.size-push_views l + 8

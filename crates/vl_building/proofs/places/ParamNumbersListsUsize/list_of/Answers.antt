@@ -1,6 +1,6 @@
 use Rattle.vl_building.specs.inner.Named.{shown}
 use Rattle.vl_building.proofs.PlaceLemmas.{one_param}
-use Rattle.vl_building.proofs.places.numbers_in.Goals as goal
+use Rattle.vl_building.proofs.places.ParamNumbersListsUsize.list_of.Goals as goal
 
 pub loop-number-preserved : goal.loop-number-preserved
 loop-number-preserved c =
