@@ -2,12 +2,12 @@
 //!
 //! `nesting` is how many brackets may still be opened and `limit` how high the tree may be. Each step into a part takes from one
 //! of them, so the recursion is no deeper than they say; a row of operators is a loop.
-ghost use Rattle.std.specs.Prelude.{◌≡◌, ◌<◌, ◌≤◌, ◌-◌, [], map, IfOk};
+ghost use Rattle.std.specs.Prelude.{◌≡◌, ◌<◌, ◌≤◌, ◌-◌, [], map, max, IfOk};
 ghost use Rattle.text_kit.specs.Answer.{GivesAs};
 ghost use Rattle.expr_syntax.specs.declared.expr.Expr.TheVariants.{Choose, Binary, Pair};
 ghost use Rattle.expr_syntax.specs.Grammar.{height, level_of, list_max};
 ghost use Rattle.expr_syntax.specs.inner.Scanner.{cause};
-ghost use Rattle.expr_syntax.specs.inner.Parser.{operator_at, arguments_at, most_arguments, called_at, named_at, pair_at, primary_at};
+ghost use Rattle.expr_syntax.specs.inner.Parser.{operator_at, arguments_at, most_arguments, called_at, named_at, pair_at, primary_at, within};
 ghost use Rattle.expr_syntax.specs.inner.Parser.{unary_at, branches_at, choice_at, joined_at, chain_at, builtin_at, call_at, tree_at};
 ghost use Rattle.expr_syntax.specs.inner.Parser.{inside_of, whole_at};
 
@@ -55,29 +55,88 @@ fn operator_at(level: u32, tokens: &[Token]) -> Option<BinOp>
     }
 }
 
+// Two boxed trees.
+fn boxed_pair(
+    alloc: Global,
+    first: Expr,
+    second: Expr,
+) -> Result<(Boxed<Expr>, Boxed<Expr>), OutOfMemory>
+    ensures { IfOk result (λ pair. pair ≡ (first, second)) }
+{
+    let first = Boxed::new(alloc, first)?;
+    Ok((first, Boxed::new(alloc, second)?))
+}
+
 // A choice of its parts.
 fn chosen(alloc: Global, test: Expr, first: Expr, second: Expr) -> Result<Expr, OutOfMemory>
     ensures { IfOk result (λ e. e ≡ Choose test first second) }
 {
-    let test = Boxed::new(alloc, test)?;
-    let first = Boxed::new(alloc, first)?;
-    Ok(Expr::Choose(test, first, Boxed::new(alloc, second)?))
+    let (first, second) = boxed_pair(alloc, first, second)?;
+    Ok(Expr::Choose(Boxed::new(alloc, test)?, first, second))
 }
 
 // An operator with its operands.
 fn joined(alloc: Global, op: BinOp, left: Expr, right: Expr) -> Result<Expr, OutOfMemory>
     ensures { IfOk result (λ e. e ≡ Binary op left right) }
 {
-    let left = Boxed::new(alloc, left)?;
-    Ok(Expr::Binary(op, left, Boxed::new(alloc, right)?))
+    let (left, right) = boxed_pair(alloc, left, right)?;
+    Ok(Expr::Binary(op, left, right))
 }
 
 // A pair of its parts.
 fn paired(alloc: Global, first: Expr, second: Expr) -> Result<Expr, OutOfMemory>
     ensures { IfOk result (λ e. e ≡ Pair first second) }
 {
-    let first = Boxed::new(alloc, first)?;
-    Ok(Expr::Pair(first, Boxed::new(alloc, second)?))
+    let (first, second) = boxed_pair(alloc, first, second)?;
+    Ok(Expr::Pair(first, second))
+}
+
+// A choice of read trees, where it is no higher than the limit.
+#[tactic(auto, using(crate::proofs::Heights::heights))]
+fn chosen_within(
+    alloc: Global,
+    limit: u32,
+    test: Tall,
+    first: Tall,
+    second: Tall,
+    rest: &[Token],
+) -> Result<(Tall, &[Token]), ExprError>
+    requires test { test.height ≡ height test.tree }
+    requires first { first.height ≡ height first.tree }
+    requires second { second.height ≡ height second.tree }
+    ensures gives { GivesAs (λ x. (x.0.tree, x.1.now)) cause result
+        (within limit (max (height test.tree) (max (height first.tree) (height second.tree)))
+        (Choose test.tree first.tree second.tree) rest.now) }
+    ensures told { IfOk result (λ x. x.0.height ≡ height x.0.tree) }
+{
+    let highest = higher(test.height, higher(first.height, second.height));
+    let tree = chosen(
+        alloc,
+        test.into_tree(),
+        first.into_tree(),
+        second.into_tree(),
+    )?;
+    within(limit, highest, tree, rest)
+}
+
+// A pair of read trees, where it is no higher than the limit.
+#[tactic(auto, using(crate::proofs::Heights::heights))]
+fn paired_within(
+    alloc: Global,
+    limit: u32,
+    first: Tall,
+    second: Tall,
+    rest: &[Token],
+) -> Result<(Tall, &[Token]), ExprError>
+    requires first { first.height ≡ height first.tree }
+    requires second { second.height ≡ height second.tree }
+    ensures gives { GivesAs (λ x. (x.0.tree, x.1.now)) cause result
+        (within limit (max (height first.tree) (height second.tree)) (Pair first.tree second.tree) rest.now) }
+    ensures told { IfOk result (λ x. x.0.height ≡ height x.0.tree) }
+{
+    let highest = higher(first.height, second.height);
+    let tree = paired(alloc, first.into_tree(), second.into_tree())?;
+    within(limit, highest, tree, rest)
 }
 
 /// The tree at a level, from 0, a primary, to 8, a choice.
@@ -154,9 +213,7 @@ fn branches_at<'a>(
         Ok(read) => read,
         Err(error) => return Err(error),
     };
-    let highest = higher(test.height, higher(first.height, second.height));
-    let tree = chosen(alloc, test.tree, first.tree, second.tree)?;
-    within(limit, highest, tree, rest)
+    chosen_within(alloc, limit, test, first, second, rest)
 }
 
 // Operands with operators between them, up to those of a level.
@@ -257,7 +314,7 @@ fn joined_at<'a>(
         Err(error) => return Err(error),
     };
     let highest = higher(left.height, right.height);
-    let tree = joined(alloc, op, left.tree, right.tree)?;
+    let tree = joined(alloc, op, left.into_tree(), right.into_tree())?;
     within(limit, highest, tree, rest)
 }
 
@@ -285,7 +342,7 @@ fn unary_at(
         Err(error) => return Err(error),
     };
     let highest = operand.height;
-    let operand = Boxed::new(alloc, operand.tree)?;
+    let operand = Boxed::new(alloc, operand.into_tree())?;
     if not {
         within(limit, highest, Expr::Not(operand), rest)
     } else if minus {
@@ -369,9 +426,7 @@ fn pair_at(
         Err(error) => return Err(error),
     };
     let rest = after(Mark::CloseSquare, rest)?;
-    let highest = higher(first.height, second.height);
-    let tree = paired(alloc, first.tree, second.tree)?;
-    within(limit, highest, tree, rest)
+    paired_within(alloc, limit, first, second, rest)
 }
 
 // What begins with a name, after it.
@@ -498,7 +553,7 @@ fn arguments_at(
             Err(error) => return Err(error),
         };
         highest = higher(highest, argument.height);
-        arguments.push(argument.tree)?;
+        arguments.push(argument.into_tree())?;
         if !starts(Mark::Comma, after) {
             return Ok((arguments, highest, after));
         }
@@ -517,7 +572,7 @@ pub(crate) fn whole_at(alloc: Global, tokens: &[Token]) -> Result<Expr, ExprErro
         Err(error) => return Err(error),
     };
     if rest.is_empty() {
-        Ok(tall.tree)
+        Ok(tall.into_tree())
     } else {
         Err(ExprError::Shape)
     }

@@ -10,10 +10,26 @@ use crate::expr::Expr;
 use crate::token::Token;
 
 /// A tree and how high it is.
-#[derive(Debug, Drop)]
+#[derive(Debug)]
 pub(crate) struct Tall {
     pub(crate) tree: Expr,
     pub(crate) height: u32,
+}
+
+impl Drop for Tall {
+    fn drop(self) {
+        let Tall { tree: _, height: _ } = self;
+    }
+}
+
+impl Tall {
+    // The tree alone.
+    pub(crate) fn into_tree(self) -> Expr
+        ensures { result ≡ self.tree }
+    {
+        let Tall { tree, height: _ } = self;
+        tree
+    }
 }
 
 // A tree without parts.

@@ -37,7 +37,7 @@ arguments_at-returns-then-not-starts-clause-gives t c =
     let e =
     closes (inside_of c.args.nesting c.args.limit) c.loop.arguments most_arguments c.loop.counter c.loop.rest.now _ c.in-Ok.read.0.tree
     c.in-Ok.read.1.now c.loop-test.true c.in-Ok.ensures.gives (sym c.starts.ensures ∙ c.if-not-starts.true) c.loop.invariant.read in
-    rw c.in_ok-push.ensures.ok e
+    rw (c.in_ok-push.ensures.ok, c.into_tree.ensures) e
 
 pub arguments_at-returns-then-not-starts-clause-told : goal.arguments_at-returns-then-not-starts-clause-told
 arguments_at-returns-then-not-starts-clause-told t c =
@@ -45,7 +45,7 @@ arguments_at-returns-then-not-starts-clause-told t c =
     let so_far = c.loop.invariant.told in
     let here = c.in-Ok.ensures.told in
     let most = c.higher-highest.ensures in
-    rw c.in_ok-push.ensures.ok (omega (arith, more))
+    rw (c.in_ok-push.ensures.ok, c.into_tree.ensures) (omega (arith, more))
 
 pub arguments_at-loop-preserved : goal.arguments_at-loop-preserved
 arguments_at-loop-preserved t c =
@@ -57,8 +57,8 @@ arguments_at-loop-preserved t c =
     goes_on (inside_of c.args.nesting c.args.limit) c.loop.arguments most_arguments c.loop.counter c.loop.rest.now _ c.in-Ok.read.0.tree
     c.in-Ok.read.1.now c.loop-test.true c.in-Ok.ensures.gives (sym c.starts.ensures ∙ c.if-not-starts.false) c.loop.invariant.read in
     record {
-      read = rw (c.in_ok-push.ensures.ok, c.after_first-rest.ensures) e;
-      told = rw c.in_ok-push.ensures.ok (omega (arith, more));
+      read = rw (c.in_ok-push.ensures.ok, c.into_tree.ensures, c.after_first-rest.ensures) e;
+      told = rw (c.in_ok-push.ensures.ok, c.into_tree.ensures) (omega (arith, more));
     }
 
 pub arguments_at-returns-clause-gives : goal.arguments_at-returns-clause-gives
