@@ -14,7 +14,7 @@ use std::alloc::Global;
 use text_kit::{OutOfMemory, Seq, Text};
 
 /// How the rows of a facet are divided.
-#[derive(Debug, Drop)]
+#[derive(Debug)]
 pub struct DividedBy {
     /// The fields by whose cells they are divided.
     pub fields: Seq<Text>,
@@ -22,6 +22,16 @@ pub struct DividedBy {
     pub sort: Option<Seq<SortBy>>,
     /// Whether there is a copy for every choice of cells.
     pub crosses: bool,
+}
+
+impl Drop for DividedBy {
+    fn drop(self) {
+        let DividedBy {
+            fields: _,
+            sort: _,
+            crosses: _,
+        } = self;
+    }
 }
 
 // The entries of an order; none without an order.

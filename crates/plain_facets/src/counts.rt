@@ -10,12 +10,20 @@ use std::alloc::Global;
 use text_kit::{OutOfMemory, Seq};
 
 /// The copies of a facet, those that have rows by their cells and the others by their number.
-#[derive(Drop)]
 pub struct CellsCounted {
     /// The cells of the copies that have rows.
     pub with_rows: Seq<Seq<Cell>>,
     /// How many copies have none, up to the greatest number of 64 bits.
     pub without_rows: u64,
+}
+
+impl Drop for CellsCounted {
+    fn drop(self) {
+        let CellsCounted {
+            with_rows: _,
+            without_rows: _,
+        } = self;
+    }
 }
 
 // How many choices of one cell of each list there are, up to the greatest number of 128 bits.

@@ -4,7 +4,7 @@ use fixed_num::Num;
 use text_kit::{Seq, Text};
 
 /// How the numbers of a field are put into bins.
-#[derive(Debug, Drop)]
+#[derive(Debug)]
 pub struct BinOf {
     /// The field.
     pub field: Text,
@@ -20,8 +20,21 @@ pub struct BinOf {
     pub out_end: SharedText,
 }
 
+impl Drop for BinOf {
+    fn drop(self) {
+        let BinOf {
+            field: _,
+            extent: _,
+            step: _,
+            maxbins: _,
+            out: _,
+            out_end: _,
+        } = self;
+    }
+}
+
 /// How the instants of a field are put into units of time.
-#[derive(Debug, Drop)]
+#[derive(Debug)]
 pub struct TimeOf {
     /// The field.
     pub field: Text,
@@ -33,8 +46,19 @@ pub struct TimeOf {
     pub out_end: SharedText,
 }
 
+impl Drop for TimeOf {
+    fn drop(self) {
+        let TimeOf {
+            field: _,
+            unit: _,
+            out: _,
+            out_end: _,
+        } = self;
+    }
+}
+
 /// An operation on the rows of a group or of a frame.
-#[derive(Debug, Drop)]
+#[derive(Debug)]
 pub struct OpOf {
     /// The code of the operation among `OPERATIONS`.
     pub op: u16,
@@ -44,8 +68,18 @@ pub struct OpOf {
     pub out: SharedText,
 }
 
+impl Drop for OpOf {
+    fn drop(self) {
+        let OpOf {
+            op: _,
+            field: _,
+            out: _,
+        } = self;
+    }
+}
+
 /// What is computed of each group of rows.
-#[derive(Debug, Drop)]
+#[derive(Debug)]
 pub struct GroupOf {
     /// The fields whose equal cells make a group.
     pub groupby: Seq<Text>,
@@ -53,8 +87,14 @@ pub struct GroupOf {
     pub ops: Seq<OpOf>,
 }
 
+impl Drop for GroupOf {
+    fn drop(self) {
+        let GroupOf { groupby: _, ops: _ } = self;
+    }
+}
+
 /// A field by which rows are sorted.
-#[derive(Debug, Drop)]
+#[derive(Debug)]
 pub struct SortBy {
     /// The field.
     pub field: Text,
@@ -62,8 +102,17 @@ pub struct SortBy {
     pub descending: bool,
 }
 
+impl Drop for SortBy {
+    fn drop(self) {
+        let SortBy {
+            field: _,
+            descending: _,
+        } = self;
+    }
+}
+
 /// How the values of a field are stacked.
-#[derive(Debug, Drop)]
+#[derive(Debug)]
 pub struct StackOf {
     /// The field.
     pub field: Text,
@@ -79,6 +128,19 @@ pub struct StackOf {
     pub out_end: SharedText,
 }
 
+impl Drop for StackOf {
+    fn drop(self) {
+        let StackOf {
+            field: _,
+            groupby: _,
+            sort: _,
+            offset: _,
+            out: _,
+            out_end: _,
+        } = self;
+    }
+}
+
 /// Where a stack begins.
 #[derive(Clone, Copy, Debug, PartialEq, Eq)]
 pub enum Offset {
@@ -91,7 +153,7 @@ pub enum Offset {
 }
 
 /// What is computed of each row over its neighbours.
-#[derive(Debug, Drop)]
+#[derive(Debug)]
 pub struct WindowOf {
     /// The operations.
     pub ops: Seq<OpOf>,
@@ -109,8 +171,22 @@ pub struct WindowOf {
     pub ignore_peers: bool,
 }
 
+impl Drop for WindowOf {
+    fn drop(self) {
+        let WindowOf {
+            ops: _,
+            params: _,
+            groupby: _,
+            sort: _,
+            before: _,
+            after: _,
+            ignore_peers: _,
+        } = self;
+    }
+}
+
 /// How cells of another list are taken.
-#[derive(Debug, Drop)]
+#[derive(Debug)]
 pub struct LookupOf {
     /// The field of the row that is sought.
     pub key_here: Text,
@@ -124,8 +200,20 @@ pub struct LookupOf {
     pub otherwise: Cell,
 }
 
+impl Drop for LookupOf {
+    fn drop(self) {
+        let LookupOf {
+            key_here: _,
+            key_there: _,
+            fields: _,
+            outs: _,
+            otherwise: _,
+        } = self;
+    }
+}
+
 /// How one row is made for each of several fields.
-#[derive(Debug, Drop)]
+#[derive(Debug)]
 pub struct FoldOf {
     /// The fields.
     pub fields: Seq<SharedText>,
@@ -133,4 +221,14 @@ pub struct FoldOf {
     pub out_key: SharedText,
     /// The name of the field's cell.
     pub out_value: SharedText,
+}
+
+impl Drop for FoldOf {
+    fn drop(self) {
+        let FoldOf {
+            fields: _,
+            out_key: _,
+            out_value: _,
+        } = self;
+    }
 }

@@ -105,86 +105,34 @@ fn shown_value(alloc: Global, cell: &CellOf) -> Result<ChannelValue, OutOfMemory
 }
 
 // A value on a scale.
-fn on_scale(name: Text, value: ChannelValue) -> ChannelValue
+fn on_scale(name: Text, mut value: ChannelValue) -> ChannelValue
     ensures { result ≡ on_scale name value }
 {
-    let ChannelValue {
-        value,
-        field,
-        scale: _,
-        band,
-        offset,
-        signal,
-        test,
-        format,
-    } = value;
-    ChannelValue {
-        value,
-        field,
-        scale: Some(name),
-        band,
-        offset,
-        signal,
-        test,
-        format,
-    }
+    value.scale = Some(name);
+    value
 }
 
 // A value with a share of a band.
-fn with_band(share: Num, value: ChannelValue) -> ChannelValue
+fn with_band(share: Num, mut value: ChannelValue) -> ChannelValue
     ensures { result ≡ with_band share value }
 {
-    let ChannelValue {
-        value,
-        field,
-        scale,
-        band: _,
-        offset,
-        signal,
-        test,
-        format,
-    } = value;
-    ChannelValue {
-        value,
-        field,
-        scale,
-        band: Some(share),
-        offset,
-        signal,
-        test,
-        format,
-    }
+    value.band = Some(share);
+    value
 }
 
 // A value under a test, moved, and with a format.
 fn under(
-    value: ChannelValue,
+    mut value: ChannelValue,
     test: Option<Expr>,
     offset: Option<Num>,
     format: Option<Text>,
 ) -> ChannelValue
     ensures { result ≡ under value test offset format }
 {
-    let ChannelValue {
-        value,
-        field,
-        scale,
-        band,
-        offset: _,
-        signal,
-        test: _,
-        format: _,
-    } = value;
-    ChannelValue {
-        value,
-        field,
-        scale,
-        band,
-        offset,
-        signal,
-        test,
-        format,
-    }
+    value.offset = offset;
+    value.test = test;
+    value.format = format;
+    value
 }
 
 // ---- places

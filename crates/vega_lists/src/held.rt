@@ -19,10 +19,18 @@ pub(crate) enum RowsIn {
 }
 
 /// The lists for which names stand. A list that no transform changes stays where it is, in a source or under another name.
-#[derive(Drop)]
 pub struct Lists {
     pub(crate) by_name: BTreeMap<String, RowsIn>,
     pub(crate) made: Seq<Rows>,
+}
+
+impl Drop for Lists {
+    fn drop(self) {
+        let Lists {
+            by_name: _,
+            made: _,
+        } = self;
+    }
 }
 
 // The place of a name.

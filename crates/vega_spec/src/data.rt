@@ -1,12 +1,12 @@
 // Data sets.
 use crate::Transform;
-use crate::copying::copied_json;
+use crate::copying::{beside_copy, copied_json};
 use json_exact::Json;
 use std::alloc::Global;
 use text_kit::{Copies, OutOfMemory, Seq, Text, copied_four};
 
 /// A data set.
-#[derive(Debug, Drop)]
+#[derive(Debug)]
 pub struct DataSet {
     /// The name.
     pub name: Text,
@@ -22,13 +22,32 @@ pub struct DataSet {
     pub transform: Option<Seq<Transform>>,
 }
 
+impl Drop for DataSet {
+    fn drop(self) {
+        let DataSet {
+            name: _,
+            values: _,
+            url: _,
+            format: _,
+            source: _,
+            transform: _,
+        } = self;
+    }
+}
+
 /// The format of a data file.
-#[derive(Debug, Drop)]
+#[derive(Debug)]
 pub struct Format {
     /// The type of the file.
     pub type_: Option<FormatKind>,
     /// How the texts of fields are read, with the name of each field.
     pub parse: Option<Seq<(Text, ParseKind)>>,
+}
+
+impl Drop for Format {
+    fn drop(self) {
+        let Format { type_: _, parse: _ } = self;
+    }
 }
 
 /// The type of a data file.
@@ -55,15 +74,16 @@ pub enum ParseKind {
 
 impl Copies for DataSet {
     fn copied(&self, alloc: Global) -> Result<DataSet, OutOfMemory> {
-        let name = self.name.copy()?;
-        let values = copied_json(alloc, &self.values)?;
-        let (url, format, source, transform) = copied_four(
+        let copies = copied_four(
             alloc,
             &self.url,
             &self.format,
             &self.source,
             &self.transform,
         )?;
+        let copies = beside_copy(copies, &self.values, copied_json(alloc, &self.values))?;
+        let ((copies, values), name) = beside_copy(copies, &self.name, self.name.copy())?;
+        let (url, format, source, transform) = copies;
         Ok(DataSet {
             name,
             values,

@@ -19,7 +19,7 @@ pub enum Domain {
 }
 
 /// The cells of a field of a data set.
-#[derive(Debug, Drop)]
+#[derive(Debug)]
 pub struct FieldDomain {
     /// The data set.
     pub data_: Text,
@@ -29,8 +29,18 @@ pub struct FieldDomain {
     pub sort: Option<DomainOrder>,
 }
 
+impl Drop for FieldDomain {
+    fn drop(self) {
+        let FieldDomain {
+            data_: _,
+            field: _,
+            sort: _,
+        } = self;
+    }
+}
+
 /// The cells of several fields.
-#[derive(Debug, Drop)]
+#[derive(Debug)]
 pub struct FieldsDomain {
     /// The fields.
     pub fields: Seq<Reference>,
@@ -38,13 +48,25 @@ pub struct FieldsDomain {
     pub sort: Option<DomainOrder>,
 }
 
+impl Drop for FieldsDomain {
+    fn drop(self) {
+        let FieldsDomain { fields: _, sort: _ } = self;
+    }
+}
+
 /// A field of a data set.
-#[derive(Debug, Drop)]
+#[derive(Debug)]
 pub struct Reference {
     /// The data set.
     pub data_: Text,
     /// The field.
     pub field: Text,
+}
+
+impl Drop for Reference {
+    fn drop(self) {
+        let Reference { data_: _, field: _ } = self;
+    }
 }
 
 /// How the cells of a domain stand.

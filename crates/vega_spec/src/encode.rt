@@ -1,5 +1,5 @@
 // Encode sets.
-use crate::copying::copied_expr;
+use crate::copying::{beside_copy, beside_four, copied_expr};
 use cell_value::Cell;
 use expr_syntax::Expr;
 use fixed_num::Num;
@@ -7,7 +7,7 @@ use std::alloc::Global;
 use text_kit::{Copies, OutOfMemory, Seq, Text, copied_four, copied_two};
 
 /// The encode sets of a mark, of which `update` wins.
-#[derive(Debug, Drop)]
+#[derive(Debug)]
 pub struct Encode {
     /// The first set.
     pub enter: Option<Channels>,
@@ -15,8 +15,16 @@ pub struct Encode {
     pub update: Option<Channels>,
 }
 
+impl Drop for Encode {
+    fn drop(self) {
+        let Encode { enter, update } = self;
+        drop(enter);
+        drop(update);
+    }
+}
+
 /// What each channel of a mark shows.
-#[derive(Debug, Drop)]
+#[derive(Debug)]
 pub struct Channels {
     /// One end, from the left.
     pub x: Option<Channel>,
@@ -60,8 +68,55 @@ pub struct Channels {
     pub font_size: Option<Channel>,
 }
 
+impl Drop for Channels {
+    fn drop(self) {
+        let Channels {
+            x,
+            x2,
+            xc,
+            width,
+            y,
+            y2,
+            yc,
+            height,
+            fill,
+            stroke,
+            stroke_width,
+            opacity,
+            size,
+            shape,
+            text,
+            align,
+            baseline,
+            dx,
+            dy,
+            font_size,
+        } = self;
+        drop(x);
+        drop(x2);
+        drop(xc);
+        drop(width);
+        drop(y);
+        drop(y2);
+        drop(yc);
+        drop(height);
+        drop(fill);
+        drop(stroke);
+        drop(stroke_width);
+        drop(opacity);
+        drop(size);
+        drop(shape);
+        drop(text);
+        drop(align);
+        drop(baseline);
+        drop(dx);
+        drop(dy);
+        drop(font_size);
+    }
+}
+
 /// A value, or a list of values with their tests.
-#[derive(Debug, Drop)]
+#[derive(Debug)]
 pub enum Channel {
     /// A value that stands alone.
     One(ChannelValue),
@@ -69,8 +124,17 @@ pub enum Channel {
     Several(Seq<ChannelValue>),
 }
 
+impl Drop for Channel {
+    fn drop(self) {
+        match self {
+            Channel::One(value) => drop(value),
+            Channel::Several(values) => drop(values),
+        }
+    }
+}
+
 /// A value of a channel.
-#[derive(Debug, Drop)]
+#[derive(Debug)]
 pub struct ChannelValue {
     /// A cell.
     pub value: Option<Cell>,
@@ -90,6 +154,27 @@ pub struct ChannelValue {
     pub format: Option<Text>,
 }
 
+impl Drop for ChannelValue {
+    fn drop(self) {
+        let ChannelValue {
+            value,
+            field,
+            scale,
+            band: _,
+            offset: _,
+            signal,
+            test,
+            format,
+        } = self;
+        drop(value);
+        drop(field);
+        drop(scale);
+        drop(signal);
+        drop(test);
+        drop(format);
+    }
+}
+
 impl Copies for Encode {
     fn copied(&self, alloc: Global) -> Result<Encode, OutOfMemory> {
         let (enter, update) = copied_two(alloc, &self.enter, &self.update)?;
@@ -99,17 +184,32 @@ impl Copies for Encode {
 
 impl Copies for Channels {
     fn copied(&self, alloc: Global) -> Result<Channels, OutOfMemory> {
-        let across = copied_four(alloc, &self.x, &self.x2, &self.xc, &self.width)?;
-        let down = copied_four(alloc, &self.y, &self.y2, &self.yc, &self.height)?;
-        let look = copied_four(
+        let copies = copied_four(alloc, &self.x, &self.x2, &self.xc, &self.width)?;
+        let copies = beside_four(alloc, copies, &self.y, &self.y2, &self.yc, &self.height)?;
+        let copies = beside_four(
             alloc,
+            copies,
             &self.fill,
             &self.stroke,
             &self.stroke_width,
             &self.opacity,
         )?;
-        let symbol = copied_four(alloc, &self.size, &self.shape, &self.text, &self.align)?;
-        let text_line = copied_four(alloc, &self.baseline, &self.dx, &self.dy, &self.font_size)?;
+        let copies = beside_four(
+            alloc,
+            copies,
+            &self.size,
+            &self.shape,
+            &self.text,
+            &self.align,
+        )?;
+        let ((((across, down), look), symbol), text_line) = beside_four(
+            alloc,
+            copies,
+            &self.baseline,
+            &self.dx,
+            &self.dy,
+            &self.font_size,
+        )?;
         let (x, x2, xc, width) = across;
         let (y, y2, yc, height) = down;
         let (fill, stroke, stroke_width, opacity) = look;
@@ -151,15 +251,14 @@ impl Copies for Channel {
 
 impl Copies for ChannelValue {
     fn copied(&self, alloc: Global) -> Result<ChannelValue, OutOfMemory> {
-        let signal = copied_expr(alloc, &self.signal)?;
-        let test = copied_expr(alloc, &self.test)?;
-        let (value, field, scale, format) = copied_four(
-            alloc,
-            &self.value,
-            &self.field,
-            &self.scale,
-            &self.format,
+        let copies = copied_four(alloc, &self.value, &self.field, &self.scale, &self.format)?;
+        let copies = beside_copy(copies, &self.signal, copied_expr(alloc, &self.signal))?;
+        let ((copies, signal), test) = beside_copy(
+            copies,
+            &self.test,
+            copied_expr(alloc, &self.test),
         )?;
+        let (value, field, scale, format) = copies;
         Ok(ChannelValue {
             value,
             field,

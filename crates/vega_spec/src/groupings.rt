@@ -7,7 +7,7 @@ use std::alloc::Global;
 use text_kit::{Copies, OutOfMemory, Seq, Text, copied_four, copied_six, copied_three};
 
 /// What is computed of each group of rows.
-#[derive(Debug, Drop)]
+#[derive(Debug)]
 pub struct Aggregate {
     /// The fields whose equal cells make a group.
     pub groupby: Option<Seq<Text>>,
@@ -19,8 +19,19 @@ pub struct Aggregate {
     pub as_: Option<Seq<Option<Text>>>,
 }
 
+impl Drop for Aggregate {
+    fn drop(self) {
+        let Aggregate {
+            groupby: _,
+            ops: _,
+            fields: _,
+            as_: _,
+        } = self;
+    }
+}
+
 /// What is computed of each row over its neighbours.
-#[derive(Debug, Drop)]
+#[derive(Debug)]
 pub struct Window {
     /// The codes of the operations among `case_table::OPERATIONS`.
     pub ops: Seq<u16>,
@@ -40,6 +51,21 @@ pub struct Window {
     pub ignore_peers: Option<bool>,
 }
 
+impl Drop for Window {
+    fn drop(self) {
+        let Window {
+            ops: _,
+            fields: _,
+            params: _,
+            as_: _,
+            groupby: _,
+            sort: _,
+            frame: _,
+            ignore_peers: _,
+        } = self;
+    }
+}
+
 /// The rows about a row, counted from it, negative before it.
 #[derive(Clone, Copy, Debug)]
 pub struct Frame {
@@ -50,7 +76,7 @@ pub struct Frame {
 }
 
 /// How cells of another data set are taken.
-#[derive(Debug, Drop)]
+#[derive(Debug)]
 pub struct Lookup {
     /// The other data set.
     pub from: Text,
@@ -64,6 +90,19 @@ pub struct Lookup {
     pub as_: Option<Seq<Text>>,
     /// What stands where no row has the key.
     pub default: Option<Cell>,
+}
+
+impl Drop for Lookup {
+    fn drop(self) {
+        let Lookup {
+            from: _,
+            key: _,
+            fields: _,
+            values: _,
+            as_: _,
+            default: _,
+        } = self;
+    }
 }
 
 impl Copies for Aggregate {

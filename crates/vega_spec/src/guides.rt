@@ -5,7 +5,7 @@ use std::alloc::Global;
 use text_kit::{Copies, OutOfMemory, Seq, Text, copied_four, copied_six};
 
 /// An axis.
-#[derive(Debug, Drop)]
+#[derive(Debug)]
 pub struct Axis {
     /// The name of the scale that is shown.
     pub scale: Text,
@@ -33,6 +33,25 @@ pub struct Axis {
     pub edge: Option<Edge>,
 }
 
+impl Drop for Axis {
+    fn drop(self) {
+        let Axis {
+            scale: _,
+            orient: _,
+            title: _,
+            labels: _,
+            ticks: _,
+            domain: _,
+            grid: _,
+            label_angle: _,
+            tick_count: _,
+            values: _,
+            format: _,
+            edge: _,
+        } = self;
+    }
+}
+
 /// A side of a plot.
 #[derive(Clone, Copy, Debug, PartialEq, Eq)]
 pub enum Side {
@@ -56,7 +75,7 @@ pub enum Edge {
 }
 
 /// A legend, by the scales that it shows.
-#[derive(Debug, Drop)]
+#[derive(Debug)]
 pub struct Legend {
     /// The scale of colours.
     pub fill: Option<Text>,
@@ -70,6 +89,19 @@ pub struct Legend {
     pub title: Option<Text>,
     /// How labels are written.
     pub format: Option<Text>,
+}
+
+impl Drop for Legend {
+    fn drop(self) {
+        let Legend {
+            fill: _,
+            opacity: _,
+            shape: _,
+            size: _,
+            title: _,
+            format: _,
+        } = self;
+    }
 }
 
 /// How groups stand in a grid.

@@ -33,7 +33,7 @@ pub enum MarkFrom {
 }
 
 /// How rows are parted into copies of a group.
-#[derive(Debug, Drop)]
+#[derive(Debug)]
 pub struct Facet {
     /// The names of the parts in a copy.
     pub name: Texts,
@@ -45,6 +45,18 @@ pub struct Facet {
     pub aggregate: Option<Cross>,
     /// The header of each field, if it has one.
     pub headers: Option<Seq<Option<Header>>>,
+}
+
+impl Drop for Facet {
+    fn drop(self) {
+        let Facet {
+            name: _,
+            data_: _,
+            groupby: _,
+            aggregate: _,
+            headers: _,
+        } = self;
+    }
 }
 
 /// Which parts a facet has.

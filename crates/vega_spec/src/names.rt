@@ -18,12 +18,18 @@ pub enum ParameterKind {
 }
 
 /// A parameter: a signal of the top.
-#[derive(Debug, Drop)]
+#[derive(Debug)]
 pub struct Parameter {
     /// Its name.
     pub name: Text,
     /// Its kind.
     pub kind: ParameterKind,
+}
+
+impl Drop for Parameter {
+    fn drop(self) {
+        let Parameter { name: _, kind: _ } = self;
+    }
 }
 
 // The kind of a signal.

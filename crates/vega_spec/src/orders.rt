@@ -30,12 +30,18 @@ pub enum Orders {
 }
 
 /// An order by fields.
-#[derive(Debug, Drop)]
+#[derive(Debug)]
 pub struct Sort {
     /// The fields, the first of which counts most.
     pub field: Texts,
     /// The direction of each.
     pub order: Option<Orders>,
+}
+
+impl Drop for Sort {
+    fn drop(self) {
+        let Sort { field: _, order: _ } = self;
+    }
 }
 
 impl Copies for Texts {

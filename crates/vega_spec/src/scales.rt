@@ -1,6 +1,6 @@
 // Scales.
 use crate::Domain;
-use crate::copying::copied_expr;
+use crate::copying::{beside_copy, copied_expr};
 use cell_value::Cell;
 use expr_syntax::Expr;
 use fixed_num::Num;
@@ -8,7 +8,7 @@ use std::alloc::Global;
 use text_kit::{Copies, OutOfMemory, Seq, Text, copied_three};
 
 /// A scale.
-#[derive(Debug, Drop)]
+#[derive(Debug)]
 pub struct Scale {
     /// The name.
     pub name: Text,
@@ -34,6 +34,28 @@ pub struct Scale {
     pub padding_outer: Option<Num>,
 }
 
+impl Drop for Scale {
+    fn drop(self) {
+        let Scale {
+            name,
+            type_: _,
+            domain,
+            domain_raw,
+            range,
+            zero: _,
+            nice: _,
+            reverse: _,
+            padding: _,
+            padding_inner: _,
+            padding_outer: _,
+        } = self;
+        drop(name);
+        drop(domain);
+        drop(domain_raw);
+        drop(range);
+    }
+}
+
 /// The range of a scale.
 #[derive(Debug, Drop)]
 pub enum Range {
@@ -53,8 +75,9 @@ pub enum Range {
 
 impl Copies for Scale {
     fn copied(&self, alloc: Global) -> Result<Scale, OutOfMemory> {
-        let domain_raw = copied_expr(alloc, &self.domain_raw)?;
-        let (name, domain, range) = copied_three(alloc, &self.name, &self.domain, &self.range)?;
+        let copies = copied_three(alloc, &self.name, &self.domain, &self.range)?;
+        let raw = copied_expr(alloc, &self.domain_raw);
+        let ((name, domain, range), domain_raw) = beside_copy(copies, &self.domain_raw, raw)?;
         Ok(Scale {
             name,
             type_: self.type_,

@@ -1,12 +1,12 @@
 // Signals.
-use crate::copying::copied_expr;
+use crate::copying::{beside_copy, copied_expr};
 use cell_value::Cell;
 use expr_syntax::Expr;
 use std::alloc::Global;
 use text_kit::{Copies, OutOfMemory, Seq, Text, copied_four};
 
 /// A signal.
-#[derive(Debug, Drop)]
+#[derive(Debug)]
 pub struct Signal {
     /// The name.
     pub name: Text,
@@ -20,13 +20,39 @@ pub struct Signal {
     pub marks: Option<Seq<Text>>,
 }
 
+impl Drop for Signal {
+    fn drop(self) {
+        let Signal {
+            name,
+            value,
+            update,
+            on,
+            marks,
+        } = self;
+        drop(name);
+        drop(value);
+        drop(update);
+        drop(on);
+        drop(marks);
+    }
+}
+
 /// An update on events.
-#[derive(Debug, Drop)]
+#[derive(Debug)]
 pub struct EventUpdate {
     /// The events.
     pub events: EventSelector,
     /// The update, as it is written.
     pub update: Text,
+}
+
+impl Drop for EventUpdate {
+    fn drop(self) {
+        let EventUpdate {
+            events: _,
+            update: _,
+        } = self;
+    }
 }
 
 /// The events that concern an update.
@@ -44,14 +70,9 @@ pub enum EventSelector {
 
 impl Copies for Signal {
     fn copied(&self, alloc: Global) -> Result<Signal, OutOfMemory> {
-        let update = copied_expr(alloc, &self.update)?;
-        let (name, value, on, marks) = copied_four(
-            alloc,
-            &self.name,
-            &self.value,
-            &self.on,
-            &self.marks,
-        )?;
+        let copies = copied_four(alloc, &self.name, &self.value, &self.on, &self.marks)?;
+        let update = copied_expr(alloc, &self.update);
+        let ((name, value, on, marks), update) = beside_copy(copies, &self.update, update)?;
         Ok(Signal {
             name,
             value,

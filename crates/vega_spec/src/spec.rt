@@ -1,6 +1,7 @@
 // Marks, groups and whole specifications.
 ghost use Rattle.std.specs.Prelude.{◌≡◌, IfOk};
 
+use crate::copying::{beside_copy, push_copy};
 use crate::{Axis, DataSet, Encode, Layout, Legend, MarkFrom, MarkType, Scale, Signal, Sort};
 use expr_syntax::Expr;
 use fixed_num::Num;
@@ -48,7 +49,7 @@ pub struct Group {
 }
 
 /// A Vega specification.
-#[derive(Debug, Drop)]
+#[derive(Debug)]
 pub struct VgSpec {
     /// What it has in common with a group.
     pub group: Group,
@@ -64,6 +65,20 @@ pub struct VgSpec {
     pub padding: Option<Num>,
     /// How the picture's size is found.
     pub autosize: Option<Autosize>,
+}
+
+impl Drop for VgSpec {
+    fn drop(self) {
+        let VgSpec {
+            group: _,
+            schema: _,
+            description: _,
+            width: _,
+            height: _,
+            padding: _,
+            autosize: _,
+        } = self;
+    }
 }
 
 /// A width or a height.
@@ -88,14 +103,9 @@ impl VgMark {
     pub fn copy(&self, alloc: Global) -> Result<VgMark, OutOfMemory>
         ensures { IfOk result (λ copy. copy ≡ self.now) }
     {
-        let group = self.group.copy(alloc)?;
-        let (name, from, encode, sort) = copied_four(
-            alloc,
-            &self.name,
-            &self.from,
-            &self.encode,
-            &self.sort,
-        )?;
+        let copies = copied_four(alloc, &self.name, &self.from, &self.encode, &self.sort)?;
+        let (copies, group) = beside_copy(copies, &self.group, self.group.copy(alloc))?;
+        let (name, from, encode, sort) = copies;
         Ok(VgMark {
             type_: self.type_,
             name,
@@ -113,8 +123,7 @@ impl Group {
     pub fn copy(&self, alloc: Global) -> Result<Group, OutOfMemory>
         ensures { IfOk result (λ copy. copy ≡ self.now) }
     {
-        let marks = copied_marks(alloc, &self.marks)?;
-        let (data_, signals, scales, axes, legends, title) = copied_six(
+        let copies = copied_six(
             alloc,
             &self.data_,
             &self.signals,
@@ -123,6 +132,8 @@ impl Group {
             &self.legends,
             &self.title,
         )?;
+        let (copies, marks) = beside_copy(copies, &self.marks, copied_marks(alloc, &self.marks))?;
+        let (data_, signals, scales, axes, legends, title) = copies;
         Ok(Group {
             data_,
             signals,
@@ -149,7 +160,7 @@ fn copied_marks(
     };
     let mut out = Seq::new(alloc);
     for mark in marks.as_slice() {
-        out.push(mark.copy(alloc)?)?;
+        push_copy(&mut out, mark, mark.copy(alloc))?;
     }
     Ok(Some(out))
 }
@@ -159,14 +170,15 @@ impl VgSpec {
     pub fn copy(&self, alloc: Global) -> Result<VgSpec, OutOfMemory>
         ensures { IfOk result (λ copy. copy ≡ self.now) }
     {
-        let group = self.group.copy(alloc)?;
-        let (schema, description, width, height) = copied_four(
+        let copies = copied_four(
             alloc,
             &self.schema,
             &self.description,
             &self.width,
             &self.height,
         )?;
+        let (copies, group) = beside_copy(copies, &self.group, self.group.copy(alloc))?;
+        let (schema, description, width, height) = copies;
         Ok(VgSpec {
             schema,
             description,

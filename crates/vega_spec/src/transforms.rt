@@ -33,14 +33,21 @@ pub enum Transform {
 }
 
 /// Which rows are kept.
-#[derive(Debug, Drop)]
+#[derive(Debug)]
 pub struct Filter {
     /// The test that they pass.
     pub expr: Expr,
 }
 
+impl Drop for Filter {
+    fn drop(self) {
+        let Filter { expr } = self;
+        drop(expr);
+    }
+}
+
 /// A cell computed of each row.
-#[derive(Debug, Drop)]
+#[derive(Debug)]
 pub struct Formula {
     /// What is computed.
     pub expr: Expr,
@@ -48,8 +55,16 @@ pub struct Formula {
     pub as_: Text,
 }
 
+impl Drop for Formula {
+    fn drop(self) {
+        let Formula { expr, as_ } = self;
+        drop(expr);
+        drop(as_);
+    }
+}
+
 /// The least and the greatest number of a field, as a signal.
-#[derive(Debug, Drop)]
+#[derive(Debug)]
 pub struct Extent {
     /// The field.
     pub field: Text,
@@ -57,8 +72,17 @@ pub struct Extent {
     pub signal: Text,
 }
 
+impl Drop for Extent {
+    fn drop(self) {
+        let Extent {
+            field: _,
+            signal: _,
+        } = self;
+    }
+}
+
 /// How the numbers of a field are put into bins.
-#[derive(Debug, Drop)]
+#[derive(Debug)]
 pub struct Bin {
     /// The field.
     pub field: Text,
@@ -72,6 +96,18 @@ pub struct Bin {
     pub as_: Option<(Text, Text)>,
 }
 
+impl Drop for Bin {
+    fn drop(self) {
+        let Bin {
+            field: _,
+            extent: _,
+            maxbins: _,
+            step: _,
+            as_: _,
+        } = self;
+    }
+}
+
 /// What bins take in.
 #[derive(Debug, Drop)]
 pub enum BinExtent {
@@ -82,7 +118,7 @@ pub enum BinExtent {
 }
 
 /// How the instants of a field are put into units of time.
-#[derive(Debug, Drop)]
+#[derive(Debug)]
 pub struct TimeUnit {
     /// The field.
     pub field: Text,
@@ -92,8 +128,18 @@ pub struct TimeUnit {
     pub as_: Option<(Text, Text)>,
 }
 
+impl Drop for TimeUnit {
+    fn drop(self) {
+        let TimeUnit {
+            field: _,
+            units: _,
+            as_: _,
+        } = self;
+    }
+}
+
 /// How the numbers of a field are stacked.
-#[derive(Debug, Drop)]
+#[derive(Debug)]
 pub struct Stack {
     /// The fields whose equal cells make a stack.
     pub groupby: Option<Seq<Text>>,
@@ -105,6 +151,18 @@ pub struct Stack {
     pub offset: Option<Offset>,
     /// The names of where a number begins and ends.
     pub as_: Option<(Text, Text)>,
+}
+
+impl Drop for Stack {
+    fn drop(self) {
+        let Stack {
+            groupby: _,
+            field: _,
+            sort: _,
+            offset: _,
+            as_: _,
+        } = self;
+    }
 }
 
 /// Where a stack begins.
@@ -119,12 +177,18 @@ pub enum Offset {
 }
 
 /// How one row is made for each of several fields.
-#[derive(Debug, Drop)]
+#[derive(Debug)]
 pub struct Fold {
     /// The fields.
     pub fields: Seq<Text>,
     /// The names of the field's name and of its cell.
     pub as_: Option<(Text, Text)>,
+}
+
+impl Drop for Fold {
+    fn drop(self) {
+        let Fold { fields: _, as_: _ } = self;
+    }
 }
 
 impl Copies for Transform {
