@@ -11,8 +11,12 @@ use Rattle.json_exact.specs.declared.json.Json.TheVariants as json
 use Rattle.json_exact.specs.declared.json.Json.TheVariants.{rolls-Object, rolls-List}
 use Rattle.json_exact.specs.declared.json.Json.TheOpen as level
 use Rattle.json_exact.specs.declared.json.Member.{Member}
-use Rattle.json_exact.specs.Inside.{members_in}
+use Rattle.json_exact.specs.declared.json.Json.{Null, Flag, Number, Huge, Text, List', Object'}
+use Rattle.json_exact.specs.declared.json.Json.{items_shown-the_row-Json-0, items_shown-the_row-Member-1}
+use Rattle.json_exact.specs.declared.json.Json.TheVariants.{outs-Null, outs-Flag, outs-Number, outs-Huge, outs-Text, outs-List', outs-Object'}
+use Rattle.json_exact.specs.Inside.{members_in, items_in}
 use Rattle.tree_readers.specs.Parts.{Opened, members_of}
+use Rattle.vl_building.specs.Gather.{items_of}
 use Rattle.vl_building.specs.Inside.{Giving, no_members, given_by, given_by_items, given_by_member, member_gives}
 
 -- an object and a list, opened
@@ -59,3 +63,22 @@ each gives members asked = members-are gives _ (hidden-the_row-Member-1 members)
 pub at_object : {A : Type 0} (gives : Giving A) (members : List Member) →
     given_by gives (json.Object members) ≡ gives (json.Object members) (member_gives (given_by gives) members) []
 at_object gives members = ap (λ inside. gives (json.Object members) inside []) (λ i asked. each gives members asked i)
+
+-- a value by the members and the items in it, none where it is no object or no list
+at_level : {A : Type 0} → Giving A → Json → Opened → A
+at_level gives tree t = gives tree (member_gives (given_by gives) (unwrap_or (members_in t) [])) (map (given_by gives) (unwrap_or (items_in t) []))
+
+pub by_parts : {A : Type 0} (gives : Giving A) (tree : Json) →
+    gives tree (member_gives (given_by gives) (members_of tree)) (map (given_by gives) (items_of tree)) ≡ given_by gives tree
+unfolding at_level
+by_parts gives Null = ap (at_level gives Null) outs-Null
+by_parts gives (Flag b) = ap (at_level gives (Flag b)) (outs-Flag b)
+by_parts gives (Number n) = ap (at_level gives (Number n)) (outs-Number n)
+by_parts gives Huge = ap (at_level gives Huge) outs-Huge
+by_parts gives (Text t) = ap (at_level gives (Text t)) (outs-Text t)
+by_parts gives (List' n row) = ap (at_level gives (List' n row)) (outs-List' n row)
+    ∙ ap (λ xs. gives (List' n row) no_members (map (given_by gives) xs)) (items_shown-the_row-Json-0 n row)
+    ∙ ap (gives (List' n row) no_members) (sym (items-are gives _ row))
+by_parts gives (Object' n row) = ap (at_level gives (Object' n row)) (outs-Object' n row)
+    ∙ ap (λ ms. gives (Object' n row) (member_gives (given_by gives) ms) []) (items_shown-the_row-Member-1 n row)
+    ∙ ap (λ inside. gives (Object' n row) inside []) (λ i asked. sym (members-are gives _ row asked) i)

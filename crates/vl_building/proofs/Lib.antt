@@ -1,6 +1,7 @@
 pub mod Lookups
 pub mod KeyedLemmas
 pub mod Inside
+pub mod MadeLemmas
 pub mod FilterLemmas
 pub mod ChannelLemmas
 pub mod ViewLemmas

@@ -1,6 +1,6 @@
 -- The specification by what is kept of it.
-use Rattle.std.proofs.Common.{◌≡◌, ℕ, ℤ, List, ap, ◌∙◌}
-use Rattle.std.specs.Prelude.{Option, codes}
+use Rattle.std.proofs.Common.{◌≡◌, ℕ, ℤ, List, ap, subst, ◌∙◌}
+use Rattle.std.specs.Prelude.{Option, Result, Ok, IfOk, codes}
 use Rattle.json_exact.specs.declared.json.Json.{Json}
 use Rattle.json_exact.specs.declared.json.Member.{Member}
 use Rattle.vl_spec.specs.declared.params.ParamOf.{ParamOf}
@@ -21,6 +21,10 @@ use Rattle.vl_building.specs.Gather.{data_of, params_of}
 use Rattle.vl_building.specs.Spec.{schema_of, config_of, sources_among, bare_params, top_view, naming_of, spec_with, spec_among, spec_of}
 use Rattle.vl_building.specs.inner.Named.{shown}
 use Rattle.vl_building.specs.inner.Kept.{spec_by}
+
+-- what a value is that is there
+pub known : {A E : Type 0} (made : Result A E) (x y : A) → made ≡ Ok x → IfOk made (λ v. v ≡ y) → x ≡ y
+known made x y is all = subst (λ r. IfOk r (λ v. v ≡ y)) is all
 
 pub spec_is : (tree : Json) (named : Named) (params slice : List ParamAt) → slice ≡ params → params ≡ params_of tree →
     named.all ≡ named_from 0 (data_of tree) → shown named ≡ naming_of (named_from 0 (data_of tree)) slice →

@@ -5,7 +5,7 @@ ghost use Rattle.vl_building.specs.Values.{needed_names};
 
 use crate::parts;
 use crate::parts::{Items, Object, Reads, Value, each};
-use crate::several::Part;
+use crate::several::{Part, both};
 use cell_value::Cell;
 use json_exact::{Json, Member};
 use std::alloc::Global;
@@ -33,9 +33,9 @@ impl Value for Cell {
 
     fn of_value(alloc: Global, tree: &Json) -> Result<Option<Cell>, OutOfMemory> {
         match tree {
-            Json::Null | Json::Flag(_) | Json::Number(_) | Json::Text(_) => Ok(Some(Items::read(
+            Json::Null | Json::Flag(_) | Json::Number(_) | Json::Text(_) => Items::read(
                 alloc, tree,
-            )?)),
+            ).map(Some),
             Json::Huge | Json::List(_) | Json::Object(_) => Ok(None),
         }
     }
@@ -112,8 +112,8 @@ fn both_names(alloc: Global, items: &[Json]) -> Result<Option<Names>, OutOfMemor
 {
     match items {
         [a, b] => {
-            let first = text_of(alloc, a)?;
-            Ok(Some(Names::Two(first, text_of(alloc, b)?)))
+            let (first, second) = both(text_of(alloc, a), text_of(alloc, b))?;
+            Ok(Some(Names::Two(first, second)))
         }
         _ => Ok(None),
     }

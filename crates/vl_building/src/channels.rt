@@ -1,5 +1,5 @@
 // Channels, and their conditions.
-ghost use Rattle.std.specs.Prelude.{◌≡◌, ◌++◌, [], None, map, codes, IfOk, OnOk};
+ghost use Rattle.std.specs.Prelude.{◌≡◌, map, codes, IfOk};
 ghost use Rattle.json_exact.specs.declared.json.Json.{out-Json};
 ghost use Rattle.vl_building.specs.Inside.{member_gives};
 ghost use Rattle.vl_building.specs.Channels.{test_of, channel_with, condition_showing, as_condition, condition_with, condition_of, conditions_of};
@@ -7,10 +7,10 @@ ghost use Rattle.vl_building.specs.Channels.{conditions_at, channel_of, shown_in
 
 use crate::filters::{needed_filter, param_test_of};
 use crate::parts::{Object, Objects, Picks, each, picked};
-use crate::several::both;
+use crate::several::{both, boxed, push_made};
 use json_exact::{Json, Member};
 use std::alloc::Global;
-use text_kit::{Boxed, OutOfMemory, Seq};
+use text_kit::{OutOfMemory, Seq};
 use tree_readers::has_member;
 use vl_spec::{Channel, ChannelKind, ChannelOf, Condition, Conditions, Definition, Encoding, Test};
 
@@ -65,7 +65,7 @@ fn condition_of(alloc: Global, tree: &Json) -> Result<Condition, OutOfMemory>
     match tree {
         Json::Object(members) => object_condition(alloc, members.as_slice()),
         Json::Null | Json::Flag(_) | Json::Number(_) | Json::Huge | Json::Text(_) | Json::List(_) =>
-            no_condition(alloc),
+            object_condition(alloc, &[]),
     }
 }
 
@@ -86,31 +86,27 @@ fn conditions_of(alloc: Global, tree: &Json) -> Result<Option<Conditions>, OutOf
 {
     match tree {
         Json::Object(members) => {
-            let condition = object_condition(alloc, members.as_slice())?;
-            Ok(Some(Conditions::One(Boxed::new(alloc, condition)?)))
+            let condition = boxed(alloc, object_condition(alloc, members.as_slice()))?;
+            Ok(Some(Conditions::One(condition)))
         }
         Json::List(items) => {
-            let mut out = Seq::new(alloc);
-            push_conditions(alloc, items.as_slice(), &mut out)?;
-            Ok(Some(Conditions::Several(out)))
+            let conditions = conditions_in(alloc, items.as_slice())?;
+            Ok(Some(Conditions::Several(conditions)))
         }
         Json::Null | Json::Flag(_) | Json::Number(_) | Json::Huge | Json::Text(_) => Ok(None),
     }
 }
 
-// Adds the conditions that items are.
+// The conditions that items are.
 #[cycle(conditions)]
-fn push_conditions(
-    alloc: Global,
-    items: &[Json],
-    out: &mut Seq<Condition>,
-) -> Result<(), OutOfMemory>
-    ensures { OnOk result (out.new ≡ out.old ++ map condition_of items.now) }
+fn conditions_in(alloc: Global, items: &[Json]) -> Result<Seq<Condition>, OutOfMemory>
+    ensures { IfOk result (λ conditions. conditions ≡ map condition_of items.now) }
 {
+    let mut out = Seq::new(alloc);
     for tree in items {
-        out.push(condition_of(alloc, tree)?)?;
+        push_made(&mut out, condition_of(alloc, tree))?;
     }
-    Ok(())
+    Ok(out)
 }
 
 // The conditions under the first member of that name.
@@ -124,14 +120,6 @@ fn conditions_at(alloc: Global, members: &[Member]) -> Result<Option<Conditions>
         }
     }
     Ok(None)
-}
-
-// A condition without members.
-fn no_condition(alloc: Global) -> Result<Condition, OutOfMemory>
-    ensures { IfOk result (λ condition. condition ≡ condition_showing [] (channel_with [] None)) }
-{
-    let shows = channel_with(alloc, &[], None)?;
-    condition_showing(alloc, &[], shows)
 }
 
 impl Object for Channel {

@@ -27,12 +27,28 @@ pub struct DataAt {
 }
 
 /// A parameter where it stands.
-#[derive(Drop)]
 pub struct ParamAt {
     /// Its place.
     pub place: Seq<usize>,
     /// The parameter.
     pub param: ParamOf,
+}
+
+impl ParamAt {
+    /// The parameter without its place.
+    pub fn into_param(self) -> ParamOf
+        ensures { result ≡ self.param }
+    {
+        let ParamAt { place: _, param } = self;
+        param
+    }
+}
+
+impl Drop for ParamAt {
+    fn drop(self) {
+        let ParamAt { place: _, param } = self;
+        drop(param);
+    }
 }
 
 impl Drop for DataAt {
@@ -81,7 +97,7 @@ fn value_at(alloc: Global, members: &[Member], name: &str) -> Result<Option<Json
     ensures { IfOk result (λ tree. tree ≡ member_value members.now name.now) }
 {
     match tree_readers::member_value(members, name) {
-        Some(tree) => Ok(Some(tree.copy(alloc)?)),
+        Some(tree) => tree.copy(alloc).map(Some),
         None => Ok(None),
     }
 }

@@ -14,7 +14,7 @@ pub fn field_at(alloc: Global, members: &[Member], name: &str) -> Result<Option<
     ensures { IfOk result (λ field. field ≡ field_at members.now name.now) }
 {
     match word_at(members, name) {
-        Some(text) => Ok(Some(field_name(alloc, text.as_str())?)),
+        Some(text) => field_name(alloc, text.as_str()).map(Some),
         None => Ok(None),
     }
 }

@@ -1,5 +1,5 @@
 // Filters.
-ghost use Rattle.std.specs.Prelude.{◌≡◌, ◌++◌, map, IfOk, OnOk};
+ghost use Rattle.std.specs.Prelude.{◌≡◌, map, IfOk};
 ghost use Rattle.std.specs.Option.{option_and_then};
 ghost use Rattle.json_exact.specs.Inside.{items_in};
 ghost use Rattle.tree_readers.specs.Parts.{found_at};
@@ -12,7 +12,7 @@ ghost use Rattle.vl_building.specs.Filters.{filters_given, object_filter, filter
 use crate::cells::needed_scalar;
 use crate::fields::needed_field;
 use crate::parts::{Items, expression_or_null, needed_each};
-use crate::several::both;
+use crate::several::{both, push_made};
 use crate::tables::time_unit_at;
 use cell_value::Cell;
 use expr_syntax::Expr;
@@ -160,11 +160,7 @@ fn filters_of(alloc: Global, tree: &Json) -> Result<Seq<Filter>, OutOfMemory>
     ensures { IfOk result (λ filters. filters ≡ filters_of tree.now) }
 {
     match tree {
-        Json::List(items) => {
-            let mut filters = Seq::new(alloc);
-            push_filters(alloc, items.as_slice(), &mut filters)?;
-            Ok(filters)
-        }
+        Json::List(items) => filters_in(alloc, items.as_slice()),
         Json::Null
         | Json::Flag(_)
         | Json::Number(_)
@@ -174,15 +170,16 @@ fn filters_of(alloc: Global, tree: &Json) -> Result<Seq<Filter>, OutOfMemory>
     }
 }
 
-// Adds the filters that items are.
+// The filters that items are.
 #[cycle(filters)]
-fn push_filters(alloc: Global, items: &[Json], out: &mut Seq<Filter>) -> Result<(), OutOfMemory>
-    ensures { OnOk result (out.new ≡ out.old ++ map filter_of items.now) }
+fn filters_in(alloc: Global, items: &[Json]) -> Result<Seq<Filter>, OutOfMemory>
+    ensures { IfOk result (λ filters. filters ≡ map filter_of items.now) }
 {
+    let mut filters = Seq::new(alloc);
     for tree in items {
-        out.push(filter_of(alloc, tree)?)?;
+        push_made(&mut filters, filter_of(alloc, tree))?;
     }
-    Ok(())
+    Ok(filters)
 }
 
 // The filters that the items of the list under a name are.

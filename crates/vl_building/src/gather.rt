@@ -5,7 +5,7 @@ ghost use Rattle.vl_building.specs.Gather.{place_of, param_at, params_in, data_s
 use crate::data::{DataAt, ParamAt, data_at};
 use crate::marks::param_of;
 use crate::places::child;
-use crate::several::both;
+use crate::several::{both, push_made};
 use json_exact::Json;
 use spec_walk::{Visitor, walk};
 use std::alloc::Global;
@@ -62,8 +62,8 @@ fn place_of(alloc: Global, trail: &[Around]) -> Result<Seq<usize>, OutOfMemory>
     }
 }
 
-// The items of a value, none where it is no list.
-fn items_of(tree: &Json) -> &[Json]
+/// The items of a value, none where it is no list.
+pub fn items_of(tree: &Json) -> &[Json]
     ensures { result.now ≡ items_of tree.now }
 {
     match tree {
@@ -103,7 +103,7 @@ fn push_list(
     ensures { OnOk result (out.new ≡ out.old ++ params_in place.now items.now) }
 {
     for (number, tree) in items.iter().enumerate() {
-        out.push(param_at(alloc, place, number, tree)?)?;
+        push_made(out, param_at(alloc, place, number, tree))?;
     }
     Ok(())
 }
@@ -120,7 +120,7 @@ impl Found for DataAt {
         match trail {
             [.., here] if here.shape == DATA => {
                 let place = place_of(alloc, trail)?;
-                out.push(data_at(alloc, place, members_of(tree))?)
+                push_made(out, data_at(alloc, place, members_of(tree)))
             }
             _ => Ok(()),
         }

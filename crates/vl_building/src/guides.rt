@@ -128,7 +128,7 @@ fn range_at(alloc: Global, members: &[Member], name: &str) -> Result<Option<Seq<
             if items.len() == 0 {
                 Ok(None)
             } else {
-                Ok(Some(each::<Json, Cell, Ranged>(alloc, items.as_slice())?))
+                each::<Json, Cell, Ranged>(alloc, items.as_slice()).map(Some)
             }
         }
         None => Ok(None),

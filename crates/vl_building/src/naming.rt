@@ -15,7 +15,6 @@ use std::alloc::Global;
 use text_kit::{Copies, OutOfMemory, Seq, Text};
 
 /// Data with the name of its source.
-#[derive(Drop)]
 pub struct NamedData {
     /// The name of its source, if it says one.
     pub source: Option<Text>,
@@ -24,7 +23,6 @@ pub struct NamedData {
 }
 
 /// What goes by places.
-#[derive(Drop)]
 pub struct Named {
     /// The data.
     pub all: Seq<NamedData>,
@@ -32,6 +30,23 @@ pub struct Named {
     pub data_: Keyed,
     /// The numbers of parameters by their places.
     pub params: Keyed,
+}
+
+impl Drop for NamedData {
+    fn drop(self) {
+        let NamedData { source: _, data_ } = self;
+        drop(data_);
+    }
+}
+
+impl Drop for Named {
+    fn drop(self) {
+        let Named {
+            all: _,
+            data_: _,
+            params: _,
+        } = self;
+    }
 }
 
 /// The name of the source of the data at a place.

@@ -7,6 +7,7 @@ ghost use Rattle.tree_readers.specs.Parts.{found_at, list_at, object_at, text_of
 ghost use Rattle.expr_syntax.specs.declared.expr.Expr.TheVariants as expr;
 ghost use Rattle.vl_building.specs.Expressions.{expression_in, needed_expression};
 
+use crate::several::push_made;
 use expr_reading::expression_of;
 use expr_syntax::{Expr, has_domain_length};
 use json_exact::{Json, Member};
@@ -100,7 +101,7 @@ pub fn each<X, T: Drop, R: Reads<X, T>>(alloc: Global, values: &[X]) -> Result<S
 {
     let mut list = Seq::new(alloc);
     for value in values {
-        list.push(R::read(alloc, value)?)?;
+        push_made(&mut list, R::read(alloc, value))?;
     }
     Ok(list)
 }

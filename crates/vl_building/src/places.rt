@@ -7,6 +7,7 @@ ghost use Rattle.vl_building.specs.inner.Named.{shown};
 
 use crate::keyed::number_at;
 use crate::naming::{Named, source_at};
+use crate::several::push_made;
 use crate::transforms::transform_of;
 use json_exact::{Json, Member};
 use std::alloc::Global;
@@ -133,7 +134,10 @@ impl Lists<Transform> for Transforms {
     ) -> Result<Seq<Transform>, OutOfMemory> {
         let mut transforms = Seq::new(alloc);
         for (number, tree) in items.iter().enumerate() {
-            transforms.push(transform_at(alloc, named, place, number, tree)?)?;
+            push_made(
+                &mut transforms,
+                transform_at(alloc, named, place, number, tree),
+            )?;
         }
         Ok(transforms)
     }

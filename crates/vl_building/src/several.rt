@@ -1,5 +1,5 @@
 // What stands under several names at once.
-ghost use Rattle.std.specs.Prelude.{◌≡◌, Ok, IfOk};
+ghost use Rattle.std.specs.Prelude.{◌≡◌, ◌++◌, [], ◌∷◌, Ok, IfOk, OnOk};
 ghost use Rattle.tree_readers.specs.Parts.{object_at, text_at};
 ghost use Rattle.vl_building.specs.Values.{scalars_at};
 
@@ -8,7 +8,7 @@ use crate::parts::{Items, Object};
 use cell_value::Cell;
 use json_exact::Member;
 use std::alloc::Global;
-use text_kit::{OutOfMemory, Seq, Text};
+use text_kit::{Boxed, OutOfMemory, Seq, Text};
 
 /// What is read under a name.
 pub trait Part: Sized {
@@ -51,7 +51,7 @@ impl<T: Object> Part for Option<T> {
 }
 
 /// What stands under two names.
-pub fn two_parts<A: Part + Drop, B: Part>(
+pub fn two_parts<A: Part + Drop, B: Part + Drop>(
     alloc: Global,
     members: &[Member],
     a: &str,
@@ -59,12 +59,11 @@ pub fn two_parts<A: Part + Drop, B: Part>(
 ) -> Result<(A, B), OutOfMemory>
     ensures { IfOk result (λ parts. parts ≡ (A.part members.now a.now, B.part members.now b.now)) }
 {
-    let a = A::part_at(alloc, members, a)?;
-    Ok((a, B::part_at(alloc, members, b)?))
+    both(A::part_at(alloc, members, a), B::part_at(alloc, members, b))
 }
 
 /// What stands under three names.
-pub fn three_parts<A: Part + Drop, B: Part + Drop, C: Part>(
+pub fn three_parts<A: Part + Drop, B: Part + Drop, C: Part + Drop>(
     alloc: Global,
     members: &[Member],
     a: &str,
@@ -73,8 +72,11 @@ pub fn three_parts<A: Part + Drop, B: Part + Drop, C: Part>(
 ) -> Result<(A, B, C), OutOfMemory>
     ensures { IfOk result (λ parts. parts ≡ (A.part members.now a.now, B.part members.now b.now, C.part members.now c.now)) }
 {
-    let (a, b) = two_parts(alloc, members, a, b)?;
-    Ok((a, b, C::part_at(alloc, members, c)?))
+    all_three(
+        A::part_at(alloc, members, a),
+        B::part_at(alloc, members, b),
+        C::part_at(alloc, members, c),
+    )
 }
 
 /// Two values, where both are there.
@@ -101,8 +103,8 @@ pub fn all_three<A: Drop, B: Drop, C: Drop>(
     ensures second { IfOk result (λ all. b ≡ Ok all.1) }
     ensures third { IfOk result (λ all. c ≡ Ok all.2) }
 {
-    let (a, b) = both(a, b)?;
-    Ok((a, b, c?))
+    let ((a, b), c) = both(both(a, b), c)?;
+    Ok((a, b, c))
 }
 
 /// Five values, where all are there.
@@ -120,8 +122,7 @@ pub fn all_five<A: Drop, B: Drop, C: Drop, D: Drop, E: Drop>(
     ensures fourth { IfOk result (λ all. d ≡ Ok all.3) }
     ensures fifth { IfOk result (λ all. e ≡ Ok all.4) }
 {
-    let (a, b) = both(a, b)?;
-    let (c, d, e) = all_three(c, d, e)?;
+    let ((a, b), (c, d, e)) = both(both(a, b), all_three(c, d, e))?;
     Ok((a, b, c, d, e))
 }
 
@@ -138,7 +139,23 @@ pub fn all_four<A: Drop, B: Drop, C: Drop, D: Drop>(
     ensures third { IfOk result (λ all. c ≡ Ok all.2) }
     ensures fourth { IfOk result (λ all. d ≡ Ok all.3) }
 {
-    let (a, b) = both(a, b)?;
-    let (c, d) = both(c, d)?;
+    let ((a, b), (c, d)) = both(both(a, b), both(c, d))?;
     Ok((a, b, c, d))
+}
+
+/// Adds a value, where it is there.
+pub fn push_made<T: Drop>(
+    out: &mut Seq<T>,
+    value: Result<T, OutOfMemory>,
+) -> Result<(), OutOfMemory>
+    ensures { (x : T) → IfOk value (λ v. v ≡ x) → OnOk result (out.new ≡ out.old ++ x ∷ []) }
+{
+    out.push(value?)
+}
+
+/// A value in a box, where it is there.
+pub fn boxed<T: Drop>(alloc: Global, value: Result<T, OutOfMemory>) -> Result<Boxed<T>, OutOfMemory>
+    ensures { (x : T) → IfOk value (λ v. v ≡ x) → IfOk result (λ held. held ≡ x) }
+{
+    Boxed::new(alloc, value?)
 }

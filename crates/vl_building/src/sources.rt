@@ -10,7 +10,7 @@ use crate::data::DataAt;
 use crate::index::{DatasetNames, GiverNames, SourceNames, indexed, name_numbers};
 use crate::keyed::{Keyed, number_at};
 use crate::naming::NamedData;
-use crate::several::{all_three, both};
+use crate::several::{all_three, both, push_made};
 use json_exact::{Json, Member};
 use std::alloc::Global;
 use text_kit::{Copies, OutOfMemory, Seq, Text, copied_three, copied_two};
@@ -130,7 +130,6 @@ fn of_data(alloc: Global, name: &Text, at: &DataAt) -> Result<SourceOf, OutOfMem
 }
 
 /// What finds datasets and data by the names of sources.
-#[derive(Drop)]
 pub struct Finders {
     /// Datasets.
     pub datasets: Keyed,
@@ -138,6 +137,16 @@ pub struct Finders {
     pub names: Keyed,
     /// Data that gives rows.
     pub givers: Keyed,
+}
+
+impl Drop for Finders {
+    fn drop(self) {
+        let Finders {
+            datasets: _,
+            names: _,
+            givers: _,
+        } = self;
+    }
 }
 
 // The finders of some datasets and data.
@@ -217,7 +226,10 @@ fn push_source(
     let key = name_numbers(alloc, name.as_str())?;
     match number_at(&finders.names, key.as_slice()) {
         Some(first) if first == number => {
-            out.push(source_for(alloc, datasets, all, finders, &named.data_, name)?)
+            push_made(
+                out,
+                source_for(alloc, datasets, all, finders, &named.data_, name),
+            )
         }
         _ => Ok(()),
     }

@@ -8,6 +8,7 @@ use crate::gather::gathered;
 use crate::names::named_at;
 use crate::naming::{Named, naming_in};
 use crate::numbers::number_between;
+use crate::several::all_five;
 use crate::sizes::config_at;
 use crate::sources::sources_of;
 use crate::views::view_of;
@@ -23,8 +24,7 @@ fn bare_params(alloc: Global, params: Seq<ParamAt>) -> Result<Seq<ParamOf>, OutO
 {
     let mut out = Seq::new(alloc);
     for at in params.into_vec() {
-        let ParamAt { place: _, param } = at;
-        out.push(param)?;
+        out.push(at.into_param())?;
     }
     Ok(out)
 }
@@ -39,18 +39,25 @@ fn spec_by(
     ensures { IfOk result (λ s. s ≡ spec_by tree.now named.now params) }
 {
     let members = members_of(tree);
-    Ok(VlSpec {
-        params: bare_params(alloc, params)?,
-        schema: text_at(members, "$schema")?,
-        sources: sources_of(
+    let (params, schema, sources, config, view) = all_five(
+        bare_params(alloc, params),
+        text_at(members, "$schema"),
+        sources_of(
             alloc,
             needed_members(members, "datasets"),
             named.all.as_slice(),
-        )?,
-        config: config_at(alloc, members, "config")?,
-        view: view_of(alloc, named, tree, &[])?,
+        ),
+        config_at(alloc, members, "config"),
+        view_of(alloc, named, members, &[]),
+    )?;
+    Ok(VlSpec {
+        schema,
         padding: number_between(members, "padding", 0, MOST_SPACE),
         autosize: named_at(members, "autosize"),
+        config,
+        sources,
+        params,
+        view,
     })
 }
 

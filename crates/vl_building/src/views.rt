@@ -1,24 +1,26 @@
 // Views.
-ghost use Rattle.std.specs.Prelude.{◌≡◌, ◌++◌, map, codes, IfOk, OnOk};
+ghost use Rattle.std.specs.Prelude.{◌≡◌, map, codes, IfOk};
 ghost use Rattle.vl_spec.specs.declared.views.Facet.TheVariants as facet;
 ghost use Rattle.vl_spec.specs.declared.views.ViewKind.TheVariants as view_kind;
 ghost use Rattle.vl_building.specs.Channels.{channel_of};
-ghost use Rattle.vl_building.specs.Views.{child, other_word, view_word, cross_of, facet_of, unit_of, view_with, joined_with, as_view};
-ghost use Rattle.vl_building.specs.Views.{views_given, view_given, kind_by, views_in, view_of, views_of, no_view};
+ghost use Rattle.vl_spec.specs.declared.views.ViewKind.{ViewKind};
+ghost use Rattle.vl_building.specs.Views.{other_word, view_word, cross_of, facet_of, unit_of, view_with, joined_with, as_view};
+ghost use Rattle.vl_building.specs.Views.{views_given, view_given, kind_by, views_in};
 ghost use Rattle.vl_building.specs.inner.Named.{shown};
-ghost use Rattle.vl_building.specs.inner.Heads.{views_inside};
+ghost use Rattle.vl_building.specs.inner.Heads.{views_inside, view_in};
 
+use crate::gather::items_of;
 use crate::naming::Named;
 use crate::numbers::{count_between, number_between};
 use crate::parts::{Object, plain_at};
 use crate::places::{ParamNumbers, Transforms, listed_at};
-use crate::several::{all_five, both, three_parts, two_parts};
+use crate::several::{all_five, both, boxed, push_made, three_parts, two_parts};
 use crate::words::first_among;
 use crate::{parts, places};
 use json_exact::{Json, Member};
 use std::alloc::Global;
 use text_kit::{Boxed, OutOfMemory, Seq};
-use tree_readers::{has_member, needed_members};
+use tree_readers::{has_member, members_of, needed_members};
 use vl_spec::{
     Channel, CrossFacet, Facet, Faceted, Joined, Joining, LEAST_COUNT, Layer, MOST_COUNT,
     MOST_SPACE, Transform, Unit, View, ViewKind,
@@ -90,7 +92,7 @@ fn unit_of(alloc: Global, members: &[Member]) -> Result<ViewKind, OutOfMemory>
     Ok(ViewKind::Unit(Unit { mark, encoding }))
 }
 
-// A view of this kind.
+// A view of this kind, where it is there.
 #[inline(never)]
 #[tactic(auto, unfolding(crate::specs::Views::view_with))]
 fn view_with(
@@ -98,12 +100,12 @@ fn view_with(
     named: &Named,
     members: &[Member],
     place: &[usize],
-    kind: ViewKind,
+    kind: Result<ViewKind, OutOfMemory>,
 ) -> Result<View, OutOfMemory>
-    ensures { IfOk result (λ view. view ≡ view_with (shown named.now) members.now place.now kind) }
+    ensures { (k : ViewKind) → IfOk kind (λ x. x ≡ k) → IfOk result (λ view. view ≡ view_with (shown named.now) members.now place.now k) }
 {
     let (kind, data_, params, transform, (name, title, resolve)) = all_five(
-        Ok(kind),
+        kind,
         places::source_of(alloc, named, place, members),
         listed_at::<usize, ParamNumbers>(alloc, named, place, members, "params"),
         listed_at::<Transform, Transforms>(alloc, named, place, members, "transform"),
@@ -122,48 +124,18 @@ fn view_with(
     })
 }
 
-// A view without members.
-#[inline(never)]
-#[tactic(auto, unfolding(crate::specs::Views::no_view))]
-fn no_view(alloc: Global) -> View
-    ensures { result ≡ no_view }
-{
-    View {
-        name: None,
-        title: None,
-        data_: None,
-        transform: None,
-        params: Seq::new(alloc),
-        width: None,
-        height: None,
-        resolve: None,
-        kind: ViewKind::Unit(Unit {
-            mark: None,
-            encoding: None,
-        }),
-    }
-}
-
-/// The view that a value at a place is; one that is no object is a view without members.
+/// The view of these members, at a place.
 #[cycle(views)]
-#[tactic(auto, unfolding(crate::specs::Views::view_with, crate::specs::Views::kind_by, crate::specs::Views::unit_of, crate::specs::Views::no_view))]
 pub fn view_of(
     alloc: Global,
     named: &Named,
-    tree: &Json,
+    members: &[Member],
     place: &[usize],
 ) -> Result<View, OutOfMemory>
-    ensures { IfOk result (λ view. view ≡ view_of (shown named.now) tree.now place.now) }
+    ensures { IfOk result (λ view. view ≡ view_in (shown named.now) members.now place.now) }
 {
-    match tree {
-        Json::Object(members) => {
-            let members = members.as_slice();
-            let kind = kind_by(alloc, named, view_word(members), members, place)?;
-            view_with(alloc, named, members, place, kind)
-        }
-        Json::Null | Json::Flag(_) | Json::Number(_) | Json::Huge | Json::Text(_) | Json::List(_) =>
-            Ok(no_view(alloc)),
-    }
+    let kind = kind_by(alloc, named, view_word(members), members, place);
+    view_with(alloc, named, members, place, kind)
 }
 
 // What a view is, by the member that decides.
@@ -227,7 +199,7 @@ fn joined_of(
     }))
 }
 
-// The view under `spec`, in a box.
+// The view under `spec`, in a box; one without members where there is none.
 #[cycle(views)]
 fn view_at(
     alloc: Global,
@@ -240,11 +212,14 @@ fn view_at(
     for (number, member) in members.iter().enumerate() {
         if member.name.as_str() == "spec" {
             let here = places::child(alloc, place, number)?;
-            let view = view_of(alloc, named, &member.value, here.as_slice())?;
-            return Boxed::new(alloc, view);
+            let view = view_of(alloc, named, members_of(&member.value), here.as_slice());
+            return boxed(alloc, view);
         }
     }
-    Boxed::new(alloc, no_view(alloc))
+    boxed(
+        alloc,
+        view_with(alloc, named, &[], place, unit_of(alloc, &[])),
+    )
 }
 
 // The views that the items of the list under a name are.
@@ -260,53 +235,28 @@ fn views_at(
 {
     for (number, member) in members.iter().enumerate() {
         if member.name.as_str() == name {
-            return views_of(alloc, named, &member.value, place, number);
+            let here = places::child(alloc, place, number)?;
+            return views_in(alloc, named, items_of(&member.value), here.as_slice());
         }
     }
     Ok(Seq::new(alloc))
 }
 
-// The views that the items of a child of an object at a place are.
+// The views that items at a place are.
 #[cycle(views)]
-fn views_of(
-    alloc: Global,
-    named: &Named,
-    tree: &Json,
-    place: &[usize],
-    number: usize,
-) -> Result<Seq<View>, OutOfMemory>
-    ensures { IfOk result (λ views. views ≡ views_of (shown named.now) tree.now (child place.now number)) }
-{
-    match tree {
-        Json::List(items) => {
-            let here = places::child(alloc, place, number)?;
-            let mut views = Seq::new(alloc);
-            push_views(alloc, named, items.as_slice(), here.as_slice(), &mut views)?;
-            Ok(views)
-        }
-        Json::Null
-        | Json::Flag(_)
-        | Json::Number(_)
-        | Json::Huge
-        | Json::Text(_)
-        | Json::Object(_) => Ok(Seq::new(alloc)),
-    }
-}
-
-// Adds the views that items at a place are.
-#[cycle(views)]
-fn push_views(
+fn views_in(
     alloc: Global,
     named: &Named,
     items: &[Json],
     place: &[usize],
-    out: &mut Seq<View>,
-) -> Result<(), OutOfMemory>
-    ensures { OnOk result (out.new ≡ out.old ++ views_in (map (as_view (shown named.now)) items.now) place.now) }
+) -> Result<Seq<View>, OutOfMemory>
+    ensures { IfOk result (λ views. views ≡ views_in (map (as_view (shown named.now)) items.now) place.now) }
 {
+    let mut views = Seq::new(alloc);
     for (number, tree) in items.iter().enumerate() {
         let here = places::child(alloc, place, number)?;
-        out.push(view_of(alloc, named, tree, here.as_slice())?)?;
+        let view = view_of(alloc, named, members_of(tree), here.as_slice());
+        push_made(&mut views, view)?;
     }
-    Ok(())
+    Ok(views)
 }

@@ -31,8 +31,8 @@ const ENCODINGS: [Table<'static>; 2] = layout_tables![
 // The definitions of a channel, by its object and those of its axis and its conditions: with a value that is written, with a cell
 // that is, and over a field.
 macro_rules! channel_tables {
-    ($object:ident $axes:ident $tests:ident) => {
-        layout_tables![
+    ($($object:ident $axes:ident $tests:ident;)*) => {
+        layout_tables![$(
             $object [When::Leads(CHANNEL_KINDS, "value")] [may "value" SCALAR, may "condition" $tests] None;
             $object [When::Leads(CHANNEL_KINDS, "datum")] [
                 may "datum" SCALAR, may "type" FIELD_TYPE, may "scale" SCALE, may "axis" $axes,
@@ -44,44 +44,28 @@ macro_rules! channel_tables {
                 may "legend" LEGEND, may "header" HEADER, may "format" LABEL_FORMAT, may "condition" $tests,
                 may "columns" COUNT, may "spacing" SPACE
             ] None;
-        ]
+        )*]
     };
 }
 
-const X_CHANNELS: [Table<'static>; 3] = channel_tables![X_CHANNEL X_AXIS X_CONDITIONS];
-
-const Y_CHANNELS: [Table<'static>; 3] = channel_tables![Y_CHANNEL Y_AXIS Y_CONDITIONS];
-
-const OTHER_CHANNELS: [Table<'static>; 3] = channel_tables![CHANNEL AXIS CONDITIONS];
+const CHANNELS: [Table<'static>; 9] = channel_tables![
+    X_CHANNEL X_AXIS X_CONDITIONS;
+    Y_CHANNEL Y_AXIS Y_CONDITIONS;
+    CHANNEL AXIS CONDITIONS;
+];
 
 /// Adds the channels of units and layers.
 #[tactic(auto, unfolding(crate::specs::Channels::all_channels, crate::specs::Channels::encoding, crate::specs::Channels::layer_encoding))]
-pub fn push_channels(alloc: Global, out: &mut Seq<Layout>) -> Result<(), OutOfMemory>
+pub fn push_encodings(alloc: Global, out: &mut Seq<Layout>) -> Result<(), OutOfMemory>
     ensures { OnOk result (out.new ≡ out.old ++ all_channels) }
 {
     push_layouts(alloc, out, &ENCODINGS)
 }
 
-/// Adds the definitions of x.
+/// Adds the definitions of x, those of y, and those of any other channel.
 #[tactic(auto, unfolding(crate::specs::Channels::channels_of, crate::specs::Channels::written_channel, crate::specs::Channels::datum_channel, crate::specs::Channels::field_channel, crate::specs::Channels::field_members))]
-pub fn push_x_channels(alloc: Global, out: &mut Seq<Layout>) -> Result<(), OutOfMemory>
-    ensures { OnOk result (out.new ≡ out.old ++ x_channels) }
+pub fn push_channels(alloc: Global, out: &mut Seq<Layout>) -> Result<(), OutOfMemory>
+    ensures { OnOk result (out.new ≡ out.old ++ (x_channels ++ y_channels ++ other_channels)) }
 {
-    push_layouts(alloc, out, &X_CHANNELS)
-}
-
-/// Adds those of y.
-#[tactic(auto, unfolding(crate::specs::Channels::channels_of, crate::specs::Channels::written_channel, crate::specs::Channels::datum_channel, crate::specs::Channels::field_channel, crate::specs::Channels::field_members))]
-pub fn push_y_channels(alloc: Global, out: &mut Seq<Layout>) -> Result<(), OutOfMemory>
-    ensures { OnOk result (out.new ≡ out.old ++ y_channels) }
-{
-    push_layouts(alloc, out, &Y_CHANNELS)
-}
-
-/// Adds those of any other channel.
-#[tactic(auto, unfolding(crate::specs::Channels::channels_of, crate::specs::Channels::written_channel, crate::specs::Channels::datum_channel, crate::specs::Channels::field_channel, crate::specs::Channels::field_members))]
-pub fn push_other_channels(alloc: Global, out: &mut Seq<Layout>) -> Result<(), OutOfMemory>
-    ensures { OnOk result (out.new ≡ out.old ++ other_channels) }
-{
-    push_layouts(alloc, out, &OTHER_CHANNELS)
+    push_layouts(alloc, out, &CHANNELS)
 }

@@ -15,8 +15,8 @@ use text_kit::{OutOfMemory, Seq};
 // The conditions of a channel, by its object and those of its axis and its conditions: a value and a field where a parameter allows it,
 // and the same where a filter does.
 macro_rules! condition_tables {
-    ($object:ident $axes:ident $tests:ident) => {
-        layout_tables![
+    ($($object:ident $axes:ident $tests:ident;)*) => {
+        layout_tables![$(
             $object [When::Alone(TEST_KINDS, "param"), When::Lacks("datum"), When::Leads(CHANNEL_KINDS, "value")] [
                 may "param" TEXT, may "empty" FLAG, may "value" SCALAR
             ] None;
@@ -37,36 +37,20 @@ macro_rules! condition_tables {
                 may "legend" LEGEND, may "header" HEADER, may "format" LABEL_FORMAT, may "condition" $tests,
                 may "columns" COUNT, may "spacing" SPACE
             ] None;
-        ]
+        )*]
     };
 }
 
-const FOR_X: [Table<'static>; 4] = condition_tables![X_CONDITION X_AXIS X_CONDITIONS];
+const ALL: [Table<'static>; 12] = condition_tables![
+    X_CONDITION X_AXIS X_CONDITIONS;
+    Y_CONDITION Y_AXIS Y_CONDITIONS;
+    CONDITION AXIS CONDITIONS;
+];
 
-const FOR_Y: [Table<'static>; 4] = condition_tables![Y_CONDITION Y_AXIS Y_CONDITIONS];
-
-const FOR_OTHERS: [Table<'static>; 4] = condition_tables![CONDITION AXIS CONDITIONS];
-
-/// Adds the conditions of x.
+/// Adds the conditions of x, those of y, and those of any other channel.
 #[tactic(auto, unfolding(crate::specs::Conditions::conditions_of, crate::specs::Conditions::value_by_selection, crate::specs::Conditions::field_by_selection, crate::specs::Conditions::value_by_filter, crate::specs::Conditions::field_by_filter, crate::specs::Conditions::selection_test, crate::specs::Conditions::filter_test, crate::specs::Channels::field_members))]
-pub fn push_x_conditions(alloc: Global, out: &mut Seq<Layout>) -> Result<(), OutOfMemory>
-    ensures { OnOk result (out.new ≡ out.old ++ x_conditions) }
+pub fn push_conditions(alloc: Global, out: &mut Seq<Layout>) -> Result<(), OutOfMemory>
+    ensures { OnOk result (out.new ≡ out.old ++ (x_conditions ++ y_conditions ++ other_conditions)) }
 {
-    push_layouts(alloc, out, &FOR_X)
-}
-
-/// Adds those of y.
-#[tactic(auto, unfolding(crate::specs::Conditions::conditions_of, crate::specs::Conditions::value_by_selection, crate::specs::Conditions::field_by_selection, crate::specs::Conditions::value_by_filter, crate::specs::Conditions::field_by_filter, crate::specs::Conditions::selection_test, crate::specs::Conditions::filter_test, crate::specs::Channels::field_members))]
-pub fn push_y_conditions(alloc: Global, out: &mut Seq<Layout>) -> Result<(), OutOfMemory>
-    ensures { OnOk result (out.new ≡ out.old ++ y_conditions) }
-{
-    push_layouts(alloc, out, &FOR_Y)
-}
-
-/// Adds those of any other channel.
-#[tactic(auto, unfolding(crate::specs::Conditions::conditions_of, crate::specs::Conditions::value_by_selection, crate::specs::Conditions::field_by_selection, crate::specs::Conditions::value_by_filter, crate::specs::Conditions::field_by_filter, crate::specs::Conditions::selection_test, crate::specs::Conditions::filter_test, crate::specs::Channels::field_members))]
-pub fn push_other_conditions(alloc: Global, out: &mut Seq<Layout>) -> Result<(), OutOfMemory>
-    ensures { OnOk result (out.new ≡ out.old ++ other_conditions) }
-{
-    push_layouts(alloc, out, &FOR_OTHERS)
+    push_layouts(alloc, out, &ALL)
 }

@@ -2,9 +2,9 @@
 ghost use Rattle.std.specs.Prelude.{◌≡◌, ◌++◌, IfOk, OnOk};
 ghost use Rattle.vl_schema.specs.Schema.{view_layouts, source_layouts, channel_layouts, condition_layouts, other_layouts, layouts, vl_schema};
 
-use crate::channels::{push_channels, push_other_channels, push_x_channels, push_y_channels};
+use crate::channels::{push_channels, push_encodings};
 use crate::codes::{TOP, VIEW};
-use crate::conditions::{push_other_conditions, push_x_conditions, push_y_conditions};
+use crate::conditions::push_conditions;
 use crate::facets::push_facets;
 use crate::filters::push_filters;
 use crate::guides::push_guides;
@@ -47,10 +47,8 @@ fn source_layouts(alloc: Global, out: &mut Seq<Layout>) -> Result<(), OutOfMemor
 fn channel_layouts(alloc: Global, out: &mut Seq<Layout>) -> Result<(), OutOfMemory>
     ensures { OnOk result (out.new ≡ out.old ++ channel_layouts) }
 {
+    push_encodings(alloc, out)?;
     push_channels(alloc, out)?;
-    push_x_channels(alloc, out)?;
-    push_y_channels(alloc, out)?;
-    push_other_channels(alloc, out)?;
     push_facets(alloc, out)
 }
 
@@ -59,9 +57,7 @@ fn channel_layouts(alloc: Global, out: &mut Seq<Layout>) -> Result<(), OutOfMemo
 fn condition_layouts(alloc: Global, out: &mut Seq<Layout>) -> Result<(), OutOfMemory>
     ensures { OnOk result (out.new ≡ out.old ++ condition_layouts) }
 {
-    push_x_conditions(alloc, out)?;
-    push_y_conditions(alloc, out)?;
-    push_other_conditions(alloc, out)?;
+    push_conditions(alloc, out)?;
     push_filters(alloc, out)
 }
 

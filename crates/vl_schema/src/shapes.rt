@@ -1,6 +1,6 @@
 //! The forms of each shape.
 ghost use Rattle.std.specs.Prelude.{◌≡◌, IfOk};
-ghost use Rattle.vl_schema.specs.Shapes.{leaves, numbers, named, lists, plain_objects, objects, shapes};
+ghost use Rattle.vl_schema.specs.Shapes.{shapes};
 
 use crate::codes::*;
 use spec_schema::{Form, Shape};
@@ -18,8 +18,8 @@ macro_rules! forms {
     };
 }
 
-// Values that hold no others.
-const LEAF_FORMS: [Shape; 14] = forms![
+const FORMS: [Shape; 149] = forms![
+    // Values that hold no others.
     FREE Form::Free,
     TEXT Form::Text,
     EXPRESSION Form::Text,
@@ -34,10 +34,7 @@ const LEAF_FORMS: [Shape; 14] = forms![
     SCALAR Form::Text,
     TITLE Form::Text,
     TITLE Form::Null,
-];
-
-// Numbers, and what may be one.
-const NUMBER_FORMS: [Shape; 23] = forms![
+    // Numbers, and what may be one.
     NUMBER_OR_NULL Form::Number { least: LEAST_NUMBER, most: MOST_NUMBER },
     NUMBER_OR_NULL Form::Null,
     SPACE Form::Number { least: 0, most: MOST_SPACE },
@@ -61,10 +58,7 @@ const NUMBER_FORMS: [Shape; 23] = forms![
     RANGE_ITEM Form::Flag,
     RANGE_ITEM Form::Number { least: 0, most: MOST_LOOK },
     RANGE_ITEM Form::Text,
-];
-
-// Values that are one of some names.
-const NAME_FORMS: [Shape; 32] = forms![
+    // Values that are one of some names.
     AUTOSIZE Form::Name(AUTOSIZE_NAMES),
     FORMAT_TYPE Form::Name(FORMAT_NAMES),
     PARSE_KIND Form::Name(PARSE_NAMES),
@@ -97,10 +91,7 @@ const NAME_FORMS: [Shape; 32] = forms![
     X_SIDE Form::Name(X_SIDE_NAMES),
     Y_SIDE Form::Name(Y_SIDE_NAMES),
     SIDE Form::Name(SIDE_NAMES),
-];
-
-// Lists, and what may be a list.
-const LIST_FORMS: [Shape; 27] = forms![
+    // Lists, and what may be a list.
     TEXTS Form::List { least: 0, most: usize::MAX, items: TEXT },
     TWO_TEXTS Form::List { least: 2, most: 2, items: TEXT },
     TEXT_OR_TWO Form::Text,
@@ -128,10 +119,7 @@ const LIST_FORMS: [Shape; 27] = forms![
     CONDITIONS Form::List { least: 0, most: usize::MAX, items: CONDITION },
     DETAIL Form::Object(CHANNEL),
     DETAIL Form::List { least: 0, most: usize::MAX, items: CHANNEL },
-];
-
-// Values that are always objects.
-const PLAIN_FORMS: [Shape; 29] = forms![
+    // Values that are always objects.
     TOP Form::Object(TOP),
     VIEW Form::Object(VIEW),
     LAYER_VIEW Form::Object(LAYER_VIEW),
@@ -161,10 +149,7 @@ const PLAIN_FORMS: [Shape; 29] = forms![
     LOOKUP_FROM Form::Object(LOOKUP_FROM),
     SCALE Form::Object(SCALE),
     HEADER Form::Object(HEADER),
-];
-
-// Values that may be objects.
-const OBJECT_FORMS: [Shape; 24] = forms![
+    // Values that may be objects.
     SELECT Form::Name(SELECT_NAMES),
     SELECT Form::Object(SELECT),
     MARK Form::Name(MARK_NAMES),
@@ -191,63 +176,10 @@ const OBJECT_FORMS: [Shape; 24] = forms![
     SORT Form::Object(SORT),
 ];
 
-// Values that hold no others.
-#[tactic(auto, unfolding(crate::specs::Shapes::leaves))]
-fn leaves(alloc: Global) -> Result<Seq<Shape>, OutOfMemory>
-    ensures { IfOk result (λ s. s ≡ leaves) }
-{
-    Seq::from_slice(alloc, &LEAF_FORMS)
-}
-
-// Numbers, and what may be one.
-#[tactic(auto, unfolding(crate::specs::Shapes::numbers))]
-fn numbers(alloc: Global) -> Result<Seq<Shape>, OutOfMemory>
-    ensures { IfOk result (λ s. s ≡ numbers) }
-{
-    Seq::from_slice(alloc, &NUMBER_FORMS)
-}
-
-// Values that are one of some names.
-#[tactic(auto, unfolding(crate::specs::Shapes::named))]
-fn named(alloc: Global) -> Result<Seq<Shape>, OutOfMemory>
-    ensures { IfOk result (λ s. s ≡ named) }
-{
-    Seq::from_slice(alloc, &NAME_FORMS)
-}
-
-// Lists, and what may be a list.
-#[tactic(auto, unfolding(crate::specs::Shapes::lists))]
-fn lists(alloc: Global) -> Result<Seq<Shape>, OutOfMemory>
-    ensures { IfOk result (λ s. s ≡ lists) }
-{
-    Seq::from_slice(alloc, &LIST_FORMS)
-}
-
-// Values that are always objects.
-#[tactic(auto, unfolding(crate::specs::Shapes::plain_objects))]
-fn plain_objects(alloc: Global) -> Result<Seq<Shape>, OutOfMemory>
-    ensures { IfOk result (λ s. s ≡ plain_objects) }
-{
-    Seq::from_slice(alloc, &PLAIN_FORMS)
-}
-
-// Values that may be objects.
-#[tactic(auto, unfolding(crate::specs::Shapes::objects))]
-fn objects(alloc: Global) -> Result<Seq<Shape>, OutOfMemory>
-    ensures { IfOk result (λ s. s ≡ objects) }
-{
-    Seq::from_slice(alloc, &OBJECT_FORMS)
-}
-
 /// The forms of all shapes.
+#[tactic(auto, unfolding(crate::specs::Shapes::leaves, crate::specs::Shapes::numbers, crate::specs::Shapes::named, crate::specs::Shapes::lists, crate::specs::Shapes::plain_objects, crate::specs::Shapes::objects))]
 pub fn shapes(alloc: Global) -> Result<Seq<Shape>, OutOfMemory>
     ensures { IfOk result (λ s. s ≡ shapes) }
 {
-    let mut out = leaves(alloc)?;
-    out.append(numbers(alloc)?)?;
-    out.append(named(alloc)?)?;
-    out.append(lists(alloc)?)?;
-    out.append(plain_objects(alloc)?)?;
-    out.append(objects(alloc)?)?;
-    Ok(out)
+    Seq::from_slice(alloc, &FORMS)
 }

@@ -1,9 +1,10 @@
 // Channels, and their conditions.
 ghost use Rattle.std.specs.Prelude.{◌≡◌, ◌++◌, IfOk, OnOk};
 
+use crate::copying::{boxed, filled, push_copy, with_one};
 use crate::{Definition, Filter, ParamTest};
 use std::alloc::Global;
-use text_kit::{Boxed, Copies, OutOfMemory, Seq, beside};
+use text_kit::{Boxed, Copies, OutOfMemory, Seq};
 
 /// The channels of a view, in the order of the text.
 pub struct Encoding {
@@ -130,8 +131,13 @@ impl Channel {
     pub fn copy(&self, alloc: Global) -> Result<Channel, OutOfMemory>
         ensures { IfOk result (λ copy. copy ≡ self.now) }
     {
-        let condition = copied_conditions(alloc, &self.condition)?;
-        let (condition, definition) = beside(alloc, condition, &self.definition)?;
+        let condition = copied_conditions(alloc, &self.condition);
+        let (condition, definition) = with_one(
+            alloc,
+            &self.condition,
+            condition,
+            &self.definition,
+        )?;
         Ok(Channel {
             definition,
             condition,
@@ -146,7 +152,10 @@ impl Conditions {
         ensures { IfOk result (λ copy. copy ≡ self.now) }
     {
         match self {
-            Conditions::One(condition) => Ok(Conditions::One(boxed_copy(alloc, condition)?)),
+            Conditions::One(condition) => {
+                let copy = condition.get().copy(alloc);
+                Ok(Conditions::One(boxed(alloc, condition, copy)?))
+            }
             Conditions::Several(conditions) => Ok(Conditions::Several(copied_list(
                 alloc, conditions,
             )?)),
@@ -160,8 +169,8 @@ impl Condition {
     pub fn copy(&self, alloc: Global) -> Result<Condition, OutOfMemory>
         ensures { IfOk result (λ copy. copy ≡ self.now) }
     {
-        let shows = self.shows.copy(alloc)?;
-        let (shows, test) = beside(alloc, shows, &self.test)?;
+        let shows = self.shows.copy(alloc);
+        let (shows, test) = with_one(alloc, &self.shows, shows, &self.test)?;
         Ok(Condition { test, shows })
     }
 }
@@ -180,22 +189,14 @@ fn copied_conditions(
     }
 }
 
-// A copy of a condition in a box.
-#[cycle(channels)]
-fn boxed_copy(alloc: Global, condition: &Boxed<Condition>) -> Result<Boxed<Condition>, OutOfMemory>
-    ensures { IfOk result (λ copy. copy ≡ condition.now) }
-{
-    Boxed::new(alloc, condition.get().copy(alloc)?)
-}
-
 // Copies of conditions.
 #[cycle(channels)]
 fn copied_list(alloc: Global, conditions: &Seq<Condition>) -> Result<Seq<Condition>, OutOfMemory>
     ensures { IfOk result (λ copy. copy ≡ conditions.now) }
 {
     let mut out = Seq::new(alloc);
-    push_copies(alloc, conditions.as_slice(), &mut out)?;
-    Ok(out)
+    let copied = push_copies(alloc, conditions.as_slice(), &mut out);
+    filled(conditions, out, copied)
 }
 
 // Adds copies of conditions.
@@ -208,7 +209,7 @@ fn push_copies(
     ensures { OnOk result (out.new ≡ out.old ++ conditions.now) }
 {
     for condition in conditions {
-        out.push(condition.copy(alloc)?)?;
+        push_copy(out, condition, condition.copy(alloc))?;
     }
     Ok(())
 }

@@ -2,6 +2,7 @@
 ghost use Rattle.std.specs.Prelude.{◌≡◌, ◌++◌, IfOk, OnOk};
 ghost use Rattle.vl_spec.specs.declared.filters.Filter.TheVariants as variant;
 
+use crate::copying::{boxed, filled, push_copy};
 use cell_value::Cell;
 use expr_syntax::Expr;
 use fixed_num::Num;
@@ -107,7 +108,10 @@ impl Filter {
             Filter::Field(of) => copied_test(alloc, of),
             Filter::And(filters) => Ok(Filter::And(copied_filters(alloc, filters)?)),
             Filter::Or(filters) => Ok(Filter::Or(copied_filters(alloc, filters)?)),
-            Filter::Not(filter) => Ok(Filter::Not(boxed_copy(alloc, filter)?)),
+            Filter::Not(filter) => {
+                let copy = filter.get().copy(alloc);
+                Ok(Filter::Not(boxed(alloc, filter, copy)?))
+            }
         }
     }
 }
@@ -118,8 +122,8 @@ fn copied_filters(alloc: Global, filters: &Seq<Filter>) -> Result<Seq<Filter>, O
     ensures { IfOk result (λ copy. copy ≡ filters.now) }
 {
     let mut out = Seq::new(alloc);
-    push_copies(alloc, filters.as_slice(), &mut out)?;
-    Ok(out)
+    let copied = push_copies(alloc, filters.as_slice(), &mut out);
+    filled(filters, out, copied)
 }
 
 // Adds copies of filters.
@@ -128,17 +132,9 @@ fn push_copies(alloc: Global, filters: &[Filter], out: &mut Seq<Filter>) -> Resu
     ensures { OnOk result (out.new ≡ out.old ++ filters.now) }
 {
     for filter in filters {
-        out.push(filter.copy(alloc)?)?;
+        push_copy(out, filter, filter.copy(alloc))?;
     }
     Ok(())
-}
-
-// A copy of a filter in a box.
-#[cycle(filters)]
-fn boxed_copy(alloc: Global, filter: &Boxed<Filter>) -> Result<Boxed<Filter>, OutOfMemory>
-    ensures { IfOk result (λ copy. copy ≡ filter.now) }
-{
-    Boxed::new(alloc, filter.get().copy(alloc)?)
 }
 
 impl Copies for Filter {

@@ -1,7 +1,4 @@
 // Orders, and what may be one text or a list.
-ghost use Rattle.std.specs.Prelude.{◌≡◌, IfOk};
-ghost use Rattle.vl_spec.specs.declared.orders.Sort.TheVariants as variant;
-
 use cell_value::Cell;
 use std::alloc::Global;
 use text_kit::{Copies, OutOfMemory, Seq, Text};
@@ -132,18 +129,11 @@ impl Copies for Sort {
             Sort::X(order) => Ok(Sort::X(*order)),
             Sort::Y(order) => Ok(Sort::Y(*order)),
             Sort::Listed(cells) => Ok(Sort::Listed(cells.copied(alloc)?)),
-            Sort::Field(of) => copied_sort(alloc, of),
+            Sort::Field(of) => Ok(Sort::Field(FieldSort {
+                field: Copies::copied(&of.field, alloc)?,
+                op: of.op,
+                order: of.order,
+            })),
         }
     }
-}
-
-// A copy of an order by an aggregate of a field.
-fn copied_sort(alloc: Global, of: &FieldSort) -> Result<Sort, OutOfMemory>
-    ensures { IfOk result (λ copy. copy ≡ variant.Field of.now) }
-{
-    Ok(Sort::Field(FieldSort {
-        field: Copies::copied(&of.field, alloc)?,
-        op: of.op,
-        order: of.order,
-    }))
 }

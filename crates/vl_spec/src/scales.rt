@@ -1,7 +1,4 @@
 // Scales.
-ghost use Rattle.std.specs.Prelude.{◌≡◌, IfOk};
-ghost use Rattle.vl_spec.specs.declared.scales.Domain.TheVariants as variant;
-
 use cell_value::Cell;
 use fixed_num::Num;
 use std::alloc::Global;
@@ -113,17 +110,10 @@ impl Copies for Domain {
     fn copied(&self, alloc: Global) -> Result<Domain, OutOfMemory> {
         match self {
             Domain::Cells(cells) => Ok(Domain::Cells(cells.copied(alloc)?)),
-            Domain::Param(of) => copied_domain(of),
+            Domain::Param(of) => Ok(Domain::Param(ParamDomain {
+                param: of.param.copy()?,
+                encoding: of.encoding,
+            })),
         }
     }
-}
-
-// A copy of the domain that a selection gives.
-fn copied_domain(of: &ParamDomain) -> Result<Domain, OutOfMemory>
-    ensures { IfOk result (λ copy. copy ≡ variant.Param of.now) }
-{
-    Ok(Domain::Param(ParamDomain {
-        param: of.param.copy()?,
-        encoding: of.encoding,
-    }))
 }

@@ -1,9 +1,10 @@
 // Sources.
 ghost use Rattle.std.specs.Prelude.{◌≡◌, IfOk};
 
+use crate::copying::with_three;
 use json_exact::Json;
 use std::alloc::Global;
-use text_kit::{Copies, OutOfMemory, Seq, Text, beside_three};
+use text_kit::{Copies, OutOfMemory, Seq, Text};
 
 /// A source: where rows come from.
 pub struct SourceOf {
@@ -77,9 +78,10 @@ impl Drop for Format {
 
 impl Copies for SourceOf {
     fn copied(&self, alloc: Global) -> Result<SourceOf, OutOfMemory> {
-        let values = copied_json(alloc, &self.values)?;
-        let (values, name, url, format) = beside_three(
+        let values = copied_json(alloc, &self.values);
+        let (values, name, url, format) = with_three(
             alloc,
+            &self.values,
             values,
             &self.name,
             &self.url,

@@ -1,11 +1,12 @@
 // Whole specifications.
 ghost use Rattle.std.specs.Prelude.{◌≡◌, IfOk};
 
+use crate::copying::with_three;
 use crate::views::copied_view;
 use crate::{Autosize, ConfigView, ParamOf, SourceOf, View};
 use fixed_num::Num;
 use std::alloc::Global;
-use text_kit::{OutOfMemory, Seq, Text, beside_three};
+use text_kit::{OutOfMemory, Seq, Text};
 
 /// A Vega-Lite specification.
 pub struct VlSpec {
@@ -45,9 +46,10 @@ impl VlSpec {
     pub fn copy(&self, alloc: Global) -> Result<VlSpec, OutOfMemory>
         ensures { IfOk result (λ copy. copy ≡ self.now) }
     {
-        let view = copied_view(alloc, &self.view)?;
-        let (view, schema, sources, params) = beside_three(
+        let view = copied_view(alloc, &self.view);
+        let (view, schema, sources, params) = with_three(
             alloc,
+            &self.view,
             view,
             &self.schema,
             &self.sources,

@@ -2,6 +2,7 @@
 ghost use Rattle.std.specs.Prelude.{◌≡◌, IfOk};
 ghost use Rattle.vl_spec.specs.declared.transforms.Transform.TheVariants as variant;
 
+use crate::copying::with_one;
 use crate::groupings::{copied_lookup, copied_window};
 use crate::{AggregateTransform, Bin, Filter, LookupTransform, Offset, SortField, WindowTransform};
 use expr_syntax::Expr;
@@ -179,10 +180,13 @@ impl Copies for Transform {
 }
 
 impl Copies for Names {
-    fn copied(&self, _: Global) -> Result<Names, OutOfMemory> {
+    fn copied(&self, alloc: Global) -> Result<Names, OutOfMemory> {
         match self {
             Names::One(name) => Ok(Names::One(name.copy()?)),
-            Names::Two(start, end) => Ok(Names::Two(start.copy()?, end.copy()?)),
+            Names::Two(start, end) => {
+                let (start, end) = copied_two(alloc, start, end)?;
+                Ok(Names::Two(start, end))
+            }
         }
     }
 }
@@ -191,11 +195,9 @@ impl Copies for Names {
 fn copied_calculate(alloc: Global, of: &CalculateTransform) -> Result<Transform, OutOfMemory>
     ensures { IfOk result (λ copy. copy ≡ variant.Calculate of.now) }
 {
-    let as_ = of.as_.copy()?;
-    Ok(Transform::Calculate(CalculateTransform {
-        as_,
-        calculate: of.calculate.copy(alloc)?,
-    }))
+    let calculate = of.calculate.copy(alloc);
+    let (calculate, as_) = with_one(alloc, &of.calculate, calculate, &of.as_)?;
+    Ok(Transform::Calculate(CalculateTransform { as_, calculate }))
 }
 
 // A copy of how numbers are put into bins.

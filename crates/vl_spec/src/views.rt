@@ -1,13 +1,11 @@
 // Views.
 ghost use Rattle.std.specs.Prelude.{◌≡◌, ◌++◌, IfOk, OnOk};
-ghost use Rattle.vl_spec.specs.declared.views.Facet.TheVariants as variant;
-ghost use Rattle.vl_spec.specs.declared.views.ViewKind.TheVariants as kind;
 
-use crate::copying::beside_five;
+use crate::copying::{boxed, filled, push_copy, with_one, with_values_and_five};
 use crate::{Channel, Encoding, Mark, Resolve, Size, Transform};
 use fixed_num::Num;
 use std::alloc::Global;
-use text_kit::{Boxed, Copies, OutOfMemory, Seq, Text, beside, copied_two};
+use text_kit::{Boxed, Copies, OutOfMemory, Seq, Text, copied_two};
 
 /// A view.
 #[cycle(views)]
@@ -151,11 +149,12 @@ impl Drop for CrossFacet {
 pub fn copied_view(alloc: Global, view: &View) -> Result<View, OutOfMemory>
     ensures { IfOk result (λ copy. copy ≡ view.now) }
 {
-    let params = Seq::from_slice(alloc, view.params.as_slice())?;
-    let kind = copied_kind(alloc, &view.kind)?;
-    let (kind, name, title, data_, resolve, transform) = beside_five(
+    let kind = copied_kind(alloc, &view.kind);
+    let (kind, params, name, title, data_, resolve, transform) = with_values_and_five(
         alloc,
+        &view.kind,
         kind,
+        &view.params,
         &view.name,
         &view.title,
         &view.data_,
@@ -181,57 +180,32 @@ fn copied_kind(alloc: Global, of: &ViewKind) -> Result<ViewKind, OutOfMemory>
     ensures { IfOk result (λ copy. copy ≡ of.now) }
 {
     match of {
-        ViewKind::Unit(unit) => copied_unit(alloc, unit),
-        ViewKind::Layer(layer) => copied_layer(alloc, layer),
-        ViewKind::Facet(faceted) => copied_faceted(alloc, faceted),
-        ViewKind::Joined(joined) => copied_joined(alloc, joined),
+        ViewKind::Unit(unit) => {
+            let (mark, encoding) = copied_two(alloc, &unit.mark, &unit.encoding)?;
+            Ok(ViewKind::Unit(Unit { mark, encoding }))
+        }
+        ViewKind::Layer(of) => {
+            let layer = copied_views(alloc, &of.layer);
+            let (layer, encoding) = with_one(alloc, &of.layer, layer, &of.encoding)?;
+            Ok(ViewKind::Layer(Layer { layer, encoding }))
+        }
+        ViewKind::Facet(of) => {
+            let spec = boxed(alloc, &of.spec, copied_view(alloc, of.spec.get()));
+            let (spec, facet) = with_one(alloc, &of.spec, spec, &of.facet)?;
+            Ok(ViewKind::Facet(Faceted {
+                facet,
+                columns: of.columns,
+                spacing: of.spacing,
+                spec,
+            }))
+        }
+        ViewKind::Joined(of) => Ok(ViewKind::Joined(Joined {
+            joining: of.joining,
+            columns: of.columns,
+            spacing: of.spacing,
+            views: copied_views(alloc, &of.views)?,
+        })),
     }
-}
-
-// A copy of one mark.
-fn copied_unit(alloc: Global, of: &Unit) -> Result<ViewKind, OutOfMemory>
-    ensures { IfOk result (λ copy. copy ≡ kind.Unit of.now) }
-{
-    let (mark, encoding) = copied_two(alloc, &of.mark, &of.encoding)?;
-    Ok(ViewKind::Unit(Unit { mark, encoding }))
-}
-
-// A copy of views on each other.
-#[cycle(views)]
-fn copied_layer(alloc: Global, of: &Layer) -> Result<ViewKind, OutOfMemory>
-    ensures { IfOk result (λ copy. copy ≡ kind.Layer of.now) }
-{
-    let layer = copied_views(alloc, &of.layer)?;
-    let (layer, encoding) = beside(alloc, layer, &of.encoding)?;
-    Ok(ViewKind::Layer(Layer { layer, encoding }))
-}
-
-// A copy of a view for each part of the rows.
-#[cycle(views)]
-fn copied_faceted(alloc: Global, of: &Faceted) -> Result<ViewKind, OutOfMemory>
-    ensures { IfOk result (λ copy. copy ≡ kind.Facet of.now) }
-{
-    let spec = Boxed::new(alloc, copied_view(alloc, of.spec.get())?)?;
-    let (spec, facet) = beside(alloc, spec, &of.facet)?;
-    Ok(ViewKind::Facet(Faceted {
-        facet,
-        columns: of.columns,
-        spacing: of.spacing,
-        spec,
-    }))
-}
-
-// A copy of views beside each other.
-#[cycle(views)]
-fn copied_joined(alloc: Global, of: &Joined) -> Result<ViewKind, OutOfMemory>
-    ensures { IfOk result (λ copy. copy ≡ kind.Joined of.now) }
-{
-    Ok(ViewKind::Joined(Joined {
-        joining: of.joining,
-        columns: of.columns,
-        spacing: of.spacing,
-        views: copied_views(alloc, &of.views)?,
-    }))
 }
 
 // Copies of views.
@@ -240,8 +214,8 @@ fn copied_views(alloc: Global, views: &Seq<View>) -> Result<Seq<View>, OutOfMemo
     ensures { IfOk result (λ copy. copy ≡ views.now) }
 {
     let mut out = Seq::new(alloc);
-    push_copies(alloc, views.as_slice(), &mut out)?;
-    Ok(out)
+    let copied = push_copies(alloc, views.as_slice(), &mut out);
+    filled(views, out, copied)
 }
 
 // Adds copies of views.
@@ -250,7 +224,7 @@ fn push_copies(alloc: Global, views: &[View], out: &mut Seq<View>) -> Result<(),
     ensures { OnOk result (out.new ≡ out.old ++ views.now) }
 {
     for view in views {
-        out.push(copied_view(alloc, view)?)?;
+        push_copy(out, view, copied_view(alloc, view))?;
     }
     Ok(())
 }
@@ -259,15 +233,10 @@ impl Copies for Facet {
     fn copied(&self, alloc: Global) -> Result<Facet, OutOfMemory> {
         match self {
             Facet::One(channel) => Ok(Facet::One(channel.copied(alloc)?)),
-            Facet::Cross(of) => copied_cross(alloc, of),
+            Facet::Cross(of) => {
+                let (row, column) = copied_two(alloc, &of.row, &of.column)?;
+                Ok(Facet::Cross(CrossFacet { row, column }))
+            }
         }
     }
-}
-
-// A copy of how rows are parted into rows and columns.
-fn copied_cross(alloc: Global, of: &CrossFacet) -> Result<Facet, OutOfMemory>
-    ensures { IfOk result (λ copy. copy ≡ variant.Cross of.now) }
-{
-    let (row, column) = copied_two(alloc, &of.row, &of.column)?;
-    Ok(Facet::Cross(CrossFacet { row, column }))
 }

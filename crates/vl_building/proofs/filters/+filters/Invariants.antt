@@ -1,4 +1,4 @@
-use Rattle.std.proofs.Common.{◌≡◌, ◌++◌, take, drop, map, ◌+◌, ◌*◌}
+use Rattle.std.proofs.Common.{◌≡◌, take, drop, map, ◌+◌, ◌*◌}
 use Rattle.json_exact.specs.declared.json.Json.{size-Json}
 use Rattle.vl_building.specs.Inside.{member_gives}
 use Rattle.vl_building.specs.Filters.{as_filter, filter_of, needed_filter, filters_given}
@@ -19,11 +19,11 @@ decreases-needed_filter l = 6 * goal.size-needed_filter l + 2
 abbrev pub decreases-filters_at : goal.decreases-filters_at
 decreases-filters_at l = 6 * goal.size-filters_at l + 2
 
-abbrev pub decreases-push_filters : goal.decreases-push_filters
-decreases-push_filters l = 6 * goal.size-push_filters l + 1
+abbrev pub decreases-filters_in : goal.decreases-filters_in
+decreases-filters_in l = 6 * goal.size-filters_in l + 1
 
-abbrev pub invariant-push_filters-loop-tree : goal.invariant-push_filters-loop-tree
-invariant-push_filters-loop-tree l = l.out ≡ l.fn.out ++ map filter_of (take l.tree-index l.items)
+abbrev pub invariant-filters_in-loop-tree : goal.invariant-filters_in-loop-tree
+invariant-filters_in-loop-tree l = l.filters ≡ map filter_of (take l.tree-index l.items)
 
 abbrev pub invariant-needed_filter-loop-member : goal.invariant-needed_filter-loop-member
 invariant-needed_filter-loop-member l = needed_filter (drop l.member-index l.members) l.name ≡ needed_filter l.members l.name

@@ -1,17 +1,13 @@
 use Rattle.std.proofs.Common.{◌≡◌, ◌++◌, drop, map, ◌+◌, ◌*◌}
 use Rattle.std.specs.Prelude.{codes}
 use Rattle.std.specs.List.{enumerate_from}
-use Rattle.json_exact.specs.declared.json.Json.{size-Json}
 use Rattle.vl_building.specs.Views.{child, as_view, views_given, view_given, views_in}
 use Rattle.vl_building.specs.inner.Named.{shown}
 use Rattle.vl_building.specs.inner.Heads.{views_inside, inside_from}
 use Rattle.vl_building.proofs.views.+views.Given as goal
 
 abbrev pub decreases-view_of : goal.decreases-view_of
-decreases-view_of l = 10 * size-Json l.tree.now + 0
-
-abbrev pub decreases-views_of : goal.decreases-views_of
-decreases-views_of l = 10 * size-Json l.tree.now + 1
+decreases-view_of l = 10 * goal.size-view_of l + 8
 
 abbrev pub decreases-kind_by : goal.decreases-kind_by
 decreases-kind_by l = 10 * goal.size-kind_by l + 7
@@ -25,8 +21,8 @@ decreases-views_at l = 10 * goal.size-views_at l + 5
 abbrev pub decreases-view_at : goal.decreases-view_at
 decreases-view_at l = 10 * goal.size-view_at l + 5
 
-abbrev pub decreases-push_views : goal.decreases-push_views
-decreases-push_views l = 10 * goal.size-push_views l + 8
+abbrev pub decreases-views_in : goal.decreases-views_in
+decreases-views_in l = 10 * goal.size-views_in l + 1
 
 abbrev pub invariant-views_at-loop-number : goal.invariant-views_at-loop-number
 invariant-views_at-loop-number l = views_given (inside_from (shown l.named) l.number (drop l.number l.members) l.place l.name)
@@ -36,7 +32,7 @@ abbrev pub invariant-view_at-loop-number : goal.invariant-view_at-loop-number
 invariant-view_at-loop-number l = view_given (inside_from (shown l.named) l.number (drop l.number l.members) l.place (codes "spec"))
     ≡ view_given (views_inside (shown l.named) l.members l.place (codes "spec"))
 
-abbrev pub invariant-push_views-loop-number : goal.invariant-push_views-loop-number
-invariant-push_views-loop-number l =
-    l.out ++ map (λ item. (item.1 (child l.place item.0)).0) (enumerate_from l.number (map (as_view (shown l.named)) (drop l.number l.items)))
-    ≡ l.fn.out ++ views_in (map (as_view (shown l.named)) l.items) l.place
+abbrev pub invariant-views_in-loop-number : goal.invariant-views_in-loop-number
+invariant-views_in-loop-number l =
+    l.views ++ map (λ item. (item.1 (child l.place item.0)).0) (enumerate_from l.number (map (as_view (shown l.named)) (drop l.number l.items)))
+    ≡ views_in (map (as_view (shown l.named)) l.items) l.place
