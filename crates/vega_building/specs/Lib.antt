@@ -11,3 +11,4 @@ pub mod Channels
 pub mod Marks
 pub mod Guides
 pub mod Spec
+pub mod inner

@@ -4,7 +4,7 @@ ghost use Rattle.json_exact.specs.declared.json.Json.{out-Json};
 ghost use Rattle.vega_building.specs.Channels.{channel_value_of, channel_in, channel_at, channels_of, encode_of};
 
 use crate::parts::{Object, object_at, objects_of};
-use crate::several::{Part, four_parts, six_parts};
+use crate::several::{Part, both, four_parts, six_parts};
 use json_exact::{Json, Member};
 use std::alloc::Global;
 use text_kit::OutOfMemory;
@@ -71,11 +71,14 @@ impl Object for Channels {
     ghost built = { channels_of };
 
     fn of_members(alloc: Global, members: &[Member]) -> Result<Channels, OutOfMemory> {
-        let across = four_parts(alloc, members, "x", "x2", "xc", "width")?;
-        let down = four_parts(alloc, members, "y", "y2", "yc", "height")?;
-        let look = four_parts(alloc, members, "fill", "stroke", "strokeWidth", "opacity")?;
-        let symbol = four_parts(alloc, members, "size", "shape", "text", "align")?;
-        let text_line = four_parts(alloc, members, "baseline", "dx", "dy", "fontSize")?;
+        let across = four_parts(alloc, members, "x", "x2", "xc", "width");
+        let down = four_parts(alloc, members, "y", "y2", "yc", "height");
+        let look = four_parts(alloc, members, "fill", "stroke", "strokeWidth", "opacity");
+        let symbol = four_parts(alloc, members, "size", "shape", "text", "align");
+        let text_line = four_parts(alloc, members, "baseline", "dx", "dy", "fontSize");
+        let places = both(across, down);
+        let shows = both(both(look, symbol), text_line);
+        let ((across, down), ((look, symbol), text_line)) = both(places, shows)?;
         let (x, x2, xc, width) = across;
         let (y, y2, yc, height) = down;
         let (fill, stroke, stroke_width, opacity) = look;
@@ -110,9 +113,8 @@ impl Object for Encode {
     ghost built = { encode_of };
 
     fn of_members(alloc: Global, members: &[Member]) -> Result<Encode, OutOfMemory> {
-        Ok(Encode {
-            enter: object_at(alloc, members, "enter")?,
-            update: object_at(alloc, members, "update")?,
-        })
+        let enter = object_at(alloc, members, "enter");
+        let (enter, update) = both(enter, object_at(alloc, members, "update"))?;
+        Ok(Encode { enter, update })
     }
 }

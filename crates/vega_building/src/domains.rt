@@ -1,12 +1,14 @@
 // Domains of scales.
-ghost use Rattle.std.specs.Prelude.{◌≡◌, IfOk};
+ghost use Rattle.std.specs.Prelude.{◌≡◌, codes, Some, IfOk};
 ghost use Rattle.json_exact.specs.declared.json.Json.{out-Json};
+ghost use Rattle.vega_spec.specs.declared.domains.Domain.TheVariants as by_kind;
+ghost use Rattle.vega_building.specs.Parts.{needed_expression as expression_under};
 ghost use Rattle.vega_building.specs.Domains.{reference_of, domain_order_of, domain_order_in, domain_order_at, field_domain_of};
 ghost use Rattle.vega_building.specs.Domains.{needed_references, fields_domain_of, domain_of, domain_in, domain_at, needed_domain};
 
-use crate::names::order_at;
+use crate::names::named_at;
 use crate::parts::{Object, list_of, needed_expression, objects_of};
-use crate::several::two_parts;
+use crate::several::{both, two_parts};
 use crate::tables::needed_operation;
 use json_exact::{Json, Member};
 use std::alloc::Global;
@@ -27,7 +29,7 @@ impl Object for Reference {
 fn domain_order_of(alloc: Global, members: &[Member]) -> Result<DomainOrder, OutOfMemory>
     ensures { IfOk result (λ order. order ≡ domain_order_of members.now) }
 {
-    let order = order_at(members, "order");
+    let order = named_at(members, "order");
     if has_member(members, "op") {
         let op = needed_operation(members, "op");
         Ok(DomainOrder::Operation(order, op, needed_text(alloc, members, "field")?))
@@ -67,15 +69,12 @@ fn domain_order_at(
 }
 
 // The cells of a field.
-fn field_domain_of(alloc: Global, members: &[Member]) -> Result<FieldDomain, OutOfMemory>
-    ensures { IfOk result (λ domain. domain ≡ field_domain_of members.now) }
+fn field_domain_of(alloc: Global, members: &[Member]) -> Result<Option<Domain>, OutOfMemory>
+    ensures { IfOk result (λ domain. domain ≡ Some (by_kind.Field (field_domain_of members.now))) }
 {
-    let (data_, field) = two_parts(alloc, members, "data", "field")?;
-    Ok(FieldDomain {
-        data_,
-        field,
-        sort: domain_order_at(alloc, members, "sort")?,
-    })
+    let parts = two_parts(alloc, members, "data", "field");
+    let ((data_, field), sort) = both(parts, domain_order_at(alloc, members, "sort"))?;
+    Ok(Some(Domain::Field(FieldDomain { data_, field, sort })))
 }
 
 // The references of a list under a name, none where there is no list.
@@ -93,25 +92,32 @@ fn needed_references(
 }
 
 // The cells of several fields.
-fn fields_domain_of(alloc: Global, members: &[Member]) -> Result<FieldsDomain, OutOfMemory>
-    ensures { IfOk result (λ domain. domain ≡ fields_domain_of members.now) }
+fn fields_domain_of(alloc: Global, members: &[Member]) -> Result<Option<Domain>, OutOfMemory>
+    ensures { IfOk result (λ domain. domain ≡ Some (by_kind.Fields (fields_domain_of members.now))) }
 {
-    Ok(FieldsDomain {
-        fields: needed_references(alloc, members, "fields")?,
-        sort: domain_order_at(alloc, members, "sort")?,
-    })
+    let fields = needed_references(alloc, members, "fields");
+    let (fields, sort) = both(fields, domain_order_at(alloc, members, "sort"))?;
+    Ok(Some(Domain::Fields(FieldsDomain { fields, sort })))
+}
+
+// The cells that an expression gives.
+fn signal_domain_of(alloc: Global, members: &[Member]) -> Result<Option<Domain>, OutOfMemory>
+    ensures { IfOk result (λ domain. domain ≡ Some (by_kind.Signal (expression_under members.now (codes "signal")))) }
+{
+    let e = needed_expression(alloc, members, "signal")?;
+    Ok(Some(Domain::Signal(e)))
 }
 
 // A domain that is an object: an expression, several fields, or one.
-fn domain_of(alloc: Global, members: &[Member]) -> Result<Domain, OutOfMemory>
-    ensures { IfOk result (λ domain. domain ≡ domain_of members.now) }
+fn domain_of(alloc: Global, members: &[Member]) -> Result<Option<Domain>, OutOfMemory>
+    ensures { IfOk result (λ domain. domain ≡ Some (domain_of members.now)) }
 {
     if has_member(members, "signal") {
-        Ok(Domain::Signal(needed_expression(alloc, members, "signal")?))
+        signal_domain_of(alloc, members)
     } else if has_member(members, "fields") {
-        Ok(Domain::Fields(fields_domain_of(alloc, members)?))
+        fields_domain_of(alloc, members)
     } else {
-        Ok(Domain::Field(field_domain_of(alloc, members)?))
+        field_domain_of(alloc, members)
     }
 }
 
@@ -121,7 +127,7 @@ fn domain_in(alloc: Global, tree: &Json) -> Result<Option<Domain>, OutOfMemory>
 {
     match tree {
         Json::List(items) => Ok(Some(Domain::Cells(list_of(alloc, items.as_slice())?))),
-        Json::Object(members) => Ok(Some(domain_of(alloc, members.as_slice())?)),
+        Json::Object(members) => domain_of(alloc, members.as_slice()),
         Json::Null | Json::Flag(_) | Json::Number(_) | Json::Huge | Json::Text(_) => Ok(None),
     }
 }

@@ -1,5 +1,6 @@
 // Transforms over several rows.
 ghost use Rattle.std.specs.Prelude.{◌≡◌, IfOk};
+ghost use Rattle.vega_spec.specs.declared.transforms.Transform.TheVariants as by_type;
 ghost use Rattle.vega_building.specs.Groupings.{maybe_text, maybe_number, aggregate_of, frame_in, frame_at, needed_operations, window_of, lookup_of};
 
 use crate::parts::{Item, list_of};
@@ -9,7 +10,7 @@ use json_exact::{Json, Member};
 use std::alloc::Global;
 use text_kit::{OutOfMemory, Seq, Text};
 use tree_readers::{flag_at, items_at, number_in, text_in};
-use vega_spec::{Aggregate, Frame, Lookup, Window};
+use vega_spec::{Aggregate, Frame, Lookup, Transform, Window};
 
 impl Item for Option<Text> {
     ghost item = { maybe_text };
@@ -30,8 +31,8 @@ impl Item for Option<Num> {
     }
 }
 
-/// `aggregate` and `joinaggregate`
-pub fn aggregate_of(alloc: Global, members: &[Member]) -> Result<Aggregate, OutOfMemory>
+// What an aggregate gives, of either type.
+fn groups_of(alloc: Global, members: &[Member]) -> Result<Aggregate, OutOfMemory>
     ensures { IfOk result (λ aggregate. aggregate ≡ aggregate_of members.now) }
 {
     let (groupby, ops, fields, as_) = four_parts(alloc, members, "groupby", "ops", "fields", "as")?;
@@ -41,6 +42,20 @@ pub fn aggregate_of(alloc: Global, members: &[Member]) -> Result<Aggregate, OutO
         fields,
         as_,
     })
+}
+
+/// `aggregate`
+pub fn aggregate_of(alloc: Global, members: &[Member]) -> Result<Transform, OutOfMemory>
+    ensures { IfOk result (λ transform. transform ≡ by_type.Aggregate (aggregate_of members.now)) }
+{
+    Ok(Transform::Aggregate(groups_of(alloc, members)?))
+}
+
+/// `joinaggregate`
+pub fn join_aggregate_of(alloc: Global, members: &[Member]) -> Result<Transform, OutOfMemory>
+    ensures { IfOk result (λ transform. transform ≡ by_type.JoinAggregate (aggregate_of members.now)) }
+{
+    Ok(Transform::JoinAggregate(groups_of(alloc, members)?))
 }
 
 // The codes of operations under a name, none where there is no list.
@@ -82,13 +97,13 @@ impl Part for Seq<u16> {
 }
 
 /// `window`
-pub fn window_of(alloc: Global, members: &[Member]) -> Result<Window, OutOfMemory>
-    ensures { IfOk result (λ window. window ≡ window_of members.now) }
+pub fn window_of(alloc: Global, members: &[Member]) -> Result<Transform, OutOfMemory>
+    ensures { IfOk result (λ transform. transform ≡ by_type.Window (window_of members.now)) }
 {
     let (ops, fields, params, as_, groupby, sort) = six_parts(
         alloc, members, "ops", "fields", "params", "as", "groupby", "sort",
     )?;
-    Ok(Window {
+    Ok(Transform::Window(Window {
         ops,
         fields,
         params,
@@ -97,22 +112,22 @@ pub fn window_of(alloc: Global, members: &[Member]) -> Result<Window, OutOfMemor
         sort,
         frame: frame_at(members, "frame"),
         ignore_peers: flag_at(members, "ignorePeers"),
-    })
+    }))
 }
 
 /// `lookup`
-pub fn lookup_of(alloc: Global, members: &[Member]) -> Result<Lookup, OutOfMemory>
-    ensures { IfOk result (λ lookup. lookup ≡ lookup_of members.now) }
+pub fn lookup_of(alloc: Global, members: &[Member]) -> Result<Transform, OutOfMemory>
+    ensures { IfOk result (λ transform. transform ≡ by_type.Lookup (lookup_of members.now)) }
 {
     let (from, key, fields, values, as_, default) = six_parts(
         alloc, members, "from", "key", "fields", "values", "as", "default",
     )?;
-    Ok(Lookup {
+    Ok(Transform::Lookup(Lookup {
         from,
         key,
         fields,
         values,
         as_,
         default,
-    })
+    }))
 }

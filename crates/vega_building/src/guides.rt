@@ -2,14 +2,14 @@
 ghost use Rattle.tree_readers.specs.Parts.{members_of};
 ghost use Rattle.vega_building.specs.Guides.{axis_of, legend_of, layout_of};
 
-use crate::names::{edge_at, needed_side};
+use crate::names::{named_at, named_or};
 use crate::parts::{Item, Object};
 use crate::several::{four_parts, six_parts};
 use json_exact::{Json, Member};
 use std::alloc::Global;
 use text_kit::OutOfMemory;
 use tree_readers::{flag_at, number_at};
-use vega_spec::{Axis, Layout, Legend};
+use vega_spec::{Axis, Layout, Legend, Side};
 
 impl Object for Axis {
     ghost built = { axis_of };
@@ -20,7 +20,7 @@ impl Object for Axis {
         )?;
         Ok(Axis {
             scale,
-            orient: needed_side(members, "orient"),
+            orient: named_or(members, "orient", Side::Left),
             title,
             labels: flag_at(members, "labels"),
             ticks: flag_at(members, "ticks"),
@@ -30,7 +30,7 @@ impl Object for Axis {
             tick_count: number_at(members, "tickCount"),
             values,
             format,
-            edge: edge_at(members, "edge"),
+            edge: named_at(members, "edge"),
         })
     }
 }

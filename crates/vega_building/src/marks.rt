@@ -4,7 +4,7 @@ ghost use Rattle.vega_building.specs.Names.{maybe_header};
 ghost use Rattle.vega_building.specs.Orders.{needed_one_or_several};
 ghost use Rattle.vega_building.specs.Marks.{cross_of, facet_of, facet_from, mark_from_of, mark_from_at};
 
-use crate::names::maybe_header;
+use crate::names::named_in;
 use crate::orders::needed_one_or_several;
 use crate::parts::{Item, Object, object_at};
 use crate::several::{Part, four_parts};
@@ -28,7 +28,7 @@ impl Item for Option<Header> {
     ghost item = { maybe_header };
 
     fn of_item(_: Global, tree: &Json) -> Result<Option<Header>, OutOfMemory> {
-        Ok(maybe_header(tree))
+        Ok(named_in(tree))
     }
 }
 

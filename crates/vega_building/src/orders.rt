@@ -3,13 +3,14 @@ ghost use Rattle.std.specs.Prelude.{◌≡◌, IfOk};
 ghost use Rattle.json_exact.specs.declared.json.Json.{out-Json};
 ghost use Rattle.vega_building.specs.Orders.{one_order, texts_in, needed_one_or_several, orders_in, sort_of, texts_at, orders_at};
 
-use crate::names::order_named;
+use crate::names::ByName;
 use crate::parts::{Object, list_of};
+use crate::several::both;
 use json_exact::{Json, Member};
 use std::alloc::Global;
 use text_kit::{OutOfMemory, Text};
 use tree_readers::member_value;
-use vega_spec::{Orders, Sort, Texts};
+use vega_spec::{Order, Orders, Sort, Texts};
 
 // One text, or a list of them.
 fn texts_in(alloc: Global, tree: &Json) -> Result<Option<Texts>, OutOfMemory>
@@ -50,7 +51,7 @@ pub fn needed_one_or_several(
 fn one_order(name: &str) -> Option<Orders>
     ensures { result ≡ one_order name.now }
 {
-    Some(Orders::One(order_named(name)?))
+    Some(Orders::One(Order::by_name(name)?))
 }
 
 // One direction, or a list of them.
@@ -78,9 +79,8 @@ impl Object for Sort {
     ghost built = { sort_of };
 
     fn of_members(alloc: Global, members: &[Member]) -> Result<Sort, OutOfMemory> {
-        Ok(Sort {
-            field: needed_one_or_several(alloc, members, "field")?,
-            order: orders_at(alloc, members, "order")?,
-        })
+        let field = needed_one_or_several(alloc, members, "field");
+        let (field, order) = both(field, orders_at(alloc, members, "order"))?;
+        Ok(Sort { field, order })
     }
 }

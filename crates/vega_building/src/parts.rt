@@ -3,6 +3,7 @@ ghost use Rattle.std.specs.Prelude.{◌≡◌, map, IfOk};
 ghost use Rattle.tree_readers.specs.Parts.{list_at, object_at, members_of, text_of, needed_texts};
 ghost use Rattle.vega_building.specs.Parts.{cell_of, expression_at, needed_expression, signal_at};
 
+use crate::several::push_made;
 use cell_value::Cell;
 use expr_reading::expression_of;
 use expr_syntax::Expr;
@@ -40,7 +41,7 @@ pub fn list_of<T: Item + Drop>(alloc: Global, items: &[Json]) -> Result<Seq<T>, 
 {
     let mut list = Seq::new(alloc);
     for tree in items {
-        list.push(T::of_item(alloc, tree)?)?;
+        push_made(&mut list, T::of_item(alloc, tree))?;
     }
     Ok(list)
 }
@@ -51,7 +52,10 @@ pub fn objects_of<T: Object + Drop>(alloc: Global, items: &[Json]) -> Result<Seq
 {
     let mut list = Seq::new(alloc);
     for tree in items {
-        list.push(T::of_members(alloc, tree_readers::members_of(tree))?)?;
+        push_made(
+            &mut list,
+            T::of_members(alloc, tree_readers::members_of(tree)),
+        )?;
     }
     Ok(list)
 }

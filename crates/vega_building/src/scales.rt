@@ -7,7 +7,7 @@ ghost use Rattle.vega_building.specs.Scales.{range_named, range_in, range_at, ne
 
 use crate::domains::needed_domain;
 use crate::parts::{Item, Object, list_of, signal_at};
-use crate::several::{Part, three_parts};
+use crate::several::{Part, both, three_parts};
 use crate::tables::needed_scale_kind;
 use json_exact::{Json, Member};
 use std::alloc::Global;
@@ -19,18 +19,13 @@ use vega_spec::{Domain, Range, Scale};
 fn range_named(name: &str) -> Option<Range>
     ensures { result ≡ range_named name.now }
 {
-    if name == "width" {
-        Some(Range::Width)
-    } else if name == "height" {
-        Some(Range::Height)
-    } else if name == "category" {
-        Some(Range::Category)
-    } else if name == "ramp" {
-        Some(Range::Ramp)
-    } else if name == "symbol" {
-        Some(Range::Symbol)
-    } else {
-        None
+    match name {
+        "width" => Some(Range::Width),
+        "height" => Some(Range::Height),
+        "category" => Some(Range::Category),
+        "ramp" => Some(Range::Ramp),
+        "symbol" => Some(Range::Symbol),
+        _ => None,
     }
 }
 
@@ -85,8 +80,9 @@ impl Object for Scale {
     ghost built = { scale_of };
 
     fn of_members(alloc: Global, members: &[Member]) -> Result<Scale, OutOfMemory> {
-        let domain_raw = signal_at(alloc, members, "domainRaw")?;
-        let (name, domain, range) = three_parts(alloc, members, "name", "domain", "range")?;
+        let domain_raw = signal_at(alloc, members, "domainRaw");
+        let parts = three_parts(alloc, members, "name", "domain", "range");
+        let (domain_raw, (name, domain, range)) = both(domain_raw, parts)?;
         Ok(Scale {
             name,
             type_: needed_scale_kind(members, "type"),

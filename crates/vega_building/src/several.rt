@@ -1,5 +1,5 @@
 // What stands under several names at once.
-ghost use Rattle.std.specs.Prelude.{◌≡◌, IfOk};
+ghost use Rattle.std.specs.Prelude.{◌≡◌, ◌∷◌, ◌++◌, [], Ok, IfOk, OnOk};
 ghost use Rattle.tree_readers.specs.Parts.{list_at, text_at, needed_text, needed_texts, two_texts_at, cell_at};
 ghost use Rattle.vega_building.specs.Parts.{expression_at, needed_expression};
 
@@ -93,6 +93,39 @@ impl<T: Item + Drop> Part for Option<Seq<T>> {
     ) -> Result<Option<Seq<T>>, OutOfMemory> {
         parts::list_at(alloc, members, name)
     }
+}
+
+/// Two values, where both are there.
+#[inline(never)]
+pub fn both<A: Drop, B: Drop>(
+    a: Result<A, OutOfMemory>,
+    b: Result<B, OutOfMemory>,
+) -> Result<(A, B), OutOfMemory>
+    ensures first { IfOk result (λ all. a ≡ Ok all.0) }
+    ensures second { IfOk result (λ all. b ≡ Ok all.1) }
+{
+    let a = a?;
+    Ok((a, b?))
+}
+
+/// Adds a value, where it is there.
+#[inline(never)]
+pub fn push_made<T: Drop>(
+    list: &mut Seq<T>,
+    made: Result<T, OutOfMemory>,
+) -> Result<(), OutOfMemory>
+    ensures { (value : _) → IfOk made (λ given. given ≡ value) → OnOk result (list.new ≡ list.old ++ value ∷ []) }
+{
+    list.push(made?)
+}
+
+/// A value, where all was put into it.
+#[inline(never)]
+pub fn filled<T: Drop>(done: Result<(), OutOfMemory>, value: T) -> Result<T, OutOfMemory>
+    ensures { (whole : _) → OnOk done (value ≡ whole) → IfOk result (λ given. given ≡ whole) }
+{
+    done?;
+    Ok(value)
 }
 
 /// What stands under two names.

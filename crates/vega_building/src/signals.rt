@@ -2,21 +2,21 @@
 ghost use Rattle.tree_readers.specs.Parts.{members_of};
 ghost use Rattle.vega_building.specs.Signals.{event_update_of, signal_of};
 
-use crate::names::needed_selector;
+use crate::names::named_or;
 use crate::parts::{Item, Object};
 use crate::several::five_parts;
 use json_exact::{Json, Member};
 use std::alloc::Global;
 use text_kit::OutOfMemory;
 use tree_readers::needed_text;
-use vega_spec::{EventUpdate, Signal};
+use vega_spec::{EventSelector, EventUpdate, Signal};
 
 impl Object for EventUpdate {
     ghost built = { event_update_of };
 
     fn of_members(alloc: Global, members: &[Member]) -> Result<EventUpdate, OutOfMemory> {
         Ok(EventUpdate {
-            events: needed_selector(members, "events"),
+            events: named_or(members, "events", EventSelector::Click),
             update: needed_text(alloc, members, "update")?,
         })
     }

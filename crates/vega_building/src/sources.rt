@@ -4,10 +4,10 @@ ghost use Rattle.vega_building.specs.Sources.{parse_of, parse_at, format_of, dat
 ghost use Rattle.tree_readers.specs.Parts.{members_of, object_at};
 ghost use Rattle.json_exact.specs.Path.{member_value};
 
-use crate::names::{format_kind_at, parse_kind_of};
+use crate::names::{named_at, parse_kind_of};
 use crate::parts;
 use crate::parts::{Item, Object};
-use crate::several::{Part, six_parts};
+use crate::several::{Part, push_made, six_parts};
 use json_exact::{Json, Member};
 use std::alloc::Global;
 use text_kit::{OutOfMemory, Seq, Text};
@@ -27,7 +27,7 @@ fn parses_of(alloc: Global, members: &[Member]) -> Result<Seq<(Text, ParseKind)>
 {
     let mut parses = Seq::new(alloc);
     for member in members {
-        parses.push(parse_of(member)?)?;
+        push_made(&mut parses, parse_of(member))?;
     }
     Ok(parses)
 }
@@ -51,7 +51,7 @@ impl Object for Format {
 
     fn of_members(alloc: Global, members: &[Member]) -> Result<Format, OutOfMemory> {
         Ok(Format {
-            type_: format_kind_at(members, "type"),
+            type_: named_at(members, "type"),
             parse: parse_at(alloc, members, "parse")?,
         })
     }

@@ -8,15 +8,15 @@ ghost use Rattle.vega_building.specs.Marks.{mark_from_at};
 ghost use Rattle.vega_building.specs.Spec.{group_with, mark_with, mark_of, marks_in, marks_at, size_signal, size_in, size_at, spec_with, spec_of};
 
 use crate::marks::mark_from_at;
-use crate::names::{autosize_at, needed_mark_type};
+use crate::names::{named_at, named_or};
 use crate::parts;
 use crate::parts::expression_at;
-use crate::several::{Part, four_parts, six_parts};
+use crate::several::{Part, both, filled, four_parts, push_made, six_parts};
 use json_exact::{Json, Member};
 use std::alloc::Global;
 use text_kit::{OutOfMemory, Seq};
 use tree_readers::{member_value, members_of, number_at};
-use vega_spec::{Encode, Group, MarkFrom, Size, Sort, VgMark, VgSpec};
+use vega_spec::{Encode, Group, MarkFrom, MarkType, Size, Sort, VgMark, VgSpec};
 
 // What a group has, its marks being these.
 fn group_with(
@@ -26,10 +26,12 @@ fn group_with(
 ) -> Result<Group, OutOfMemory>
     ensures { IfOk result (λ group. group ≡ group_with members.now marks) }
 {
-    let layout = parts::object_at(alloc, members, "layout")?;
-    let (data_, signals, scales, axes, legends, title) = six_parts(
+    let layout = parts::object_at(alloc, members, "layout");
+    let parts = six_parts(
         alloc, members, "data", "signals", "scales", "axes", "legends", "title",
-    )?;
+    );
+    let ((layout, marks), parts) = both(both(layout, Ok(marks)), parts)?;
+    let (data_, signals, scales, axes, legends, title) = parts;
     Ok(Group {
         data_,
         signals,
@@ -82,11 +84,12 @@ fn mark_with(
 ) -> Result<VgMark, OutOfMemory>
     ensures { IfOk result (λ mark. mark ≡ mark_with members.now marks) }
 {
-    let group = group_with(alloc, members, marks)?;
-    let (name, from, encode, sort) = four_parts(alloc, members, "name", "from", "encode", "sort")?;
+    let group = group_with(alloc, members, marks);
+    let own = four_parts(alloc, members, "name", "from", "encode", "sort");
+    let (group, (name, from, encode, sort)) = both(group, own)?;
     Ok(VgMark {
         group,
-        type_: needed_mark_type(members, "type"),
+        type_: named_or(members, "type", MarkType::Rect),
         name,
         from,
         encode,
@@ -94,8 +97,8 @@ fn mark_with(
     })
 }
 
-// Adds the mark of these members, the marks inside it being these. A mark is wide, so it stands on the stack only here, where nothing
-// inside it is read any more.
+// Adds the mark of these members, the marks inside it being these. A mark is wide, so it stands on the stack only below here, where
+// nothing inside it is read any more.
 #[inline(never)]
 fn push_mark(
     alloc: Global,
@@ -105,8 +108,7 @@ fn push_mark(
 ) -> Result<(), OutOfMemory>
     ensures { OnOk result (marks.new ≡ marks.old ++ mark_with members.now inside ∷ []) }
 {
-    let mark = mark_with(alloc, members, inside)?;
-    marks.push(mark)
+    push_made(marks, mark_with(alloc, members, inside))
 }
 
 // Adds the mark that a value is; one that is no object is a mark without members.
@@ -134,16 +136,25 @@ fn push_object_mark(
     push_mark(alloc, members, inside, marks)
 }
 
+// Adds the mark that each item is.
+#[cycle(marks)]
+fn push_marks(alloc: Global, items: &[Json], marks: &mut Seq<VgMark>) -> Result<(), OutOfMemory>
+    ensures { OnOk result (marks.new ≡ marks.old ++ map mark_of items.now) }
+{
+    for tree in items {
+        push_mark_of(alloc, tree, marks)?;
+    }
+    Ok(())
+}
+
 // The marks that each item is.
 #[cycle(marks)]
 fn marks_of(alloc: Global, items: &[Json]) -> Result<Seq<VgMark>, OutOfMemory>
     ensures { IfOk result (λ marks. marks ≡ map mark_of items.now) }
 {
     let mut marks = Seq::new(alloc);
-    for tree in items {
-        push_mark_of(alloc, tree, &mut marks)?;
-    }
-    Ok(marks)
+    let done = push_marks(alloc, items, &mut marks);
+    filled(done, marks)
 }
 
 // The marks that a list has.
@@ -219,15 +230,9 @@ fn spec_with(alloc: Global, members: &[Member]) -> Result<VgSpec, OutOfMemory>
     ensures { IfOk result (λ g. g ≡ spec_with members.now) }
 {
     let marks = marks_at(alloc, members)?;
-    let group = group_with(alloc, members, marks)?;
-    let (schema, description, width, height) = four_parts(
-        alloc,
-        members,
-        "$schema",
-        "description",
-        "width",
-        "height",
-    )?;
+    let group = group_with(alloc, members, marks);
+    let own = four_parts(alloc, members, "$schema", "description", "width", "height");
+    let (group, (schema, description, width, height)) = both(group, own)?;
     Ok(VgSpec {
         group,
         schema,
@@ -235,7 +240,7 @@ fn spec_with(alloc: Global, members: &[Member]) -> Result<VgSpec, OutOfMemory>
         width,
         height,
         padding: number_at(members, "padding"),
-        autosize: autosize_at(members, "autosize"),
+        autosize: named_at(members, "autosize"),
     })
 }
 

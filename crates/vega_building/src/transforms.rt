@@ -2,11 +2,12 @@
 ghost use Rattle.std.specs.Prelude.{◌≡◌, IfOk};
 ghost use Rattle.json_exact.specs.declared.json.Json.{out-Json};
 ghost use Rattle.tree_readers.specs.Parts.{members_of};
+ghost use Rattle.vega_spec.specs.declared.transforms.Transform.TheVariants as by_type;
 ghost use Rattle.vega_building.specs.Transforms.{filter_of, formula_of, extent_of, numbers_in, extent_signal, bin_extent_in, bin_extent_at};
 ghost use Rattle.vega_building.specs.Transforms.{needed_bin_extent, bin_of, time_unit_of, stack_of, fold_of, transform_by, transform_of};
 
-use crate::groupings::{aggregate_of, lookup_of, window_of};
-use crate::names::offset_at;
+use crate::groupings::{aggregate_of, join_aggregate_of, lookup_of, window_of};
+use crate::names::named_at;
 use crate::parts::{Item, Object, needed_expression};
 use crate::several::{Part, four_parts, three_parts, two_parts};
 use crate::tables::needed_time_unit;
@@ -17,28 +18,27 @@ use tree_readers::{member_value, needed_text, number_at, number_in, text_at};
 use vega_spec::{Bin, BinExtent, Extent, Filter, Fold, Formula, Stack, TimeUnit, Transform};
 
 // `filter`
-fn filter_of(alloc: Global, members: &[Member]) -> Result<Filter, OutOfMemory>
-    ensures { IfOk result (λ filter. filter ≡ filter_of members.now) }
+fn filter_of(alloc: Global, members: &[Member]) -> Result<Transform, OutOfMemory>
+    ensures { IfOk result (λ transform. transform ≡ by_type.Filter (filter_of members.now)) }
 {
-    Ok(Filter {
-        expr: needed_expression(alloc, members, "expr")?,
-    })
+    let expr = needed_expression(alloc, members, "expr")?;
+    Ok(Transform::Filter(Filter { expr }))
 }
 
 // `formula`
-fn formula_of(alloc: Global, members: &[Member]) -> Result<Formula, OutOfMemory>
-    ensures { IfOk result (λ formula. formula ≡ formula_of members.now) }
+fn formula_of(alloc: Global, members: &[Member]) -> Result<Transform, OutOfMemory>
+    ensures { IfOk result (λ transform. transform ≡ by_type.Formula (formula_of members.now)) }
 {
     let (expr, as_) = two_parts(alloc, members, "expr", "as")?;
-    Ok(Formula { expr, as_ })
+    Ok(Transform::Formula(Formula { expr, as_ }))
 }
 
 // `extent`
-fn extent_of(alloc: Global, members: &[Member]) -> Result<Extent, OutOfMemory>
-    ensures { IfOk result (λ extent. extent ≡ extent_of members.now) }
+fn extent_of(alloc: Global, members: &[Member]) -> Result<Transform, OutOfMemory>
+    ensures { IfOk result (λ transform. transform ≡ by_type.Extent (extent_of members.now)) }
 {
     let (field, signal) = two_parts(alloc, members, "field", "signal")?;
-    Ok(Extent { field, signal })
+    Ok(Transform::Extent(Extent { field, signal }))
 }
 
 // Two numbers.
@@ -107,79 +107,69 @@ impl Part for BinExtent {
 }
 
 // `bin`
-fn bin_of(alloc: Global, members: &[Member]) -> Result<Bin, OutOfMemory>
-    ensures { IfOk result (λ bin. bin ≡ bin_of members.now) }
+fn bin_of(alloc: Global, members: &[Member]) -> Result<Transform, OutOfMemory>
+    ensures { IfOk result (λ transform. transform ≡ by_type.Bin (bin_of members.now)) }
 {
     let (field, extent, as_) = three_parts(alloc, members, "field", "extent", "as")?;
-    Ok(Bin {
+    Ok(Transform::Bin(Bin {
         field,
         extent,
         maxbins: number_at(members, "maxbins"),
         step: number_at(members, "step"),
         as_,
-    })
+    }))
 }
 
 // `timeunit`
-fn time_unit_of(alloc: Global, members: &[Member]) -> Result<TimeUnit, OutOfMemory>
-    ensures { IfOk result (λ unit. unit ≡ time_unit_of members.now) }
+fn time_unit_of(alloc: Global, members: &[Member]) -> Result<Transform, OutOfMemory>
+    ensures { IfOk result (λ transform. transform ≡ by_type.TimeUnit (time_unit_of members.now)) }
 {
     let (field, as_) = two_parts(alloc, members, "field", "as")?;
-    Ok(TimeUnit {
+    Ok(Transform::TimeUnit(TimeUnit {
         field,
         units: needed_time_unit(members, "units"),
         as_,
-    })
+    }))
 }
 
 // `stack`
-fn stack_of(alloc: Global, members: &[Member]) -> Result<Stack, OutOfMemory>
-    ensures { IfOk result (λ stack. stack ≡ stack_of members.now) }
+fn stack_of(alloc: Global, members: &[Member]) -> Result<Transform, OutOfMemory>
+    ensures { IfOk result (λ transform. transform ≡ by_type.Stack (stack_of members.now)) }
 {
     let (groupby, field, sort, as_) = four_parts(alloc, members, "groupby", "field", "sort", "as")?;
-    Ok(Stack {
+    Ok(Transform::Stack(Stack {
         groupby,
         field,
         sort,
-        offset: offset_at(members, "offset"),
+        offset: named_at(members, "offset"),
         as_,
-    })
+    }))
 }
 
 // `fold`
-fn fold_of(alloc: Global, members: &[Member]) -> Result<Fold, OutOfMemory>
-    ensures { IfOk result (λ fold. fold ≡ fold_of members.now) }
+fn fold_of(alloc: Global, members: &[Member]) -> Result<Transform, OutOfMemory>
+    ensures { IfOk result (λ transform. transform ≡ by_type.Fold (fold_of members.now)) }
 {
     let (fields, as_) = two_parts(alloc, members, "fields", "as")?;
-    Ok(Fold { fields, as_ })
+    Ok(Transform::Fold(Fold { fields, as_ }))
 }
 
 // A transform by its type; one of no known type is a filter.
 fn transform_by(alloc: Global, name: &str, members: &[Member]) -> Result<Transform, OutOfMemory>
     ensures { IfOk result (λ transform. transform ≡ transform_by name.now members.now) }
 {
-    if name == "formula" {
-        Ok(Transform::Formula(formula_of(alloc, members)?))
-    } else if name == "extent" {
-        Ok(Transform::Extent(extent_of(alloc, members)?))
-    } else if name == "bin" {
-        Ok(Transform::Bin(bin_of(alloc, members)?))
-    } else if name == "timeunit" {
-        Ok(Transform::TimeUnit(time_unit_of(alloc, members)?))
-    } else if name == "aggregate" {
-        Ok(Transform::Aggregate(aggregate_of(alloc, members)?))
-    } else if name == "joinaggregate" {
-        Ok(Transform::JoinAggregate(aggregate_of(alloc, members)?))
-    } else if name == "stack" {
-        Ok(Transform::Stack(stack_of(alloc, members)?))
-    } else if name == "window" {
-        Ok(Transform::Window(window_of(alloc, members)?))
-    } else if name == "lookup" {
-        Ok(Transform::Lookup(lookup_of(alloc, members)?))
-    } else if name == "fold" {
-        Ok(Transform::Fold(fold_of(alloc, members)?))
-    } else {
-        Ok(Transform::Filter(filter_of(alloc, members)?))
+    match name {
+        "formula" => formula_of(alloc, members),
+        "extent" => extent_of(alloc, members),
+        "bin" => bin_of(alloc, members),
+        "timeunit" => time_unit_of(alloc, members),
+        "aggregate" => aggregate_of(alloc, members),
+        "joinaggregate" => join_aggregate_of(alloc, members),
+        "stack" => stack_of(alloc, members),
+        "window" => window_of(alloc, members),
+        "lookup" => lookup_of(alloc, members),
+        "fold" => fold_of(alloc, members),
+        _ => filter_of(alloc, members),
     }
 }
 

@@ -14,3 +14,4 @@ pub mod Expressions
 pub mod LabelFormats
 pub mod Parts
 pub mod Examples
+pub mod inner

@@ -1,5 +1,5 @@
 //! The values round a value.
-ghost use Rattle.std.specs.Prelude.{◌≡◌, ◌-◌, drop, length, map, reverse, IfOk};
+ghost use Rattle.std.specs.Prelude.{◌≡◌, ◌-◌, ◌++◌, ◌∷◌, [], drop, length, map, reverse, IfOk};
 ghost use Rattle.std.specs.List.{list_any};
 ghost use Rattle.vega_parts.specs.Trails.{is_group, is_object, has_facet, noted, place_of, child, grandchild, object_at, object_round};
 ghost use Rattle.vega_parts.specs.Trails.{scope_of, has_layout, is_object_itself, is_top, is_faceted, is_plot, is_in_plot};
@@ -12,7 +12,7 @@ use text_kit::{OutOfMemory, Seq};
 use vega_schema::{MARK, TOP};
 
 /// What is noted of a value on the way down to others.
-#[derive(Clone, Copy, Debug)]
+#[derive(Clone, Copy)]
 pub struct Around {
     /// Its number among its parent's children, counted from 0.
     pub number: usize,
@@ -105,6 +105,21 @@ pub fn grandchild(
 {
     let mut place = child(alloc, trail, number)?;
     place.push(inner)?;
+    Ok(place)
+}
+
+/// Where a child of that one stands.
+pub fn below_grandchild(
+    alloc: Global,
+    trail: &[Around],
+    number: usize,
+    inner: usize,
+    last: usize,
+) -> Result<Place, OutOfMemory>
+    ensures { IfOk result (λ place. place ≡ grandchild (reverse trail.now) number inner ++ last ∷ []) }
+{
+    let mut place = grandchild(alloc, trail, number, inner)?;
+    place.push(last)?;
     Ok(place)
 }
 

@@ -6,6 +6,7 @@ use crate::around::{Around, child, is_faceted, object_round, place_of, scope_of}
 use crate::members::{has_member, text_at};
 use crate::names::{push_fault, push_fault_member, push_given, push_used_member};
 use crate::part::{Given, Part, Used};
+use crate::several::{all_three, both};
 use json_exact::Json;
 use spec_schema::SpecKind;
 use std::alloc::Global;
@@ -25,8 +26,7 @@ fn push_source_name(
     if has_member(tree, "source") {
         return Ok(());
     }
-    let place = place_of(alloc, trail)?;
-    let at = child(alloc, trail, number)?;
+    let (place, at) = both(place_of(alloc, trail), child(alloc, trail, number))?;
     push_given(alloc, Given::Source, Seq::new(alloc), place, at, name, out)
 }
 
@@ -40,9 +40,11 @@ fn push_data_name(
 ) -> Result<(), OutOfMemory>
     ensures { OnOk result (out.new ≡ out.old ++ data_name (reverse trail.now) (number, name.now)) }
 {
-    let scope = scope_of(alloc, trail)?;
-    let place = place_of(alloc, trail)?;
-    let at = child(alloc, trail, number)?;
+    let (scope, place, at) = all_three(
+        scope_of(alloc, trail),
+        place_of(alloc, trail),
+        child(alloc, trail, number),
+    )?;
     push_given(alloc, Given::Data, scope, place, at, name, out)
 }
 

@@ -74,17 +74,17 @@ fn push_read_parts(
     alloc: Global,
     lengths: bool,
     trail: &[Around],
-    e: Option<Expr>,
+    e: &Option<Expr>,
     out: &mut Seq<Part>,
 ) -> Result<(), OutOfMemory>
-    ensures { OnOk result (out.new ≡ out.old ++ read_parts lengths (reverse trail.now) e) }
+    ensures { OnOk result (out.new ≡ out.old ++ read_parts lengths (reverse trail.now) e.now) }
 {
     match e {
         Some(e) => {
-            if has_domain_length(&e) && !lengths {
+            if has_domain_length(e) && !lengths {
                 push_fault(place_of(alloc, trail)?, SpecKind::Wrong, out)
             } else {
-                push_names_in(alloc, trail, &e, out)
+                push_names_in(alloc, trail, e, out)
             }
         }
         None => push_fault(place_of(alloc, trail)?, SpecKind::Wrong, out),
@@ -104,7 +104,9 @@ pub fn push_expression_parts(
     match text_in(tree) {
         Some(text) => {
             let e = expression_of(alloc, text)?;
-            push_read_parts(alloc, lengths, trail, e, out)
+            let pushed = push_read_parts(alloc, lengths, trail, &e, out);
+            drop(e);
+            pushed
         }
         None => Ok(()),
     }

@@ -12,6 +12,7 @@ use crate::lengths::{push_apart, push_other_length};
 use crate::members::{items_at, member_at, text_in};
 use crate::names::{push_given, push_used, push_used_items};
 use crate::part::{Given, Part, Used};
+use crate::several::{all_three, both};
 use json_exact::Json;
 use std::alloc::Global;
 use text_kit::{OutOfMemory, Seq};
@@ -36,9 +37,11 @@ fn push_name(
     ensures { OnOk result (out.new ≡ out.old
         ++ given kind (place_of (reverse scope.now)) (place_of (reverse trail.now)) at.now name.now ∷ []) }
 {
-    let scope = place_of(alloc, scope)?;
-    let of = place_of(alloc, trail)?;
-    let at = Seq::from_slice(alloc, at)?;
+    let (scope, of, at) = all_three(
+        place_of(alloc, scope),
+        place_of(alloc, trail),
+        Seq::from_slice(alloc, at),
+    )?;
     push_given(alloc, kind, scope, of, at, name, out)
 }
 
@@ -148,8 +151,10 @@ fn push_only_row(
 ) -> Result<(), OutOfMemory>
     ensures { OnOk result (out.new ≡ out.old ++ only_row (reverse trail.now) number name.now) }
 {
-    let scope = place_of(alloc, object_round(group_of(trail)))?;
-    let at = child(alloc, trail, number)?;
+    let (scope, at) = both(
+        place_of(alloc, object_round(group_of(trail))),
+        child(alloc, trail, number),
+    )?;
     push_used(alloc, Used::FacetRows, scope, at, name, out)
 }
 

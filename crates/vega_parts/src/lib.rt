@@ -14,6 +14,7 @@ mod part;
 mod parts;
 mod scales;
 mod selections;
+mod several;
 mod signals;
 mod transforms;
 mod updates;

@@ -8,6 +8,7 @@ use crate::around::{
 use crate::members::text_at;
 use crate::names::{push_fault, push_fault_member};
 use crate::part::Part;
+use crate::several::all_three;
 use json_exact::Json;
 use spec_schema::SpecKind;
 use std::alloc::Global;
@@ -32,9 +33,11 @@ fn push_mark_itself(
 ) -> Result<(), OutOfMemory>
     ensures { OnOk result (out.new ≡ out.old ++ mark_itself (reverse trail.now) tree.now) }
 {
-    let at = place_of(alloc, trail)?;
-    let scope = scope_of(alloc, trail)?;
-    let name = name_of(alloc, tree)?;
+    let (at, scope, name) = all_three(
+        place_of(alloc, trail),
+        scope_of(alloc, trail),
+        name_of(alloc, tree),
+    )?;
     let group = is_object_itself(trail);
     out.push(Part::Mark {
         at,

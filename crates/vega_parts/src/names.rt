@@ -1,11 +1,13 @@
 //! Parts that several rules give.
 ghost use Rattle.std.specs.Prelude.{◌≡◌, ◌++◌, ◌∷◌, [], map, reverse, OnOk};
 ghost use Rattle.vega_parts.specs.declared.part.Part.TheVariants.{Fault};
+ghost use Rattle.vega_parts.specs.Trails.{place_of, scope_of};
 ghost use Rattle.vega_parts.specs.Names.{given, used, used_member, fault_member, used_item, used_items, used_names};
 
 use crate::around::{Around, child, grandchild, place_of, scope_of};
 use crate::members::{member_at, text_at, text_in};
 use crate::part::{Given, GivenName, Part, Place, Used, UsedName};
+use crate::several::{beside, both};
 use json_exact::Json;
 use spec_schema::SpecKind;
 use std::alloc::Global;
@@ -23,7 +25,7 @@ pub fn push_given(
 ) -> Result<(), OutOfMemory>
     ensures { OnOk result (out.new ≡ out.old ++ given kind scope of at name.now ∷ []) }
 {
-    let name = Text::of(alloc, name)?;
+    let ((scope, of, at), name) = beside((scope, of, at), Text::of(alloc, name))?;
     out.push(Part::Given(GivenName {
         kind,
         scope,
@@ -45,7 +47,7 @@ pub fn push_used(
 ) -> Result<(), OutOfMemory>
     ensures { OnOk result (out.new ≡ out.old ++ used kind scope at name.now ∷ []) }
 {
-    let name = Text::of(alloc, name)?;
+    let ((scope, at), name) = beside((scope, at), Text::of(alloc, name))?;
     out.push(Part::Used(UsedName {
         kind,
         scope,
@@ -67,9 +69,8 @@ pub fn push_used_member(
 {
     match text_at(tree, name) {
         Some((number, text)) => {
-            let scope = scope_of(alloc, trail)?;
-            let place = child(alloc, trail, number)?;
-            push_used(alloc, kind, scope, place, text, out)
+            let (scope, at) = both(scope_of(alloc, trail), child(alloc, trail, number))?;
+            push_used(alloc, kind, scope, at, text, out)
         }
         None => Ok(()),
     }
@@ -114,8 +115,10 @@ fn push_used_item(
 {
     match text_in(item) {
         Some(name) => {
-            let scope = place_of(alloc, object)?;
-            let at = grandchild(alloc, trail, number, inner)?;
+            let (scope, at) = both(
+                place_of(alloc, object),
+                grandchild(alloc, trail, number, inner),
+            )?;
             push_used(alloc, kind, scope, at, name, out)
         }
         None => Ok(()),
@@ -140,6 +143,20 @@ pub fn push_used_items(
     Ok(())
 }
 
+// Adds a name that a value itself uses.
+fn push_used_name(
+    alloc: Global,
+    kind: Used,
+    trail: &[Around],
+    name: &str,
+    out: &mut Seq<Part>,
+) -> Result<(), OutOfMemory>
+    ensures { OnOk result (out.new ≡ out.old ++ used kind (scope_of (reverse trail.now)) (place_of (reverse trail.now)) name.now ∷ []) }
+{
+    let (scope, at) = both(scope_of(alloc, trail), place_of(alloc, trail))?;
+    push_used(alloc, kind, scope, at, name, out)
+}
+
 /// Adds names that a value itself uses.
 pub fn push_used_names(
     alloc: Global,
@@ -151,9 +168,7 @@ pub fn push_used_names(
     ensures { OnOk result (out.new ≡ out.old ++ used_names kind (reverse trail.now) (map (λ n. n.now) names.now)) }
 {
     for name in names {
-        let scope = scope_of(alloc, trail)?;
-        let at = place_of(alloc, trail)?;
-        push_used(alloc, kind, scope, at, name, out)?;
+        push_used_name(alloc, kind, trail, name, out)?;
     }
     Ok(())
 }

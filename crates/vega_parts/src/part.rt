@@ -8,7 +8,7 @@ pub type Place = Seq<usize>;
 
 /// What the rules that look around have to know of a specification. A scope is the place of the object, the top or a group,
 /// that has a name or in which it is looked up.
-#[derive(Debug, Drop)]
+#[derive(Drop)]
 pub enum Part {
     /// A fault that shows where it stands.
     Fault {
@@ -72,7 +72,7 @@ pub enum Part {
 }
 
 /// A name that is given to something.
-#[derive(Debug, Drop)]
+#[derive(Drop)]
 pub struct GivenName {
     /// To what it is given.
     pub kind: Given,
@@ -89,7 +89,7 @@ pub struct GivenName {
 }
 
 /// To what a name is given.
-#[derive(Clone, Copy, Debug, PartialEq, Eq)]
+#[derive(Clone, Copy, PartialEq, Eq)]
 pub enum Given {
     /// A data set.
     Data,
@@ -112,7 +112,7 @@ pub enum Given {
 }
 
 /// What the rules ask of a scale.
-#[derive(Clone, Copy, Debug)]
+#[derive(Clone, Copy)]
 pub struct ScaleTraits {
     /// Its type.
     pub type_: ScaleType,
@@ -123,7 +123,7 @@ pub struct ScaleTraits {
 }
 
 /// The type of a scale.
-#[derive(Clone, Copy, Debug, PartialEq, Eq)]
+#[derive(Clone, Copy, PartialEq, Eq)]
 pub enum ScaleType {
     Linear,
     Time,
@@ -135,7 +135,7 @@ pub enum ScaleType {
 }
 
 /// The range of a scale.
-#[derive(Clone, Copy, Debug, PartialEq, Eq)]
+#[derive(Clone, Copy, PartialEq, Eq)]
 pub enum RangeKind {
     /// The width of the plot.
     Width,
@@ -148,7 +148,7 @@ pub enum RangeKind {
 }
 
 /// A name that is used.
-#[derive(Debug, Drop)]
+#[derive(Drop)]
 pub struct UsedName {
     /// For what it is used.
     pub kind: Used,
@@ -161,7 +161,7 @@ pub struct UsedName {
 }
 
 /// For what a name is used.
-#[derive(Clone, Copy, Debug, PartialEq, Eq)]
+#[derive(Clone, Copy, PartialEq, Eq)]
 pub enum Used {
     /// The data set from which another takes its rows.
     Source,

@@ -2,6 +2,7 @@
 ghost use Rattle.std.specs.Prelude.{◌≡◌, ◌++◌, reverse, IfOk, OnOk};
 ghost use Rattle.vega_parts.specs.Parts.{signal_itself, signal_parts, leaf_parts, use_parts, is_value, is_size, guide_parts, mark_side};
 ghost use Rattle.vega_parts.specs.Parts.{by_shape, parts_at, parts_of};
+ghost use Rattle.vega_parts.specs.inner.Gathered.{parts_by};
 
 use crate::around::{Around, noted};
 use crate::data::push_data_parts;
@@ -17,6 +18,7 @@ use crate::selections::push_update_parts;
 use crate::signals::{push_mark_names, push_on_in_group, push_selectors, push_signal_names};
 use crate::transforms::push_transform_parts;
 use json_exact::Json;
+use spec_schema::Schema;
 use spec_walk::{Visitor, walk};
 use std::alloc::Global;
 use text_kit::{OutOfMemory, Seq};
@@ -234,16 +236,25 @@ impl Visitor for Gathering {
     }
 }
 
+// The parts of a specification, as a walk by a schema gives them.
+fn parts_by(alloc: Global, schema: &Schema, tree: &Json) -> Result<Seq<Part>, OutOfMemory>
+    ensures { IfOk result (λ parts. parts ≡ parts_by schema.now tree.now) }
+{
+    let mut gathering = Gathering {
+        trail: Seq::new(alloc),
+        parts: Seq::new(alloc),
+    };
+    walk(alloc, schema, tree, 0, TOP, &mut gathering)?;
+    let Gathering { trail: _, parts } = gathering;
+    Ok(parts)
+}
+
 /// The parts of a specification, in the order of the text.
 pub fn parts_of(alloc: Global, tree: &Json) -> Result<Seq<Part>, OutOfMemory>
     ensures { IfOk result (λ parts. parts ≡ parts_of tree.now) }
 {
     let schema = vega_schema(alloc)?;
-    let mut gathering = Gathering {
-        trail: Seq::new(alloc),
-        parts: Seq::new(alloc),
-    };
-    walk(alloc, &schema, tree, 0, TOP, &mut gathering)?;
-    let Gathering { trail: _, parts } = gathering;
-    Ok(parts)
+    let parts = parts_by(alloc, &schema, tree);
+    drop(schema);
+    parts
 }

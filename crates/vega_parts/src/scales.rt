@@ -10,6 +10,7 @@ use crate::around::{
 use crate::members::text_at;
 use crate::names::push_used_member;
 use crate::part::{Given, GivenName, Part, RangeKind, ScaleTraits, ScaleType, Used};
+use crate::several::all_four;
 use json_exact::Json;
 use std::alloc::Global;
 use text_kit::{OutOfMemory, Seq, Text};
@@ -97,10 +98,12 @@ fn push_scale_name(
 ) -> Result<(), OutOfMemory>
     ensures { OnOk result (out.new ≡ out.old ++ scale_name (reverse trail.now) tree.now (number, name.now)) }
 {
-    let scope = scope_of(alloc, trail)?;
-    let of = place_of(alloc, trail)?;
-    let at = child(alloc, trail, number)?;
-    let name = Text::of(alloc, name)?;
+    let (scope, of, at, name) = all_four(
+        scope_of(alloc, trail),
+        place_of(alloc, trail),
+        child(alloc, trail, number),
+        Text::of(alloc, name),
+    )?;
     out.push(Part::Given(GivenName {
         kind: Given::Scale,
         scope,

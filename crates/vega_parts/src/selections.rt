@@ -9,10 +9,11 @@ ghost use Rattle.vega_parts.specs.Selections.{clashes_with, is_wrong_alone, is_w
 ghost use Rattle.vega_parts.specs.Selections.{intervals_of, entry_intervals, entry_parts, entries_parts, texts_of, marks_of, concerned_by};
 ghost use Rattle.vega_parts.specs.Selections.{own_name, updates_in, update_parts};
 
-use crate::around::{Around, grandchild, scope_of};
+use crate::around::{Around, below_grandchild, scope_of};
 use crate::members::{items_at, text_at, text_in};
 use crate::names::push_fault;
 use crate::part::{Part, Place};
+use crate::several::{all_four, all_three, both};
 use crate::updates::{
     Update, channels_fit, clash, fields_of, is_drag, is_selector, is_update_of, stands_with,
     update_of,
@@ -23,7 +24,7 @@ use std::alloc::Global;
 use text_kit::{Copies, OutOfMemory, Seq, Text};
 
 /// An entry of a signal's event updates.
-#[derive(Debug, Drop)]
+#[derive(Drop)]
 pub struct Entry {
     /// Where its update stands.
     pub at: Place,
@@ -34,7 +35,7 @@ pub struct Entry {
 }
 
 /// What a signal concerns.
-#[derive(Debug, Drop)]
+#[derive(Drop)]
 pub struct Concerned {
     /// The name of the signal, where it has one.
     pub own: Option<Text>,
@@ -56,10 +57,11 @@ fn entry_with(
 ) -> Result<Entry, OutOfMemory>
     ensures { IfOk result (λ e. e ≡ entry_with (reverse trail.now) number inner events.now (update, text.now)) }
 {
-    let mut at = grandchild(alloc, trail, number, inner)?;
-    at.push(update)?;
-    let events = Text::of(alloc, events)?;
-    let update = update_of(alloc, text)?;
+    let (at, events, update) = all_three(
+        below_grandchild(alloc, trail, number, inner, update),
+        Text::of(alloc, events),
+        update_of(alloc, text),
+    )?;
     Ok(Entry { at, events, update })
 }
 
@@ -251,10 +253,12 @@ fn push_interval(
 ) -> Result<(), OutOfMemory>
     ensures { OnOk result (out.new ≡ out.old ++ interval concerned.now at.now scale.now) }
 {
-    let at = Seq::from_slice(alloc, at)?;
-    let scope = Seq::from_slice(alloc, concerned.scope.as_slice())?;
-    let scale = Text::of(alloc, scale)?;
-    let marks = Copies::copied(&concerned.marks, alloc)?;
+    let (at, scope, scale, marks) = all_four(
+        Seq::from_slice(alloc, at),
+        Seq::from_slice(alloc, concerned.scope.as_slice()),
+        Text::of(alloc, scale),
+        Copies::copied(&concerned.marks, alloc),
+    )?;
     out.push(Part::Interval {
         at,
         scope,
@@ -380,9 +384,11 @@ fn marks_of(alloc: Global, tree: &Json) -> Result<Option<Seq<Text>>, OutOfMemory
 fn concerned_by(alloc: Global, trail: &[Around], tree: &Json) -> Result<Concerned, OutOfMemory>
     ensures { IfOk result (λ c. c ≡ concerned_by (reverse trail.now) tree.now) }
 {
-    let own = own_name(alloc, tree)?;
-    let scope = scope_of(alloc, trail)?;
-    let marks = marks_of(alloc, tree)?;
+    let (own, scope, marks) = all_three(
+        own_name(alloc, tree),
+        scope_of(alloc, trail),
+        marks_of(alloc, tree),
+    )?;
     Ok(Concerned { own, scope, marks })
 }
 
@@ -407,9 +413,14 @@ fn push_updates_in(
 ) -> Result<(), OutOfMemory>
     ensures { OnOk result (out.new ≡ out.old ++ updates_in (reverse trail.now) tree.now number items.now) }
 {
-    let entries = entries_of(alloc, trail, number, items)?;
-    let concerned = concerned_by(alloc, trail, tree)?;
-    push_entries_parts(alloc, &concerned, entries.as_slice(), out)
+    let (entries, concerned) = both(
+        entries_of(alloc, trail, number, items),
+        concerned_by(alloc, trail, tree),
+    )?;
+    let pushed = push_entries_parts(alloc, &concerned, entries.as_slice(), out);
+    drop(entries);
+    drop(concerned);
+    pushed
 }
 
 /// Adds what the event updates of a signal give.

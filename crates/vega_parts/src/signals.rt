@@ -2,10 +2,13 @@
 ghost use Rattle.std.specs.Prelude.{◌≡◌, ◌++◌, reverse, OnOk};
 ghost use Rattle.vega_parts.specs.Signals.{signal_name, store_name, signal_names, on_in_group, mark_names, selector, selectors_in, selectors};
 
-use crate::around::{Around, child, grandchild, is_top, object_round, place_of, scope_of};
+use crate::around::{
+    Around, below_grandchild, child, grandchild, is_top, object_round, place_of, scope_of,
+};
 use crate::members::{has_member, items_at, text_at};
 use crate::names::{push_fault_member, push_given, push_used_items};
 use crate::part::{Given, Part, Used};
+use crate::several::all_three;
 use json_exact::Json;
 use spec_schema::SpecKind;
 use std::alloc::Global;
@@ -21,9 +24,11 @@ fn push_signal_name(
 ) -> Result<(), OutOfMemory>
     ensures { OnOk result (out.new ≡ out.old ++ signal_name (reverse trail.now) (number, name.now)) }
 {
-    let scope = scope_of(alloc, trail)?;
-    let place = place_of(alloc, trail)?;
-    let at = child(alloc, trail, number)?;
+    let (scope, place, at) = all_three(
+        scope_of(alloc, trail),
+        place_of(alloc, trail),
+        child(alloc, trail, number),
+    )?;
     push_given(alloc, Given::Signal, scope, place, at, name, out)
 }
 
@@ -39,9 +44,11 @@ fn push_store_name(
     ensures { OnOk result (out.new ≡ out.old ++ store_name (reverse trail.now) tree.now (number, name.now)) }
 {
     if has_member(tree, "on") && is_top(object_round(trail)) {
-        let scope = scope_of(alloc, trail)?;
-        let place = place_of(alloc, trail)?;
-        let at = child(alloc, trail, number)?;
+        let (scope, place, at) = all_three(
+            scope_of(alloc, trail),
+            place_of(alloc, trail),
+            child(alloc, trail, number),
+        )?;
         push_given(alloc, Given::Store, scope, place, at, name, out)
     } else {
         Ok(())
@@ -118,10 +125,11 @@ fn push_selector(
 {
     match text_at(entry, "events") {
         Some((events, name)) => {
-            let scope = place_of(alloc, trail)?;
-            let of = grandchild(alloc, trail, number, inner)?;
-            let mut at = grandchild(alloc, trail, number, inner)?;
-            at.push(events)?;
+            let (scope, of, at) = all_three(
+                place_of(alloc, trail),
+                grandchild(alloc, trail, number, inner),
+                below_grandchild(alloc, trail, number, inner, events),
+            )?;
             push_given(alloc, Given::Selector, scope, of, at, name, out)
         }
         None => Ok(()),

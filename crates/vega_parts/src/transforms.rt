@@ -8,6 +8,7 @@ use crate::lengths::push_other_length;
 use crate::members::{has_member, items_at, says_text, text_at};
 use crate::names::{push_fault, push_given, push_used_member};
 use crate::part::{Given, Part, Place, Used};
+use crate::several::{all_three, both};
 use json_exact::Json;
 use spec_schema::SpecKind;
 use std::alloc::Global;
@@ -31,9 +32,11 @@ fn push_extent_name(
 {
     match text_at(tree, "signal") {
         Some((number, name)) => {
-            let scope = scope_of(alloc, trail)?;
-            let place = place_of(alloc, trail)?;
-            let at = child(alloc, trail, number)?;
+            let (scope, place, at) = all_three(
+                scope_of(alloc, trail),
+                place_of(alloc, trail),
+                child(alloc, trail, number),
+            )?;
             push_given(alloc, Given::Signal, scope, place, at, name, out)
         }
         None => Ok(()),
@@ -147,8 +150,7 @@ fn push_fold_fields(
 {
     match items_at(tree, "fields") {
         Some((_, items)) => {
-            let at = place_of(alloc, trail)?;
-            let data = data_of(alloc, trail)?;
+            let (at, data) = both(place_of(alloc, trail), data_of(alloc, trail))?;
             let fields = items.len();
             out.push(Part::Fold { at, data, fields })
         }
@@ -184,8 +186,7 @@ fn push_by_type(
 fn push_step(alloc: Global, trail: &[Around], out: &mut Seq<Part>) -> Result<(), OutOfMemory>
     ensures { OnOk result (out.new ≡ out.old ++ step (reverse trail.now)) }
 {
-    let at = place_of(alloc, trail)?;
-    let data = data_of(alloc, trail)?;
+    let (at, data) = both(place_of(alloc, trail), data_of(alloc, trail))?;
     out.push(Part::Step { at, data })
 }
 

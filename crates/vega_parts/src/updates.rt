@@ -14,7 +14,7 @@ use std::collections::BTreeSet;
 use text_kit::{OutOfMemory, Seq, Text};
 
 /// How an update changes a selection.
-#[derive(Clone, Copy, Debug)]
+#[derive(Clone, Copy)]
 pub enum Change {
     /// To what was clicked.
     Point,
@@ -27,7 +27,7 @@ pub enum Change {
 }
 
 /// An update of a selection.
-#[derive(Debug, Drop)]
+#[derive(Drop)]
 pub struct Update {
     /// How it changes the selection.
     pub change: Change,

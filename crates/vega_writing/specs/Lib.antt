@@ -12,3 +12,4 @@ pub mod Scales
 pub mod Signals
 pub mod Transforms
 pub mod Spec
+pub mod inner

@@ -1,8 +1,9 @@
 // The trees of data sets.
 ghost use Rattle.std.specs.Prelude.{◌≡◌, IfOk, option_map};
-ghost use Rattle.vega_writing.specs.Data.{data_set_tree, format_kind_tree, format_tree, parse_kind_tree, parse_tree};
+ghost use Rattle.vega_writing.specs.Data.{data_set_tree, format_kind_tree, format_tree, parse_kind_tree, parse_member, parse_tree};
 
-use crate::slots::{object, put, put_if, put_tree};
+use crate::several::both;
+use crate::slots::{no_slots, object, with, with_if, with_tree_if};
 use crate::trees::{Written, word};
 use json_exact::{Json, Member};
 use std::alloc::Global;
@@ -40,13 +41,13 @@ impl Written for DataSet {
 
     #[tactic(auto, unfolding(crate::specs::Data::data_set_slots))]
     fn tree(&self, alloc: Global) -> Result<Json, OutOfMemory> {
-        let mut slots = Seq::new(alloc);
-        put(alloc, &mut slots, "name", &self.name)?;
-        put_tree(alloc, &mut slots, "values", copied(alloc, &self.values)?)?;
-        put_if(alloc, &mut slots, "url", &self.url)?;
-        put_if(alloc, &mut slots, "format", &self.format)?;
-        put_if(alloc, &mut slots, "source", &self.source)?;
-        put_if(alloc, &mut slots, "transform", &self.transform)?;
+        let slots = no_slots(alloc);
+        let slots = with(alloc, slots, "name", &self.name);
+        let slots = with_tree_if(alloc, slots, "values", copied(alloc, &self.values));
+        let slots = with_if(alloc, slots, "url", &self.url);
+        let slots = with_if(alloc, slots, "format", &self.format);
+        let slots = with_if(alloc, slots, "source", &self.source);
+        let slots = with_if(alloc, slots, "transform", &self.transform);
         object(alloc, slots)
     }
 }
@@ -56,16 +57,19 @@ impl Written for Format {
 
     #[tactic(auto, unfolding(crate::specs::Data::format_slots))]
     fn tree(&self, alloc: Global) -> Result<Json, OutOfMemory> {
-        let mut slots = Seq::new(alloc);
-        put_if(alloc, &mut slots, "type", &self.type_)?;
-        put_tree(
-            alloc,
-            &mut slots,
-            "parse",
-            parse_tree_if(alloc, &self.parse)?,
-        )?;
+        let slots = no_slots(alloc);
+        let slots = with_if(alloc, slots, "type", &self.type_);
+        let slots = with_tree_if(alloc, slots, "parse", parse_tree_if(alloc, &self.parse));
         object(alloc, slots)
     }
+}
+
+// How the texts of a field are read, under its name.
+fn parse_member(alloc: Global, name: &Text, kind: ParseKind) -> Result<Member, OutOfMemory>
+    ensures { IfOk result (λ member. member ≡ parse_member (name.now, kind)) }
+{
+    let (name, value) = both(name.copy(), kind.tree(alloc))?;
+    Ok(Member { name, value })
 }
 
 // How the texts of fields are read.
@@ -75,9 +79,7 @@ fn parse_tree(alloc: Global, fields: &Seq<(Text, ParseKind)>) -> Result<Json, Ou
 {
     let mut members = Seq::new(alloc);
     for (name, kind) in fields.as_slice() {
-        let name = name.copy()?;
-        let value = kind.tree(alloc)?;
-        members.push(Member { name, value })?;
+        members.push(parse_member(alloc, name, *kind)?)?;
     }
     Ok(Json::Object(members))
 }

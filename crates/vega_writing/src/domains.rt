@@ -5,11 +5,11 @@ ghost use Rattle.vega_writing.specs.Domains.{field_domain_tree, fields_domain_tr
 ghost use Rattle.vega_spec.specs.declared.domains.DomainOrder.TheVariants as order_of;
 
 use crate::names::operation_tree;
-use crate::slots::{object, put, put_if, put_tree};
+use crate::slots::{no_slots, object, with, with_if, with_tree};
 use crate::trees::{Written, computed_tree};
 use json_exact::Json;
 use std::alloc::Global;
-use text_kit::{OutOfMemory, Seq, Text};
+use text_kit::{OutOfMemory, Text};
 use vega_spec::{Domain, DomainOrder, FieldDomain, FieldsDomain, Order, Reference};
 
 impl Written for FieldDomain {
@@ -17,10 +17,10 @@ impl Written for FieldDomain {
 
     #[tactic(auto, unfolding(crate::specs::Domains::field_domain_slots))]
     fn tree(&self, alloc: Global) -> Result<Json, OutOfMemory> {
-        let mut slots = Seq::new(alloc);
-        put(alloc, &mut slots, "data", &self.data_)?;
-        put(alloc, &mut slots, "field", &self.field)?;
-        put_if(alloc, &mut slots, "sort", &self.sort)?;
+        let slots = no_slots(alloc);
+        let slots = with(alloc, slots, "data", &self.data_);
+        let slots = with(alloc, slots, "field", &self.field);
+        let slots = with_if(alloc, slots, "sort", &self.sort);
         object(alloc, slots)
     }
 }
@@ -30,9 +30,9 @@ impl Written for FieldsDomain {
 
     #[tactic(auto, unfolding(crate::specs::Domains::fields_domain_slots))]
     fn tree(&self, alloc: Global) -> Result<Json, OutOfMemory> {
-        let mut slots = Seq::new(alloc);
-        put(alloc, &mut slots, "fields", &self.fields)?;
-        put_if(alloc, &mut slots, "sort", &self.sort)?;
+        let slots = no_slots(alloc);
+        let slots = with(alloc, slots, "fields", &self.fields);
+        let slots = with_if(alloc, slots, "sort", &self.sort);
         object(alloc, slots)
     }
 }
@@ -42,9 +42,9 @@ impl Written for Reference {
 
     #[tactic(auto, unfolding(crate::specs::Domains::reference_slots))]
     fn tree(&self, alloc: Global) -> Result<Json, OutOfMemory> {
-        let mut slots = Seq::new(alloc);
-        put(alloc, &mut slots, "data", &self.data_)?;
-        put(alloc, &mut slots, "field", &self.field)?;
+        let slots = no_slots(alloc);
+        let slots = with(alloc, slots, "data", &self.data_);
+        let slots = with(alloc, slots, "field", &self.field);
         object(alloc, slots)
     }
 }
@@ -69,8 +69,8 @@ impl Written for DomainOrder {
 fn order_by_cells(alloc: Global, order: &Option<Order>) -> Result<Json, OutOfMemory>
     ensures { IfOk result (λ tree. tree ≡ domain_order_tree (order_of.Cells order.now)) }
 {
-    let mut slots = Seq::new(alloc);
-    put_if(alloc, &mut slots, "order", order)?;
+    let slots = no_slots(alloc);
+    let slots = with_if(alloc, slots, "order", order);
     object(alloc, slots)
 }
 
@@ -84,10 +84,10 @@ fn order_by_operation(
 ) -> Result<Json, OutOfMemory>
     ensures { IfOk result (λ tree. tree ≡ domain_order_tree (order_of.Operation order.now op field.now)) }
 {
-    let mut slots = Seq::new(alloc);
-    put_if(alloc, &mut slots, "order", order)?;
-    put_tree(alloc, &mut slots, "op", Some(operation_tree(alloc, op)?))?;
-    put(alloc, &mut slots, "field", field)?;
+    let slots = no_slots(alloc);
+    let slots = with_if(alloc, slots, "order", order);
+    let slots = with_tree(alloc, slots, "op", operation_tree(alloc, op));
+    let slots = with(alloc, slots, "field", field);
     object(alloc, slots)
 }
 

@@ -1,11 +1,11 @@
 // The trees of encode sets.
 ghost use Rattle.vega_writing.specs.Encode.{channel_tree, channel_value_tree, channels_tree, encode_tree};
 
-use crate::slots::{object, put_if};
+use crate::slots::{no_slots, object, with_if};
 use crate::trees::Written;
 use json_exact::Json;
 use std::alloc::Global;
-use text_kit::{OutOfMemory, Seq};
+use text_kit::OutOfMemory;
 use vega_spec::{Channel, ChannelValue, Channels, Encode};
 
 impl Written for Encode {
@@ -13,9 +13,9 @@ impl Written for Encode {
 
     #[tactic(auto, unfolding(crate::specs::Encode::encode_slots))]
     fn tree(&self, alloc: Global) -> Result<Json, OutOfMemory> {
-        let mut slots = Seq::new(alloc);
-        put_if(alloc, &mut slots, "enter", &self.enter)?;
-        put_if(alloc, &mut slots, "update", &self.update)?;
+        let slots = no_slots(alloc);
+        let slots = with_if(alloc, slots, "enter", &self.enter);
+        let slots = with_if(alloc, slots, "update", &self.update);
         object(alloc, slots)
     }
 }
@@ -25,27 +25,27 @@ impl Written for Channels {
 
     #[tactic(auto, unfolding(crate::specs::Encode::channels_slots))]
     fn tree(&self, alloc: Global) -> Result<Json, OutOfMemory> {
-        let mut slots = Seq::new(alloc);
-        put_if(alloc, &mut slots, "x", &self.x)?;
-        put_if(alloc, &mut slots, "x2", &self.x2)?;
-        put_if(alloc, &mut slots, "xc", &self.xc)?;
-        put_if(alloc, &mut slots, "width", &self.width)?;
-        put_if(alloc, &mut slots, "y", &self.y)?;
-        put_if(alloc, &mut slots, "y2", &self.y2)?;
-        put_if(alloc, &mut slots, "yc", &self.yc)?;
-        put_if(alloc, &mut slots, "height", &self.height)?;
-        put_if(alloc, &mut slots, "fill", &self.fill)?;
-        put_if(alloc, &mut slots, "stroke", &self.stroke)?;
-        put_if(alloc, &mut slots, "strokeWidth", &self.stroke_width)?;
-        put_if(alloc, &mut slots, "opacity", &self.opacity)?;
-        put_if(alloc, &mut slots, "size", &self.size)?;
-        put_if(alloc, &mut slots, "shape", &self.shape)?;
-        put_if(alloc, &mut slots, "text", &self.text)?;
-        put_if(alloc, &mut slots, "align", &self.align)?;
-        put_if(alloc, &mut slots, "baseline", &self.baseline)?;
-        put_if(alloc, &mut slots, "dx", &self.dx)?;
-        put_if(alloc, &mut slots, "dy", &self.dy)?;
-        put_if(alloc, &mut slots, "fontSize", &self.font_size)?;
+        let slots = no_slots(alloc);
+        let slots = with_if(alloc, slots, "x", &self.x);
+        let slots = with_if(alloc, slots, "x2", &self.x2);
+        let slots = with_if(alloc, slots, "xc", &self.xc);
+        let slots = with_if(alloc, slots, "width", &self.width);
+        let slots = with_if(alloc, slots, "y", &self.y);
+        let slots = with_if(alloc, slots, "y2", &self.y2);
+        let slots = with_if(alloc, slots, "yc", &self.yc);
+        let slots = with_if(alloc, slots, "height", &self.height);
+        let slots = with_if(alloc, slots, "fill", &self.fill);
+        let slots = with_if(alloc, slots, "stroke", &self.stroke);
+        let slots = with_if(alloc, slots, "strokeWidth", &self.stroke_width);
+        let slots = with_if(alloc, slots, "opacity", &self.opacity);
+        let slots = with_if(alloc, slots, "size", &self.size);
+        let slots = with_if(alloc, slots, "shape", &self.shape);
+        let slots = with_if(alloc, slots, "text", &self.text);
+        let slots = with_if(alloc, slots, "align", &self.align);
+        let slots = with_if(alloc, slots, "baseline", &self.baseline);
+        let slots = with_if(alloc, slots, "dx", &self.dx);
+        let slots = with_if(alloc, slots, "dy", &self.dy);
+        let slots = with_if(alloc, slots, "fontSize", &self.font_size);
         object(alloc, slots)
     }
 }
@@ -55,15 +55,15 @@ impl Written for ChannelValue {
 
     #[tactic(auto, unfolding(crate::specs::Encode::channel_value_slots))]
     fn tree(&self, alloc: Global) -> Result<Json, OutOfMemory> {
-        let mut slots = Seq::new(alloc);
-        put_if(alloc, &mut slots, "value", &self.value)?;
-        put_if(alloc, &mut slots, "field", &self.field)?;
-        put_if(alloc, &mut slots, "scale", &self.scale)?;
-        put_if(alloc, &mut slots, "band", &self.band)?;
-        put_if(alloc, &mut slots, "offset", &self.offset)?;
-        put_if(alloc, &mut slots, "signal", &self.signal)?;
-        put_if(alloc, &mut slots, "test", &self.test)?;
-        put_if(alloc, &mut slots, "format", &self.format)?;
+        let slots = no_slots(alloc);
+        let slots = with_if(alloc, slots, "value", &self.value);
+        let slots = with_if(alloc, slots, "field", &self.field);
+        let slots = with_if(alloc, slots, "scale", &self.scale);
+        let slots = with_if(alloc, slots, "band", &self.band);
+        let slots = with_if(alloc, slots, "offset", &self.offset);
+        let slots = with_if(alloc, slots, "signal", &self.signal);
+        let slots = with_if(alloc, slots, "test", &self.test);
+        let slots = with_if(alloc, slots, "format", &self.format);
         object(alloc, slots)
     }
 }

@@ -3,11 +3,12 @@ ghost use Rattle.std.specs.Prelude.{◌≡◌, IfOk};
 ghost use Rattle.vega_writing.specs.Groupings.{aggregate_tree, frame_tree, lookup_tree, window_tree};
 
 use crate::names::{operations_tree, operations_tree_if};
-use crate::slots::{object, put, put_if, put_tree, put_word};
+use crate::several::list_of_two;
+use crate::slots::{no_slots, object, with, with_if, with_tree, with_tree_if, with_word};
 use crate::trees::Written;
 use json_exact::Json;
 use std::alloc::Global;
-use text_kit::{OutOfMemory, Seq};
+use text_kit::OutOfMemory;
 use vega_spec::{Aggregate, Frame, Lookup, Window};
 
 // An aggregate, whose type is this word.
@@ -15,17 +16,17 @@ use vega_spec::{Aggregate, Frame, Lookup, Window};
 pub fn aggregate_tree(alloc: Global, word: &str, aggregate: &Aggregate) -> Result<Json, OutOfMemory>
     ensures { IfOk result (λ tree. tree ≡ aggregate_tree word.now aggregate.now) }
 {
-    let mut slots = Seq::new(alloc);
-    put_word(alloc, &mut slots, "type", word)?;
-    put_if(alloc, &mut slots, "groupby", &aggregate.groupby)?;
-    put_tree(
+    let slots = no_slots(alloc);
+    let slots = with_word(alloc, slots, "type", word);
+    let slots = with_if(alloc, slots, "groupby", &aggregate.groupby);
+    let slots = with_tree_if(
         alloc,
-        &mut slots,
+        slots,
         "ops",
-        operations_tree_if(alloc, &aggregate.ops)?,
-    )?;
-    put_if(alloc, &mut slots, "fields", &aggregate.fields)?;
-    put_if(alloc, &mut slots, "as", &aggregate.as_)?;
+        operations_tree_if(alloc, &aggregate.ops),
+    );
+    let slots = with_if(alloc, slots, "fields", &aggregate.fields);
+    let slots = with_if(alloc, slots, "as", &aggregate.as_);
     object(alloc, slots)
 }
 
@@ -34,21 +35,16 @@ impl Written for Window {
 
     #[tactic(auto, unfolding(crate::specs::Groupings::window_slots))]
     fn tree(&self, alloc: Global) -> Result<Json, OutOfMemory> {
-        let mut slots = Seq::new(alloc);
-        put_word(alloc, &mut slots, "type", "window")?;
-        put_tree(
-            alloc,
-            &mut slots,
-            "ops",
-            Some(operations_tree(alloc, &self.ops)?),
-        )?;
-        put_if(alloc, &mut slots, "fields", &self.fields)?;
-        put_if(alloc, &mut slots, "params", &self.params)?;
-        put_if(alloc, &mut slots, "as", &self.as_)?;
-        put_if(alloc, &mut slots, "groupby", &self.groupby)?;
-        put_if(alloc, &mut slots, "sort", &self.sort)?;
-        put_if(alloc, &mut slots, "frame", &self.frame)?;
-        put_if(alloc, &mut slots, "ignorePeers", &self.ignore_peers)?;
+        let slots = no_slots(alloc);
+        let slots = with_word(alloc, slots, "type", "window");
+        let slots = with_tree(alloc, slots, "ops", operations_tree(alloc, &self.ops));
+        let slots = with_if(alloc, slots, "fields", &self.fields);
+        let slots = with_if(alloc, slots, "params", &self.params);
+        let slots = with_if(alloc, slots, "as", &self.as_);
+        let slots = with_if(alloc, slots, "groupby", &self.groupby);
+        let slots = with_if(alloc, slots, "sort", &self.sort);
+        let slots = with_if(alloc, slots, "frame", &self.frame);
+        let slots = with_if(alloc, slots, "ignorePeers", &self.ignore_peers);
         object(alloc, slots)
     }
 }
@@ -58,14 +54,14 @@ impl Written for Lookup {
 
     #[tactic(auto, unfolding(crate::specs::Groupings::lookup_slots))]
     fn tree(&self, alloc: Global) -> Result<Json, OutOfMemory> {
-        let mut slots = Seq::new(alloc);
-        put_word(alloc, &mut slots, "type", "lookup")?;
-        put(alloc, &mut slots, "from", &self.from)?;
-        put(alloc, &mut slots, "key", &self.key)?;
-        put(alloc, &mut slots, "fields", &self.fields)?;
-        put(alloc, &mut slots, "values", &self.values)?;
-        put_if(alloc, &mut slots, "as", &self.as_)?;
-        put_if(alloc, &mut slots, "default", &self.default)?;
+        let slots = no_slots(alloc);
+        let slots = with_word(alloc, slots, "type", "lookup");
+        let slots = with(alloc, slots, "from", &self.from);
+        let slots = with(alloc, slots, "key", &self.key);
+        let slots = with(alloc, slots, "fields", &self.fields);
+        let slots = with(alloc, slots, "values", &self.values);
+        let slots = with_if(alloc, slots, "as", &self.as_);
+        let slots = with_if(alloc, slots, "default", &self.default);
         object(alloc, slots)
     }
 }
@@ -75,9 +71,6 @@ impl Written for Frame {
 
     #[tactic(auto, unfolding(crate::specs::Groupings::frame_tree))]
     fn tree(&self, alloc: Global) -> Result<Json, OutOfMemory> {
-        let mut items = Seq::new(alloc);
-        items.push(self.first.tree(alloc)?)?;
-        items.push(self.last.tree(alloc)?)?;
-        Ok(Json::List(items))
+        list_of_two(alloc, self.first.tree(alloc), self.last.tree(alloc))
     }
 }

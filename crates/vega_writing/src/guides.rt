@@ -1,11 +1,11 @@
 // The trees of axes, legends and layouts.
 ghost use Rattle.vega_writing.specs.Guides.{axis_tree, edge_tree, layout_tree, legend_tree, side_tree};
 
-use crate::slots::{object, put, put_if};
+use crate::slots::{no_slots, object, with, with_if};
 use crate::trees::{Written, word};
 use json_exact::Json;
 use std::alloc::Global;
-use text_kit::{OutOfMemory, Seq};
+use text_kit::OutOfMemory;
 use vega_spec::{Axis, Edge, Layout, Legend, Side};
 
 impl Written for Side {
@@ -39,19 +39,19 @@ impl Written for Axis {
 
     #[tactic(auto, unfolding(crate::specs::Guides::axis_slots))]
     fn tree(&self, alloc: Global) -> Result<Json, OutOfMemory> {
-        let mut slots = Seq::new(alloc);
-        put(alloc, &mut slots, "scale", &self.scale)?;
-        put(alloc, &mut slots, "orient", &self.orient)?;
-        put_if(alloc, &mut slots, "title", &self.title)?;
-        put_if(alloc, &mut slots, "labels", &self.labels)?;
-        put_if(alloc, &mut slots, "ticks", &self.ticks)?;
-        put_if(alloc, &mut slots, "domain", &self.domain)?;
-        put_if(alloc, &mut slots, "grid", &self.grid)?;
-        put_if(alloc, &mut slots, "labelAngle", &self.label_angle)?;
-        put_if(alloc, &mut slots, "tickCount", &self.tick_count)?;
-        put_if(alloc, &mut slots, "values", &self.values)?;
-        put_if(alloc, &mut slots, "format", &self.format)?;
-        put_if(alloc, &mut slots, "edge", &self.edge)?;
+        let slots = no_slots(alloc);
+        let slots = with(alloc, slots, "scale", &self.scale);
+        let slots = with(alloc, slots, "orient", &self.orient);
+        let slots = with_if(alloc, slots, "title", &self.title);
+        let slots = with_if(alloc, slots, "labels", &self.labels);
+        let slots = with_if(alloc, slots, "ticks", &self.ticks);
+        let slots = with_if(alloc, slots, "domain", &self.domain);
+        let slots = with_if(alloc, slots, "grid", &self.grid);
+        let slots = with_if(alloc, slots, "labelAngle", &self.label_angle);
+        let slots = with_if(alloc, slots, "tickCount", &self.tick_count);
+        let slots = with_if(alloc, slots, "values", &self.values);
+        let slots = with_if(alloc, slots, "format", &self.format);
+        let slots = with_if(alloc, slots, "edge", &self.edge);
         object(alloc, slots)
     }
 }
@@ -61,13 +61,13 @@ impl Written for Legend {
 
     #[tactic(auto, unfolding(crate::specs::Guides::legend_slots))]
     fn tree(&self, alloc: Global) -> Result<Json, OutOfMemory> {
-        let mut slots = Seq::new(alloc);
-        put_if(alloc, &mut slots, "fill", &self.fill)?;
-        put_if(alloc, &mut slots, "opacity", &self.opacity)?;
-        put_if(alloc, &mut slots, "shape", &self.shape)?;
-        put_if(alloc, &mut slots, "size", &self.size)?;
-        put_if(alloc, &mut slots, "title", &self.title)?;
-        put_if(alloc, &mut slots, "format", &self.format)?;
+        let slots = no_slots(alloc);
+        let slots = with_if(alloc, slots, "fill", &self.fill);
+        let slots = with_if(alloc, slots, "opacity", &self.opacity);
+        let slots = with_if(alloc, slots, "shape", &self.shape);
+        let slots = with_if(alloc, slots, "size", &self.size);
+        let slots = with_if(alloc, slots, "title", &self.title);
+        let slots = with_if(alloc, slots, "format", &self.format);
         object(alloc, slots)
     }
 }
@@ -77,9 +77,9 @@ impl Written for Layout {
 
     #[tactic(auto, unfolding(crate::specs::Guides::layout_slots))]
     fn tree(&self, alloc: Global) -> Result<Json, OutOfMemory> {
-        let mut slots = Seq::new(alloc);
-        put_if(alloc, &mut slots, "padding", &self.padding)?;
-        put_if(alloc, &mut slots, "columns", &self.columns)?;
+        let slots = no_slots(alloc);
+        let slots = with_if(alloc, slots, "padding", &self.padding);
+        let slots = with_if(alloc, slots, "columns", &self.columns);
         object(alloc, slots)
     }
 }

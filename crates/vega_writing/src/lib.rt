@@ -10,6 +10,7 @@ mod marks;
 mod names;
 mod orders;
 mod scales;
+mod several;
 mod signals;
 mod slots;
 mod spec;

@@ -3,11 +3,11 @@ ghost use Rattle.std.specs.Prelude.{◌≡◌, IfOk};
 ghost use Rattle.vega_writing.specs.Marks.{cross_tree, facet_tree, header_tree, mark_from_tree, mark_type_tree};
 ghost use Rattle.vega_spec.specs.declared.marks.MarkFrom.TheVariants as source;
 
-use crate::slots::{object, put, put_if};
+use crate::slots::{no_slots, object, with, with_if};
 use crate::trees::{Written, word};
 use json_exact::Json;
 use std::alloc::Global;
-use text_kit::{OutOfMemory, Seq, Text};
+use text_kit::{OutOfMemory, Text};
 use vega_spec::{Cross, Facet, Header, MarkFrom, MarkType};
 
 impl Written for MarkType {
@@ -44,12 +44,12 @@ impl Written for Facet {
 
     #[tactic(auto, unfolding(crate::specs::Marks::facet_slots))]
     fn tree(&self, alloc: Global) -> Result<Json, OutOfMemory> {
-        let mut slots = Seq::new(alloc);
-        put(alloc, &mut slots, "name", &self.name)?;
-        put(alloc, &mut slots, "data", &self.data_)?;
-        put(alloc, &mut slots, "groupby", &self.groupby)?;
-        put_if(alloc, &mut slots, "aggregate", &self.aggregate)?;
-        put_if(alloc, &mut slots, "headers", &self.headers)?;
+        let slots = no_slots(alloc);
+        let slots = with(alloc, slots, "name", &self.name);
+        let slots = with(alloc, slots, "data", &self.data_);
+        let slots = with(alloc, slots, "groupby", &self.groupby);
+        let slots = with_if(alloc, slots, "aggregate", &self.aggregate);
+        let slots = with_if(alloc, slots, "headers", &self.headers);
         object(alloc, slots)
     }
 }
@@ -59,8 +59,8 @@ impl Written for Cross {
 
     #[tactic(auto, unfolding(crate::specs::Marks::cross_slots))]
     fn tree(&self, alloc: Global) -> Result<Json, OutOfMemory> {
-        let mut slots = Seq::new(alloc);
-        put_if(alloc, &mut slots, "cross", &self.cross)?;
+        let slots = no_slots(alloc);
+        let slots = with_if(alloc, slots, "cross", &self.cross);
         object(alloc, slots)
     }
 }
@@ -82,8 +82,8 @@ impl Written for MarkFrom {
 fn data_source(alloc: Global, name: &Text) -> Result<Json, OutOfMemory>
     ensures { IfOk result (λ tree. tree ≡ mark_from_tree (source.Data name.now)) }
 {
-    let mut slots = Seq::new(alloc);
-    put(alloc, &mut slots, "data", name)?;
+    let slots = no_slots(alloc);
+    let slots = with(alloc, slots, "data", name);
     object(alloc, slots)
 }
 
@@ -92,7 +92,7 @@ fn data_source(alloc: Global, name: &Text) -> Result<Json, OutOfMemory>
 fn facet_source(alloc: Global, facet: &Facet) -> Result<Json, OutOfMemory>
     ensures { IfOk result (λ tree. tree ≡ mark_from_tree (source.Facet facet.now)) }
 {
-    let mut slots = Seq::new(alloc);
-    put(alloc, &mut slots, "facet", facet)?;
+    let slots = no_slots(alloc);
+    let slots = with(alloc, slots, "facet", facet);
     object(alloc, slots)
 }

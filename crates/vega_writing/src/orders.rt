@@ -1,11 +1,11 @@
 // The trees of orders, and of what may be one text or a list.
 ghost use Rattle.vega_writing.specs.Orders.{order_tree, orders_tree, sort_tree, texts_tree};
 
-use crate::slots::{object, put, put_if};
+use crate::slots::{no_slots, object, with, with_if};
 use crate::trees::{Written, word};
 use json_exact::Json;
 use std::alloc::Global;
-use text_kit::{OutOfMemory, Seq};
+use text_kit::OutOfMemory;
 use vega_spec::{Order, Orders, Sort, Texts};
 
 impl Written for Order {
@@ -25,9 +25,9 @@ impl Written for Sort {
 
     #[tactic(auto, unfolding(crate::specs::Orders::sort_slots))]
     fn tree(&self, alloc: Global) -> Result<Json, OutOfMemory> {
-        let mut slots = Seq::new(alloc);
-        put(alloc, &mut slots, "field", &self.field)?;
-        put_if(alloc, &mut slots, "order", &self.order)?;
+        let slots = no_slots(alloc);
+        let slots = with(alloc, slots, "field", &self.field);
+        let slots = with_if(alloc, slots, "order", &self.order);
         object(alloc, slots)
     }
 }

@@ -2,11 +2,11 @@
 ghost use Rattle.vega_writing.specs.Scales.{range_tree, scale_tree};
 
 use crate::names::scale_type_tree;
-use crate::slots::{object, put, put_if, put_tree};
+use crate::slots::{no_slots, object, with, with_if, with_tree, with_tree_if};
 use crate::trees::{Written, computed_tree_if, word};
 use json_exact::Json;
 use std::alloc::Global;
-use text_kit::{OutOfMemory, Seq};
+use text_kit::OutOfMemory;
 use vega_spec::{Range, Scale};
 
 impl Written for Scale {
@@ -14,28 +14,23 @@ impl Written for Scale {
 
     #[tactic(auto, unfolding(crate::specs::Scales::scale_slots))]
     fn tree(&self, alloc: Global) -> Result<Json, OutOfMemory> {
-        let mut slots = Seq::new(alloc);
-        put(alloc, &mut slots, "name", &self.name)?;
-        put_tree(
+        let slots = no_slots(alloc);
+        let slots = with(alloc, slots, "name", &self.name);
+        let slots = with_tree(alloc, slots, "type", scale_type_tree(alloc, self.type_));
+        let slots = with(alloc, slots, "domain", &self.domain);
+        let slots = with_tree_if(
             alloc,
-            &mut slots,
-            "type",
-            Some(scale_type_tree(alloc, self.type_)?),
-        )?;
-        put(alloc, &mut slots, "domain", &self.domain)?;
-        put_tree(
-            alloc,
-            &mut slots,
+            slots,
             "domainRaw",
-            computed_tree_if(alloc, &self.domain_raw)?,
-        )?;
-        put(alloc, &mut slots, "range", &self.range)?;
-        put_if(alloc, &mut slots, "zero", &self.zero)?;
-        put_if(alloc, &mut slots, "nice", &self.nice)?;
-        put_if(alloc, &mut slots, "reverse", &self.reverse)?;
-        put_if(alloc, &mut slots, "padding", &self.padding)?;
-        put_if(alloc, &mut slots, "paddingInner", &self.padding_inner)?;
-        put_if(alloc, &mut slots, "paddingOuter", &self.padding_outer)?;
+            computed_tree_if(alloc, &self.domain_raw),
+        );
+        let slots = with(alloc, slots, "range", &self.range);
+        let slots = with_if(alloc, slots, "zero", &self.zero);
+        let slots = with_if(alloc, slots, "nice", &self.nice);
+        let slots = with_if(alloc, slots, "reverse", &self.reverse);
+        let slots = with_if(alloc, slots, "padding", &self.padding);
+        let slots = with_if(alloc, slots, "paddingInner", &self.padding_inner);
+        let slots = with_if(alloc, slots, "paddingOuter", &self.padding_outer);
         object(alloc, slots)
     }
 }

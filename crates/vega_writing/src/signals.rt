@@ -1,11 +1,11 @@
 // The trees of signals.
 ghost use Rattle.vega_writing.specs.Signals.{event_selector_tree, event_update_tree, signal_tree};
 
-use crate::slots::{object, put, put_if};
+use crate::slots::{no_slots, object, with, with_if};
 use crate::trees::{Written, word};
 use json_exact::Json;
 use std::alloc::Global;
-use text_kit::{OutOfMemory, Seq};
+use text_kit::OutOfMemory;
 use vega_spec::{EventSelector, EventUpdate, Signal};
 
 impl Written for EventSelector {
@@ -27,12 +27,12 @@ impl Written for Signal {
 
     #[tactic(auto, unfolding(crate::specs::Signals::signal_slots))]
     fn tree(&self, alloc: Global) -> Result<Json, OutOfMemory> {
-        let mut slots = Seq::new(alloc);
-        put(alloc, &mut slots, "name", &self.name)?;
-        put_if(alloc, &mut slots, "value", &self.value)?;
-        put_if(alloc, &mut slots, "update", &self.update)?;
-        put_if(alloc, &mut slots, "on", &self.on)?;
-        put_if(alloc, &mut slots, "marks", &self.marks)?;
+        let slots = no_slots(alloc);
+        let slots = with(alloc, slots, "name", &self.name);
+        let slots = with_if(alloc, slots, "value", &self.value);
+        let slots = with_if(alloc, slots, "update", &self.update);
+        let slots = with_if(alloc, slots, "on", &self.on);
+        let slots = with_if(alloc, slots, "marks", &self.marks);
         object(alloc, slots)
     }
 }
@@ -42,9 +42,9 @@ impl Written for EventUpdate {
 
     #[tactic(auto, unfolding(crate::specs::Signals::event_update_slots))]
     fn tree(&self, alloc: Global) -> Result<Json, OutOfMemory> {
-        let mut slots = Seq::new(alloc);
-        put(alloc, &mut slots, "events", &self.events)?;
-        put(alloc, &mut slots, "update", &self.update)?;
+        let slots = no_slots(alloc);
+        let slots = with(alloc, slots, "events", &self.events);
+        let slots = with(alloc, slots, "update", &self.update);
         object(alloc, slots)
     }
 }

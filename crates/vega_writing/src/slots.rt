@@ -1,15 +1,18 @@
-// Objects from members that may be absent.
+// Objects from members that may be absent. Members are added to members that may have been refused memory, so that no list of them is
+// let go between one member and the next.
 ghost use Rattle.std.specs.Prelude.{◌≡◌, [], ◌∷◌, ◌++◌, IfOk, OnOk, option_map};
-ghost use Rattle.vega_writing.specs.Slots.{must, may, member_if, object};
+ghost use Rattle.vega_writing.specs.Slots.{must, may, member_if, object, present};
 ghost use Rattle.vega_writing.specs.Trees.{text_tree};
+ghost use Rattle.json_exact.specs.declared.json.Json.TheVariants as json;
 
+use crate::several::{added, both, there};
 use crate::trees::{Written, word};
 use json_exact::{Json, Member};
 use std::alloc::Global;
 use text_kit::{OutOfMemory, Seq, Text};
 
 /// A member that may be absent.
-#[derive(Debug, Drop)]
+#[derive(Drop)]
 pub struct Slot {
     /// The name.
     pub name: Text,
@@ -17,63 +20,111 @@ pub struct Slot {
     pub value: Option<Json>,
 }
 
-// Adds a member with this tree, where there is one.
-pub fn put_tree(
-    alloc: Global,
-    slots: &mut Seq<Slot>,
-    name: &str,
-    value: Option<Json>,
-) -> Result<(), OutOfMemory>
-    ensures { OnOk result (slots.new ≡ slots.old ++ may name.now value ∷ []) }
+/// No members yet.
+pub fn no_slots(alloc: Global) -> Result<Seq<Slot>, OutOfMemory>
+    ensures { IfOk result (λ slots. slots ≡ []) }
 {
-    let name = Text::of(alloc, name)?;
-    slots.push(Slot { name, value })
+    Ok(Seq::new(alloc))
 }
 
-// Adds a member with this value.
-pub fn put<T: Written>(
+/// Members, and then one with this tree, where there is one.
+pub fn with_tree_if(
     alloc: Global,
-    slots: &mut Seq<Slot>,
+    slots: Result<Seq<Slot>, OutOfMemory>,
+    name: &str,
+    tree: Result<Option<Json>, OutOfMemory>,
+) -> Result<Seq<Slot>, OutOfMemory>
+    ensures { (made : _) (value : _) → IfOk slots (λ given. given ≡ made) → IfOk tree (λ given. given ≡ value) →
+        IfOk result (λ all. all ≡ made ++ may name.now value ∷ []) }
+{
+    let slot = both(Text::of(alloc, name), tree);
+    let (slots, (name, value)) = both(slots, slot)?;
+    added(slots, Slot { name, value })
+}
+
+/// Members, and then one with this tree.
+pub fn with_tree(
+    alloc: Global,
+    slots: Result<Seq<Slot>, OutOfMemory>,
+    name: &str,
+    tree: Result<Json, OutOfMemory>,
+) -> Result<Seq<Slot>, OutOfMemory>
+    ensures { (made : _) (value : _) → IfOk slots (λ given. given ≡ made) → IfOk tree (λ given. given ≡ value) →
+        IfOk result (λ all. all ≡ made ++ must name.now value ∷ []) }
+{
+    with_tree_if(alloc, slots, name, there(tree))
+}
+
+/// Members, and then one with this value.
+pub fn with<T: Written>(
+    alloc: Global,
+    slots: Result<Seq<Slot>, OutOfMemory>,
     name: &str,
     value: &T,
-) -> Result<(), OutOfMemory>
-    ensures { OnOk result (slots.new ≡ slots.old ++ must name.now (T.tree value.now) ∷ []) }
+) -> Result<Seq<Slot>, OutOfMemory>
+    ensures { (made : _) → IfOk slots (λ given. given ≡ made) → IfOk result (λ all. all ≡ made ++ must name.now (T.tree value.now) ∷ []) }
 {
-    put_tree(alloc, slots, name, Some(value.tree(alloc)?))
+    with_tree(alloc, slots, name, value.tree(alloc))
 }
 
-// Adds a member with this value, where there is one.
-pub fn put_if<T: Written>(
+// The tree of a value, where there is one.
+fn tree_if<T: Written>(alloc: Global, value: &Option<T>) -> Result<Option<Json>, OutOfMemory>
+    ensures { IfOk result (λ tree. tree ≡ option_map T.tree value.now) }
+{
+    match value {
+        Some(value) => Ok(Some(value.tree(alloc)?)),
+        None => Ok(None),
+    }
+}
+
+/// Members, and then one with this value, where there is one.
+pub fn with_if<T: Written>(
     alloc: Global,
-    slots: &mut Seq<Slot>,
+    slots: Result<Seq<Slot>, OutOfMemory>,
     name: &str,
     value: &Option<T>,
-) -> Result<(), OutOfMemory>
-    ensures { OnOk result (slots.new ≡ slots.old ++ may name.now (option_map T.tree value.now) ∷ []) }
+) -> Result<Seq<Slot>, OutOfMemory>
+    ensures { (made : _) → IfOk slots (λ given. given ≡ made) → IfOk result (λ all. all ≡ made ++ may name.now (option_map T.tree value.now) ∷ []) }
 {
-    let tree = match value {
-        Some(value) => Some(value.tree(alloc)?),
-        None => None,
-    };
-    put_tree(alloc, slots, name, tree)
+    with_tree_if(alloc, slots, name, tree_if(alloc, value))
 }
 
-// Adds a member with this text.
-pub fn put_word(
+/// Members, and then one with this text.
+pub fn with_word(
     alloc: Global,
-    slots: &mut Seq<Slot>,
+    slots: Result<Seq<Slot>, OutOfMemory>,
     name: &str,
     text: &str,
-) -> Result<(), OutOfMemory>
-    ensures { OnOk result (slots.new ≡ slots.old ++ must name.now (text_tree text.now) ∷ []) }
+) -> Result<Seq<Slot>, OutOfMemory>
+    ensures { (made : _) → IfOk slots (λ given. given ≡ made) → IfOk result (λ all. all ≡ made ++ must name.now (text_tree text.now) ∷ []) }
 {
-    put_tree(alloc, slots, name, Some(word(alloc, text)?))
+    with_tree(alloc, slots, name, word(alloc, text))
 }
 
-// The object of the members that are there, in their order.
+/// Members, and then others.
+pub fn joined(
+    slots: Result<Seq<Slot>, OutOfMemory>,
+    others: Result<Seq<Slot>, OutOfMemory>,
+) -> Result<Seq<Slot>, OutOfMemory>
+    ensures { (made : _) (more : _) → IfOk slots (λ given. given ≡ made) → IfOk others (λ given. given ≡ more) →
+        IfOk result (λ all. all ≡ made ++ more) }
+{
+    let (mut slots, others) = both(slots, others)?;
+    slots.append(others)?;
+    Ok(slots)
+}
+
+/// The object of the members that are there, in their order.
+pub fn object(alloc: Global, slots: Result<Seq<Slot>, OutOfMemory>) -> Result<Json, OutOfMemory>
+    ensures { (made : _) → IfOk slots (λ given. given ≡ made) → IfOk result (λ tree. tree ≡ object made) }
+{
+    object_of(alloc, slots?)
+}
+
+// The same of members that were not refused memory.
 #[tactic(auto, unfolding(crate::specs::Slots::present))]
-pub fn object(alloc: Global, slots: Seq<Slot>) -> Result<Json, OutOfMemory>
-    ensures { IfOk result (λ tree. tree ≡ object slots) }
+fn object_of(alloc: Global, slots: Seq<Slot>) -> Result<Json, OutOfMemory>
+    ensures { IfOk result (λ tree. tree ≡ json.Object (present slots)) }
 {
     let mut members = Seq::new(alloc);
     for slot in slots.into_vec() {

@@ -6,11 +6,11 @@ ghost use Rattle.vega_spec.specs.declared.transforms.BinExtent.TheVariants as ex
 
 use crate::groupings::aggregate_tree;
 use crate::names::time_unit_tree;
-use crate::slots::{object, put, put_if, put_tree, put_word};
+use crate::slots::{no_slots, object, with, with_if, with_tree, with_word};
 use crate::trees::{Written, two_numbers, word};
 use json_exact::Json;
 use std::alloc::Global;
-use text_kit::{OutOfMemory, Seq, Text};
+use text_kit::{OutOfMemory, Text};
 use vega_spec::{
     Bin, BinExtent, Extent, Filter, Fold, Formula, Offset, Stack, TimeUnit, Transform,
 };
@@ -33,9 +33,9 @@ impl Written for Filter {
 
     #[tactic(auto, unfolding(crate::specs::Transforms::filter_slots))]
     fn tree(&self, alloc: Global) -> Result<Json, OutOfMemory> {
-        let mut slots = Seq::new(alloc);
-        put_word(alloc, &mut slots, "type", "filter")?;
-        put(alloc, &mut slots, "expr", &self.expr)?;
+        let slots = no_slots(alloc);
+        let slots = with_word(alloc, slots, "type", "filter");
+        let slots = with(alloc, slots, "expr", &self.expr);
         object(alloc, slots)
     }
 }
@@ -45,10 +45,10 @@ impl Written for Formula {
 
     #[tactic(auto, unfolding(crate::specs::Transforms::formula_slots))]
     fn tree(&self, alloc: Global) -> Result<Json, OutOfMemory> {
-        let mut slots = Seq::new(alloc);
-        put_word(alloc, &mut slots, "type", "formula")?;
-        put(alloc, &mut slots, "expr", &self.expr)?;
-        put(alloc, &mut slots, "as", &self.as_)?;
+        let slots = no_slots(alloc);
+        let slots = with_word(alloc, slots, "type", "formula");
+        let slots = with(alloc, slots, "expr", &self.expr);
+        let slots = with(alloc, slots, "as", &self.as_);
         object(alloc, slots)
     }
 }
@@ -58,10 +58,10 @@ impl Written for Extent {
 
     #[tactic(auto, unfolding(crate::specs::Transforms::extent_slots))]
     fn tree(&self, alloc: Global) -> Result<Json, OutOfMemory> {
-        let mut slots = Seq::new(alloc);
-        put_word(alloc, &mut slots, "type", "extent")?;
-        put(alloc, &mut slots, "field", &self.field)?;
-        put(alloc, &mut slots, "signal", &self.signal)?;
+        let slots = no_slots(alloc);
+        let slots = with_word(alloc, slots, "type", "extent");
+        let slots = with(alloc, slots, "field", &self.field);
+        let slots = with(alloc, slots, "signal", &self.signal);
         object(alloc, slots)
     }
 }
@@ -71,13 +71,13 @@ impl Written for Bin {
 
     #[tactic(auto, unfolding(crate::specs::Transforms::bin_slots))]
     fn tree(&self, alloc: Global) -> Result<Json, OutOfMemory> {
-        let mut slots = Seq::new(alloc);
-        put_word(alloc, &mut slots, "type", "bin")?;
-        put(alloc, &mut slots, "field", &self.field)?;
-        put(alloc, &mut slots, "extent", &self.extent)?;
-        put_if(alloc, &mut slots, "maxbins", &self.maxbins)?;
-        put_if(alloc, &mut slots, "step", &self.step)?;
-        put_if(alloc, &mut slots, "as", &self.as_)?;
+        let slots = no_slots(alloc);
+        let slots = with_word(alloc, slots, "type", "bin");
+        let slots = with(alloc, slots, "field", &self.field);
+        let slots = with(alloc, slots, "extent", &self.extent);
+        let slots = with_if(alloc, slots, "maxbins", &self.maxbins);
+        let slots = with_if(alloc, slots, "step", &self.step);
+        let slots = with_if(alloc, slots, "as", &self.as_);
         object(alloc, slots)
     }
 }
@@ -87,16 +87,11 @@ impl Written for TimeUnit {
 
     #[tactic(auto, unfolding(crate::specs::Transforms::time_unit_slots))]
     fn tree(&self, alloc: Global) -> Result<Json, OutOfMemory> {
-        let mut slots = Seq::new(alloc);
-        put_word(alloc, &mut slots, "type", "timeunit")?;
-        put(alloc, &mut slots, "field", &self.field)?;
-        put_tree(
-            alloc,
-            &mut slots,
-            "units",
-            Some(time_unit_tree(alloc, self.units)?),
-        )?;
-        put_if(alloc, &mut slots, "as", &self.as_)?;
+        let slots = no_slots(alloc);
+        let slots = with_word(alloc, slots, "type", "timeunit");
+        let slots = with(alloc, slots, "field", &self.field);
+        let slots = with_tree(alloc, slots, "units", time_unit_tree(alloc, self.units));
+        let slots = with_if(alloc, slots, "as", &self.as_);
         object(alloc, slots)
     }
 }
@@ -106,13 +101,13 @@ impl Written for Stack {
 
     #[tactic(auto, unfolding(crate::specs::Transforms::stack_slots))]
     fn tree(&self, alloc: Global) -> Result<Json, OutOfMemory> {
-        let mut slots = Seq::new(alloc);
-        put_word(alloc, &mut slots, "type", "stack")?;
-        put_if(alloc, &mut slots, "groupby", &self.groupby)?;
-        put(alloc, &mut slots, "field", &self.field)?;
-        put_if(alloc, &mut slots, "sort", &self.sort)?;
-        put_if(alloc, &mut slots, "offset", &self.offset)?;
-        put_if(alloc, &mut slots, "as", &self.as_)?;
+        let slots = no_slots(alloc);
+        let slots = with_word(alloc, slots, "type", "stack");
+        let slots = with_if(alloc, slots, "groupby", &self.groupby);
+        let slots = with(alloc, slots, "field", &self.field);
+        let slots = with_if(alloc, slots, "sort", &self.sort);
+        let slots = with_if(alloc, slots, "offset", &self.offset);
+        let slots = with_if(alloc, slots, "as", &self.as_);
         object(alloc, slots)
     }
 }
@@ -122,10 +117,10 @@ impl Written for Fold {
 
     #[tactic(auto, unfolding(crate::specs::Transforms::fold_slots))]
     fn tree(&self, alloc: Global) -> Result<Json, OutOfMemory> {
-        let mut slots = Seq::new(alloc);
-        put_word(alloc, &mut slots, "type", "fold")?;
-        put(alloc, &mut slots, "fields", &self.fields)?;
-        put_if(alloc, &mut slots, "as", &self.as_)?;
+        let slots = no_slots(alloc);
+        let slots = with_word(alloc, slots, "type", "fold");
+        let slots = with(alloc, slots, "fields", &self.fields);
+        let slots = with_if(alloc, slots, "as", &self.as_);
         object(alloc, slots)
     }
 }
@@ -147,8 +142,8 @@ impl Written for BinExtent {
 fn named_extent(alloc: Global, name: &Text) -> Result<Json, OutOfMemory>
     ensures { IfOk result (λ tree. tree ≡ bin_extent_tree (extent.Signal name.now)) }
 {
-    let mut slots = Seq::new(alloc);
-    put(alloc, &mut slots, "signal", name)?;
+    let slots = no_slots(alloc);
+    let slots = with(alloc, slots, "signal", name);
     object(alloc, slots)
 }
 

@@ -4,7 +4,8 @@ ghost use Rattle.json_exact.specs.declared.json.Json.{Json as Tree};
 ghost use Rattle.vega_writing.specs.Trees.{text_tree, flag_tree, number_tree, list_tree};
 ghost use Rattle.vega_writing.specs.Trees.{or_null, pair_tree, cell_tree, expression_tree, computed_tree};
 
-use crate::slots::{object, put};
+use crate::several::list_of_two;
+use crate::slots::{no_slots, object, with};
 use cell_value::Cell;
 use expr_syntax::Expr;
 use fixed_num::Num;
@@ -95,10 +96,7 @@ impl Written for (Text, Text) {
     ghost tree = { pair_tree };
 
     fn tree(&self, alloc: Global) -> Result<Json, OutOfMemory> {
-        let mut items = Seq::new(alloc);
-        items.push(self.0.tree(alloc)?)?;
-        items.push(self.1.tree(alloc)?)?;
-        Ok(Json::List(items))
+        list_of_two(alloc, self.0.tree(alloc), self.1.tree(alloc))
     }
 }
 
@@ -113,18 +111,15 @@ pub fn word(alloc: Global, text: &str) -> Result<Json, OutOfMemory>
 pub fn two_numbers(alloc: Global, first: Num, second: Num) -> Result<Json, OutOfMemory>
     ensures { IfOk result (λ tree. tree ≡ list_tree number_tree (first ∷ second ∷ [])) }
 {
-    let mut items = Seq::new(alloc);
-    items.push(Json::Number(first))?;
-    items.push(Json::Number(second))?;
-    Ok(Json::List(items))
+    list_of_two(alloc, Ok(Json::Number(first)), Ok(Json::Number(second)))
 }
 
 // The object that stands for the value of an expression.
 pub fn computed_tree(alloc: Global, e: &Expr) -> Result<Json, OutOfMemory>
     ensures { IfOk result (λ tree. tree ≡ computed_tree e.now) }
 {
-    let mut slots = Seq::new(alloc);
-    put(alloc, &mut slots, "signal", e)?;
+    let slots = no_slots(alloc);
+    let slots = with(alloc, slots, "signal", e);
     object(alloc, slots)
 }
 

@@ -1,4 +1,4 @@
-use Rattle.std.proofs.Common.{◌≡◌, take, drop, map, ◌+◌, ◌*◌}
+use Rattle.std.proofs.Common.{◌≡◌, drop, map, ◌+◌, ◌*◌, ◌++◌}
 use Rattle.std.specs.Prelude.{codes}
 use Rattle.json_exact.specs.declared.json.Json.{size-Json}
 use Rattle.vega_building.specs.Spec.{mark_of, marks_at}
@@ -17,10 +17,13 @@ abbrev pub decreases-marks_in : goal.decreases-marks_in
 decreases-marks_in l = 6 * size-Json l.tree.now + 1
 
 abbrev pub decreases-marks_of : goal.decreases-marks_of
-decreases-marks_of l = 6 * goal.size-marks_of l + 1
+decreases-marks_of l = 6 * goal.size-marks_of l + 2
 
-abbrev pub invariant-marks_of-loop-tree : goal.invariant-marks_of-loop-tree
-invariant-marks_of-loop-tree l = l.marks ≡ map mark_of (take l.tree-index l.items)
+abbrev pub decreases-push_marks : goal.decreases-push_marks
+decreases-push_marks l = 6 * goal.size-push_marks l + 1
+
+abbrev pub invariant-push_marks-loop-tree : goal.invariant-push_marks-loop-tree
+invariant-push_marks-loop-tree l = l.marks ++ map mark_of (drop l.tree-index l.items) ≡ l.fn.marks ++ map mark_of l.items
 
 abbrev pub invariant-marks_at-loop-member : goal.invariant-marks_at-loop-member
 invariant-marks_at-loop-member l = marks_at (drop l.member-index l.members) (codes "marks") ≡ marks_at l.members (codes "marks")

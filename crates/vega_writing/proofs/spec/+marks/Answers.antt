@@ -1,17 +1,18 @@
-use Rattle.std.proofs.Common.{List, ap, sym, ◌∙◌}
-use Rattle.json_exact.specs.declared.json.Json.{Json}
-use Rattle.vega_spec.specs.declared.spec.VgMark.{fold_out-VgMark}
-use Rattle.vega_writing.specs.declared.slots.Slot.{Slot}
-use Rattle.vega_writing.specs.Slots.{object}
-use Rattle.vega_writing.specs.Spec.{group_slots_here, mark_slots, mark_tree_here}
-use Rattle.vega_writing.proofs.Chains.{answered, pushed, appended}
+use Rattle.std.proofs.Common.{Some, None, map, refl, sym, ap, ◌∙◌}
+use Rattle.vega_writing.specs.Spec.{mark_tree}
+use Rattle.vega_writing.proofs.Answered.{answered}
+use Rattle.vega_writing.proofs.Folded.{group_is, mark_is}
 use Rattle.vega_writing.proofs.spec.+marks.Goals as goal
 
+pub group_slots-returns-in-Some : goal.group_slots-returns-in-Some
+group_slots-returns-in-Some t c =
+    answered c.group_with.result _ _ (c.group_with.ensures (Some (map mark_tree c.as_slice.result.now)) (c.there.ensures _ c.marks_tree-tree.ensures))
+    (group_is c.args.group.now (Some c.as_slice.result.now) (c.in-Some.is ∙ ap Some (sym c.as_slice.ensures)))
+
+pub group_slots-returns-in-None : goal.group_slots-returns-in-None
+group_slots-returns-in-None t c =
+    answered c.group_with-in-None.result _ _ (c.group_with-in-None.ensures None refl) (group_is c.args.group.now None c.in-None.is)
+
 pub mark_tree-returns : goal.mark_tree-returns
-unfolding mark_slots
 mark_tree-returns t c =
-    answered c.object.result _ _ c.object.ensures (
-    ap object (appended c.in_ok-append.ensures.ok c.in_ok-group_slots.ensures (
-    pushed _ c.in_ok-put_if-4.ensures (pushed _ c.in_ok-put_if-3.ensures (pushed _ c.in_ok-put_if-2.ensures (
-    pushed _ c.in_ok-put_if.ensures (pushed _ c.in_ok-put.ensures c.new-slots.ensures))))))
-    ∙ sym (fold_out-VgMark (List Slot) Json group_slots_here mark_tree_here c.args.mark.now))
+    answered c.mark_with.result _ _ (c.mark_with.ensures _ c.group_slots-inside.ensures) (mark_is c.args.mark.now)

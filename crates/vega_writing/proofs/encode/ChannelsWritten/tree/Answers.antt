@@ -1,17 +1,12 @@
-use Rattle.std.proofs.Common.{ap}
-use Rattle.vega_writing.specs.Slots.{object}
 use Rattle.vega_writing.specs.Encode.{channels_slots}
-use Rattle.vega_writing.proofs.Chains.{answered, pushed}
 use Rattle.vega_writing.proofs.encode.ChannelsWritten.tree.Goals as goal
 
 pub returns : goal.returns
 unfolding channels_slots
 returns c =
-    answered c.object.result _ _ c.object.ensures (ap object (pushed _ c.in_ok-put_if-20.ensures (
-    pushed _ c.in_ok-put_if-19.ensures (pushed _ c.in_ok-put_if-18.ensures (pushed _ c.in_ok-put_if-17.ensures (
-    pushed _ c.in_ok-put_if-16.ensures (pushed _ c.in_ok-put_if-15.ensures (pushed _ c.in_ok-put_if-14.ensures (
-    pushed _ c.in_ok-put_if-13.ensures (pushed _ c.in_ok-put_if-12.ensures (pushed _ c.in_ok-put_if-11.ensures (
-    pushed _ c.in_ok-put_if-10.ensures (pushed _ c.in_ok-put_if-9.ensures (pushed _ c.in_ok-put_if-8.ensures (
-    pushed _ c.in_ok-put_if-7.ensures (pushed _ c.in_ok-put_if-6.ensures (pushed _ c.in_ok-put_if-5.ensures (
-    pushed _ c.in_ok-put_if-4.ensures (pushed _ c.in_ok-put_if-3.ensures (pushed _ c.in_ok-put_if-2.ensures (
-    pushed _ c.in_ok-put_if.ensures c.new-slots.ensures)))))))))))))))))))))
+    c.object.ensures _ (c.with_if-slots-20.ensures _ (c.with_if-slots-19.ensures _ (c.with_if-slots-18.ensures _
+    (c.with_if-slots-17.ensures _ (c.with_if-slots-16.ensures _ (c.with_if-slots-15.ensures _ (c.with_if-slots-14.ensures _
+    (c.with_if-slots-13.ensures _ (c.with_if-slots-12.ensures _ (c.with_if-slots-11.ensures _ (c.with_if-slots-10.ensures _
+    (c.with_if-slots-9.ensures _ (c.with_if-slots-8.ensures _ (c.with_if-slots-7.ensures _ (c.with_if-slots-6.ensures _
+    (c.with_if-slots-5.ensures _ (c.with_if-slots-4.ensures _ (c.with_if-slots-3.ensures _ (c.with_if-slots-2.ensures _
+    (c.with_if-slots.ensures _ c.no_slots-slots.ensures))))))))))))))))))))

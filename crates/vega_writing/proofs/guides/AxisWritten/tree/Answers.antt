@@ -1,14 +1,10 @@
-use Rattle.std.proofs.Common.{ap}
-use Rattle.vega_writing.specs.Slots.{object}
 use Rattle.vega_writing.specs.Guides.{axis_slots}
-use Rattle.vega_writing.proofs.Chains.{answered, pushed}
 use Rattle.vega_writing.proofs.guides.AxisWritten.tree.Goals as goal
 
 pub returns : goal.returns
 unfolding axis_slots
 returns c =
-    answered c.object.result _ _ c.object.ensures (ap object (pushed _ c.in_ok-put_if-10.ensures (
-    pushed _ c.in_ok-put_if-9.ensures (pushed _ c.in_ok-put_if-8.ensures (pushed _ c.in_ok-put_if-7.ensures (
-    pushed _ c.in_ok-put_if-6.ensures (pushed _ c.in_ok-put_if-5.ensures (pushed _ c.in_ok-put_if-4.ensures (
-    pushed _ c.in_ok-put_if-3.ensures (pushed _ c.in_ok-put_if-2.ensures (pushed _ c.in_ok-put_if.ensures (
-    pushed _ c.in_ok-put-2.ensures (pushed _ c.in_ok-put.ensures c.new-slots.ensures)))))))))))))
+    c.object.ensures _ (c.with_if-slots-10.ensures _ (c.with_if-slots-9.ensures _ (c.with_if-slots-8.ensures _
+    (c.with_if-slots-7.ensures _ (c.with_if-slots-6.ensures _ (c.with_if-slots-5.ensures _ (c.with_if-slots-4.ensures _
+    (c.with_if-slots-3.ensures _ (c.with_if-slots-2.ensures _ (c.with_if-slots.ensures _ (c.with-slots-2.ensures _
+    (c.with-slots.ensures _ c.no_slots-slots.ensures))))))))))))

@@ -1,12 +1,8 @@
-use Rattle.std.proofs.Common.{ap}
-use Rattle.vega_writing.specs.Slots.{object}
 use Rattle.vega_writing.specs.Signals.{signal_slots}
-use Rattle.vega_writing.proofs.Chains.{answered, pushed}
 use Rattle.vega_writing.proofs.signals.SignalWritten.tree.Goals as goal
 
 pub returns : goal.returns
 unfolding signal_slots
 returns c =
-    answered c.object.result _ _ c.object.ensures (ap object (pushed _ c.in_ok-put_if-4.ensures (
-    pushed _ c.in_ok-put_if-3.ensures (pushed _ c.in_ok-put_if-2.ensures (pushed _ c.in_ok-put_if.ensures (
-    pushed _ c.in_ok-put.ensures c.new-slots.ensures))))))
+    c.object.ensures _ (c.with_if-slots-4.ensures _ (c.with_if-slots-3.ensures _ (c.with_if-slots-2.ensures _
+    (c.with_if-slots.ensures _ (c.with-slots.ensures _ c.no_slots-slots.ensures)))))

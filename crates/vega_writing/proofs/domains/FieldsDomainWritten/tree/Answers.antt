@@ -1,0 +1,6 @@
+use Rattle.vega_writing.specs.Domains.{fields_domain_slots}
+use Rattle.vega_writing.proofs.domains.FieldsDomainWritten.tree.Goals as goal
+
+pub returns : goal.returns
+unfolding fields_domain_slots
+returns c = c.object.ensures _ (c.with_if-slots.ensures _ (c.with-slots.ensures _ c.no_slots-slots.ensures))

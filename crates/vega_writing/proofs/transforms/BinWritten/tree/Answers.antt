@@ -1,0 +1,8 @@
+use Rattle.vega_writing.specs.Transforms.{bin_slots}
+use Rattle.vega_writing.proofs.transforms.BinWritten.tree.Goals as goal
+
+pub returns : goal.returns
+unfolding bin_slots
+returns c =
+    c.object.ensures _ (c.with_if-slots-3.ensures _ (c.with_if-slots-2.ensures _ (c.with_if-slots.ensures _
+    (c.with-slots-2.ensures _ (c.with-slots.ensures _ (c.with_word-slots.ensures _ c.no_slots-slots.ensures))))))
