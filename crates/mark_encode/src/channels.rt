@@ -11,7 +11,7 @@ use text_kit::{OutOfMemory, Seq, Text};
 use vega_spec::{Channel, ChannelValue, Channels, Encode};
 
 /// The channels that marks read.
-#[derive(Clone, Copy, Debug, PartialEq, Eq)]
+#[derive(Clone, Copy)]
 pub enum ChannelName {
     X,
     X2,

@@ -21,6 +21,7 @@ use crate::looks::{LookChannels, default_stroke_width, look_for, looks_of, paint
 use crate::orders::{all_rows, rows_by_sort};
 use crate::paths::path_items;
 use crate::scales::IndexedSet;
+use crate::several::both;
 use crate::shapes::{ShapeChannels, shape_channels, shape_for};
 use cell_value::{Key, Keyed, Rows, TextPool};
 use expr_eval::{EvalError, ParamReader};
@@ -64,10 +65,14 @@ fn channels_of<'a>(
     ensures shape { IfOk result (λ m. shape_by m.shape ≡ shape_for type_ width height (channel_values set.now sets.now)) }
     ensures looks { IfOk result (λ m. look_values m.looks ≡ looks_of (channel_values set.now sets.now)) }
 {
+    let (looks, shape) = both(
+        looks_of(alloc, set, sets),
+        shape_channels(alloc, type_, set, sets, width, height),
+    )?;
     Ok(MarkChannels {
         type_,
-        looks: looks_of(alloc, set, sets)?,
-        shape: shape_channels(alloc, type_, set, sets, width, height)?,
+        looks,
+        shape,
     })
 }
 
@@ -172,7 +177,9 @@ fn items_for<P: ParamReader>(
         (P.values params.now) (data_of rows.now)) }
 {
     let mark = mark_channels(alloc, type_, plot.scales, sets, plot.width, plot.height)?;
-    row_items(alloc, &mark, unit, rows, params)
+    let items = row_items(alloc, &mark, unit, rows, params);
+    drop(mark);
+    items
 }
 
 // Whether a mark of this type is one path over its rows.

@@ -17,6 +17,7 @@ mod prepared;
 mod rects;
 mod rules;
 mod scales;
+mod several;
 mod shapes;
 mod sizes;
 mod spans;

@@ -12,6 +12,7 @@ use crate::colors::paint_shown;
 use crate::numbers::number_shown;
 use crate::prepared::{Colors, Numbers, colors_of, numbers_of};
 use crate::scales::IndexedSet;
+use crate::several::all_four;
 use cell_value::{Keyed, TextPool};
 use expr_eval::{EvalError, ParamReader};
 use mark_shapes::{Look, look_of, without_stroke};
@@ -36,11 +37,17 @@ pub fn looks_of<'a>(
 ) -> Result<LookChannels<'a>, OutOfMemory>
     ensures { IfOk result (λ looks. look_values looks ≡ looks_of (channel_values set.now sets.now)) }
 {
+    let (fill, stroke, stroke_width, opacity) = all_four(
+        colors_of(alloc, set, sets, ChannelName::Fill),
+        colors_of(alloc, set, sets, ChannelName::Stroke),
+        numbers_of(alloc, set, sets, ChannelName::StrokeWidth),
+        numbers_of(alloc, set, sets, ChannelName::Opacity),
+    )?;
     Ok(LookChannels {
-        fill: colors_of(alloc, set, sets, ChannelName::Fill)?,
-        stroke: colors_of(alloc, set, sets, ChannelName::Stroke)?,
-        stroke_width: numbers_of(alloc, set, sets, ChannelName::StrokeWidth)?,
-        opacity: numbers_of(alloc, set, sets, ChannelName::Opacity)?,
+        fill,
+        stroke,
+        stroke_width,
+        opacity,
     })
 }
 

@@ -18,6 +18,7 @@ use crate::looks::{LookChannels, default_stroke_width, looks_of};
 use crate::numbers::{far_shown, number_shown};
 use crate::prepared::{FarNumbers, Numbers, far_numbers_of, no_far_numbers, numbers_of};
 use crate::scales::IndexedSet;
+use crate::several::all_three;
 use cell_value::{Keyed, TextPool};
 use expr_eval::{EvalError, ParamReader};
 use mark_shapes::{Look, Pass, PathStop, pass_of, path_item, path_look, points_of, stop_at};
@@ -88,11 +89,12 @@ fn passes_of<'a>(
 ) -> Result<PassChannels<'a>, OutOfMemory>
     ensures { IfOk result (λ along. pass_values along ≡ passes_of closed (channel_values set.now sets.now) near middle far) }
 {
-    Ok(PassChannels {
-        near: numbers_of(alloc, set, sets, near)?,
-        middle: numbers_of(alloc, set, sets, middle)?,
-        far: far_values(alloc, closed, set, sets, far)?,
-    })
+    let (near, middle, far) = all_three(
+        numbers_of(alloc, set, sets, near),
+        numbers_of(alloc, set, sets, middle),
+        far_values(alloc, closed, set, sets, far),
+    )?;
+    Ok(PassChannels { near, middle, far })
 }
 
 // The values in the channels of a path.
@@ -105,11 +107,16 @@ fn path_channels<'a>(
     ensures { IfOk result (λ path. path_values path ≡ path_values_of closed (channel_values set.now sets.now)) }
 {
     use ChannelName::{X, X2, Xc, Y, Y2, Yc};
+    let (across, down, looks) = all_three(
+        passes_of(alloc, closed, set, sets, X, Xc, X2),
+        passes_of(alloc, closed, set, sets, Y, Yc, Y2),
+        looks_of(alloc, set, sets),
+    )?;
     Ok(PathChannels {
         closed,
-        across: passes_of(alloc, closed, set, sets, X, Xc, X2)?,
-        down: passes_of(alloc, closed, set, sets, Y, Yc, Y2)?,
-        looks: looks_of(alloc, set, sets)?,
+        across,
+        down,
+        looks,
     })
 }
 
@@ -265,12 +272,14 @@ pub fn path_items<P: ParamReader>(
     ensures { Evaluates result (path_items_of type_ unit (channel_values scales.now sets.now) (P.values params.now) (data_of rows.now)) }
 {
     let path = path_channels(alloc, is_closed(type_), scales, sets)?;
-    path_over(
+    let items = path_over(
         alloc,
         unit,
         default_stroke_width(type_),
         &path,
         rows,
         params,
-    )
+    );
+    drop(path);
+    items
 }

@@ -11,6 +11,7 @@ use crate::channels::ChannelName;
 use crate::numbers::number_shown;
 use crate::prepared::{Numbers, numbers_of};
 use crate::scales::IndexedSet;
+use crate::several::both;
 use cell_value::Keyed;
 use expr_eval::{EvalError, ParamReader};
 use fixed_num::Num;
@@ -36,10 +37,11 @@ pub fn places_named<'a>(
 ) -> Result<PlaceChannels<'a>, OutOfMemory>
     ensures { IfOk result (λ place. place_values place ≡ places_named (channel_values set.now sets.now) near middle) }
 {
-    Ok(PlaceChannels {
-        near: numbers_of(alloc, set, sets, near)?,
-        middle: numbers_of(alloc, set, sets, middle)?,
-    })
+    let (near, middle) = both(
+        numbers_of(alloc, set, sets, near),
+        numbers_of(alloc, set, sets, middle),
+    )?;
+    Ok(PlaceChannels { near, middle })
 }
 
 /// Where a mark stands along one direction for a row; None where it lacks a place.

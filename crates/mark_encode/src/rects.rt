@@ -10,6 +10,7 @@ ghost use Rattle.mark_encode.specs.inner.Kinds.{along_values};
 use crate::channels::ChannelName;
 use crate::prepared::{far_numbers_of, numbers_of};
 use crate::scales::IndexedSet;
+use crate::several::{all_four, both};
 use crate::spans::{Along, span_for};
 use cell_value::Keyed;
 use expr_eval::{EvalError, ParamReader};
@@ -38,11 +39,17 @@ fn along_named<'a>(
 ) -> Result<Along<'a>, OutOfMemory>
     ensures { IfOk result (λ along. along_values along ≡ along_named (channel_values set.now sets.now) near far middle size) }
 {
+    let (near, far, middle, size) = all_four(
+        numbers_of(alloc, set, sets, near),
+        far_numbers_of(alloc, set, sets, far),
+        numbers_of(alloc, set, sets, middle),
+        numbers_of(alloc, set, sets, size),
+    )?;
     Ok(Along {
-        near: numbers_of(alloc, set, sets, near)?,
-        far: far_numbers_of(alloc, set, sets, far)?,
-        middle: numbers_of(alloc, set, sets, middle)?,
-        size: numbers_of(alloc, set, sets, size)?,
+        near,
+        far,
+        middle,
+        size,
     })
 }
 
@@ -56,10 +63,11 @@ pub fn rect_channels<'a>(
     ensures down { IfOk result (λ rect. along_values rect.down ≡ down_of (channel_values set.now sets.now)) }
 {
     use ChannelName::{Height, Width, X, X2, Xc, Y, Y2, Yc};
-    Ok(RectChannels {
-        across: along_named(alloc, set, sets, X, X2, Xc, Width)?,
-        down: along_named(alloc, set, sets, Y, Y2, Yc, Height)?,
-    })
+    let (across, down) = both(
+        along_named(alloc, set, sets, X, X2, Xc, Width),
+        along_named(alloc, set, sets, Y, Y2, Yc, Height),
+    )?;
+    Ok(RectChannels { across, down })
 }
 
 /// The rect of a row; None where it lacks a place.

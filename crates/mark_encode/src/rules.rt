@@ -11,6 +11,7 @@ use crate::channels::ChannelName;
 use crate::numbers::{far_shown, number_shown};
 use crate::prepared::{FarNumbers, Numbers, far_numbers_of, numbers_of};
 use crate::scales::IndexedSet;
+use crate::several::both;
 use cell_value::Keyed;
 use expr_eval::{EvalError, ParamReader};
 use fixed_num::Num;
@@ -46,11 +47,11 @@ fn ends_named<'a>(
 ) -> Result<EndChannels<'a>, OutOfMemory>
     ensures { IfOk result (λ ends. end_values ends ≡ ends_named (channel_values set.now sets.now) near far whole) }
 {
-    Ok(EndChannels {
-        near: numbers_of(alloc, set, sets, near)?,
-        far: far_numbers_of(alloc, set, sets, far)?,
-        whole,
-    })
+    let (near, far) = both(
+        numbers_of(alloc, set, sets, near),
+        far_numbers_of(alloc, set, sets, far),
+    )?;
+    Ok(EndChannels { near, far, whole })
 }
 
 /// The values in the channels of a rule in a plot of this size.
@@ -63,10 +64,11 @@ pub fn rule_channels<'a>(
 ) -> Result<RuleChannels<'a>, OutOfMemory>
     ensures { IfOk result (λ rule. rule_values rule ≡ rule_values_of width height (channel_values set.now sets.now)) }
 {
-    Ok(RuleChannels {
-        across: ends_named(alloc, set, sets, ChannelName::X, ChannelName::X2, width)?,
-        down: ends_named(alloc, set, sets, ChannelName::Y, ChannelName::Y2, height)?,
-    })
+    let (across, down) = both(
+        ends_named(alloc, set, sets, ChannelName::X, ChannelName::X2, width),
+        ends_named(alloc, set, sets, ChannelName::Y, ChannelName::Y2, height),
+    )?;
+    Ok(RuleChannels { across, down })
 }
 
 // Where a rule begins and ends along one direction for a row.

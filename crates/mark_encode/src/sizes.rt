@@ -10,7 +10,7 @@ use scene_tree::Shape;
 use std::alloc::Global;
 
 /// How large a symbol is, in pixels.
-#[derive(Clone, Copy, Debug)]
+#[derive(Clone, Copy)]
 pub struct SymbolSize {
     /// The root of its size.
     pub side: Num,

@@ -19,6 +19,7 @@ use crate::numbers::size_for;
 use crate::places::{PlaceChannels, places_named};
 use crate::prepared::{Forms, Sizes, forms_of, sizes_of};
 use crate::scales::IndexedSet;
+use crate::several::all_four;
 use crate::sizes::symbol_sized;
 use cell_value::Keyed;
 use expr_eval::{EvalError, ParamReader};
@@ -44,11 +45,17 @@ pub fn symbol_channels<'a>(
 ) -> Result<SymbolChannels<'a>, OutOfMemory>
     ensures { IfOk result (λ symbol. symbol_values symbol ≡ symbol_values_of (channel_values set.now sets.now)) }
 {
+    let (across, down, size, shape) = all_four(
+        places_named(alloc, set, sets, ChannelName::X, ChannelName::Xc),
+        places_named(alloc, set, sets, ChannelName::Y, ChannelName::Yc),
+        sizes_of(alloc, set, sets, ChannelName::Size),
+        forms_of(alloc, set, sets, ChannelName::Shape),
+    )?;
     Ok(SymbolChannels {
-        across: places_named(alloc, set, sets, ChannelName::X, ChannelName::Xc)?,
-        down: places_named(alloc, set, sets, ChannelName::Y, ChannelName::Yc)?,
-        size: sizes_of(alloc, set, sets, ChannelName::Size)?,
-        shape: forms_of(alloc, set, sets, ChannelName::Shape)?,
+        across,
+        down,
+        size,
+        shape,
     })
 }
 

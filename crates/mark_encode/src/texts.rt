@@ -16,6 +16,7 @@ use crate::numbers::{number_by, number_of_row, number_shown};
 use crate::places::{PlaceChannels, place_for, places_named};
 use crate::prepared::{Numbers, Styles, numbers_of, styles_with};
 use crate::scales::IndexedSet;
+use crate::several::{all_three, both};
 use crate::values::{cell_for, first_met};
 use cell_value::{Cell, Keyed};
 use expr_eval::{EvalError, ParamReader};
@@ -46,9 +47,11 @@ fn style_channels<'a>(
 ) -> Result<Styles<'a>, OutOfMemory>
     ensures { IfOk result (λ style. style_values style ≡ style_values_of (channel_values set.now sets.now)) }
 {
-    let size = channel_values(alloc, set, sets, ChannelName::FontSize)?;
-    let align = channel_values(alloc, set, sets, ChannelName::Align)?;
-    let baseline = channel_values(alloc, set, sets, ChannelName::Baseline)?;
+    let (size, align, baseline) = all_three(
+        channel_values(alloc, set, sets, ChannelName::FontSize),
+        channel_values(alloc, set, sets, ChannelName::Align),
+        channel_values(alloc, set, sets, ChannelName::Baseline),
+    )?;
     let style = styles_with(alloc, size, align, baseline)?;
     Ok(style)
 }
@@ -61,13 +64,27 @@ pub fn text_channels<'a>(
 ) -> Result<TextChannels<'a>, OutOfMemory>
     ensures { IfOk result (λ text. text_values text ≡ text_values_of (channel_values set.now sets.now)) }
 {
+    let ((across, down), (dx, dy), (style, words)) = all_three(
+        both(
+            places_named(alloc, set, sets, ChannelName::X, ChannelName::Xc),
+            places_named(alloc, set, sets, ChannelName::Y, ChannelName::Yc),
+        ),
+        both(
+            numbers_of(alloc, set, sets, ChannelName::Dx),
+            numbers_of(alloc, set, sets, ChannelName::Dy),
+        ),
+        both(
+            style_channels(alloc, set, sets),
+            channel_values(alloc, set, sets, ChannelName::Text),
+        ),
+    )?;
     Ok(TextChannels {
-        across: places_named(alloc, set, sets, ChannelName::X, ChannelName::Xc)?,
-        down: places_named(alloc, set, sets, ChannelName::Y, ChannelName::Yc)?,
-        dx: numbers_of(alloc, set, sets, ChannelName::Dx)?,
-        dy: numbers_of(alloc, set, sets, ChannelName::Dy)?,
-        style: style_channels(alloc, set, sets)?,
-        words: channel_values(alloc, set, sets, ChannelName::Text)?,
+        across,
+        down,
+        dx,
+        dy,
+        style,
+        words,
     })
 }
 

@@ -1,8 +1,6 @@
 -- Copies of groups, their rows, and what holds of each.
-use Rattle.std.proofs.Common.{◌≡◌, ℕ, suc, ◌+◌, ◌<◌, ◌≤◌, Bool, true, false, cond, Option, Some, None, List, [], ◌∷◌, ◌++◌, map, filter}
-use Rattle.std.proofs.Common.{flat_map, zip, length, get_or, drop, slice_get, unwrap_or, All, refl, sym, ap, ap₂, ◌∙◌, subst, arith, inl}
-use Rattle.std.proofs.Common.{inr}
-use Rattle.std.specs.Prelude.{◌⊎◌}
+use Rattle.std.proofs.Common.{◌≡◌, ℕ, zero, suc, ◌+◌, ◌<◌, ◌≤◌, min, Bool, true, false, cond, Option, Some, None, List, [], ◌∷◌, ◌++◌, map}
+use Rattle.std.proofs.Common.{filter, flat_map, zip, length, get_or, drop, slice_get, unwrap_or, All, refl, sym, ap, ap₂, ◌∙◌, subst, arith}
 use Rattle.std.specs.Borrow.{Bor}
 use Rattle.std.specs.List.{enumerate_from}
 use Rattle.std.specs.Option.{option_map, option_map_or}
@@ -18,13 +16,11 @@ use Rattle.cell_value.specs.declared.state.Named.{Named}
 use Rattle.cell_value.specs.Datum.{Datum, datum_of}
 use Rattle.cell_value.specs.State.{Dataset, dataset_of, greatest_id}
 use Rattle.plain_rows.specs.Rows.{AreRows, AreKeys, keys_of}
-use Rattle.plain_facets.specs.declared.copies.DividedBy.{DividedBy}
-use Rattle.plain_facets.specs.Facets.{part_of, is_key, key_of, cells_of_fields, cells_of_copies, cells_with_rows}
+use Rattle.plain_facets.specs.Facets.{part_of, is_key, key_of, cells_of_copies, cells_with_rows}
 use Rattle.plain_facets.specs.Rows.{data_of, HaveIds}
 use Rattle.plain_facets.specs.Laws.{keys_read}
 use Rattle.plain_facets.proofs.PartLaw.{parts_are_rows}
 use Rattle.vega_spec.specs.declared.marks.Facet.{Facet}
-use Rattle.vega_spec.specs.declared.orders.Sort.{Sort}
 use Rattle.vega_spec.specs.declared.spec.Group.{Group}
 use Rattle.vega_spec.specs.declared.spec.VgMark.{VgMark, VgMark-F}
 use Rattle.vega_lists.specs.Orders.{texts_in}
@@ -35,12 +31,13 @@ use Rattle.vega_lists.specs.Products.{Products, KeysFit}
 use Rattle.vega_copies.specs.declared.copies.CopyOf.{CopyOf}
 use Rattle.vega_copies.specs.declared.names.NamesAt.{NamesAt}
 use Rattle.vega_copies.specs.Outlines.{facet_in}
-use Rattle.vega_copies.specs.Facets.{Copy, part_named, copy_with, only_copy, copies_of, divided_by, rows_divided, second_of_two, across_by}
+use Rattle.vega_copies.specs.Facets.{Copy, part_named, copy_with, only_copy, copies_of, divided_by, rows_divided}
 use Rattle.vega_copies.specs.Fitting.{with_part_products, products_in_copy}
 use Rattle.vega_copies.specs.inner.Counted.{copies_with_rows}
 use Rattle.vega_copies.specs.inner.Levels.{rows_at, rows_behind, parts_over, AreNames, AreParts}
 use Rattle.vega_copies.specs.inner.Outlined.{group_object}
 use Rattle.vega_copies.specs.inner.Copied.{copy_seen, scope_at, copy_at, parts_at, parts_read, IsCopy}
+use Rattle.vega_copies.proofs.ProductLemmas.{pairs_from, no_more_pairs}
 
 -- ---- lists
 
@@ -50,44 +47,65 @@ first_same x y xs ys e = cc
 others_same : {X : Type 0} (x y : X) (xs ys : List X) → x ∷ xs ≡ y ∷ ys → xs ≡ ys
 others_same x y xs ys e = cc
 
--- where one of two lists has ended, no pair is left
-pub zip_ended : {X Y Z : Type 0} (f : X × Y → Z) (out whole : List Z) (xs : List X) (ys : List Y) → (length xs ≡ 0) ⊎ (length ys ≡ 0)
-    → out ++ map f (zip xs ys) ≡ whole → out ≡ whole
-zip_ended f out whole [] ys end is = sym (append-nil out) ∙ is
-zip_ended f out whole (x ∷ xs) [] end is = sym (append-nil out) ∙ is
-zip_ended f out whole (x ∷ xs) (y ∷ ys) (inl end) is = absurd (omega (arith, end))
-zip_ended f out whole (x ∷ xs) (y ∷ ys) (inr end) is = absurd (omega (arith, end))
+-- an element that is there, whatever else would stand for it
+pub there : {X : Type 0} (xs : List X) (i : ℕ) (d e : X) → i < length xs → get_or xs i d ≡ get_or xs i e
+there [] i d e h = absurd (omega (arith, h))
+there (x ∷ xs) zero d e h = refl
+there (x ∷ xs) (suc i) d e h = there xs i d e (omega (arith, h))
 
-pub zip_itself : {X Y : Type 0} (out whole : List (X × Y)) (xs : List X) (ys : List Y) → (length xs ≡ 0) ⊎ (length ys ≡ 0)
-    → out ++ zip xs ys ≡ whole → out ≡ whole
-zip_itself out whole [] ys end is = sym (append-nil out) ∙ is
-zip_itself out whole (x ∷ xs) [] end is = sym (append-nil out) ∙ is
-zip_itself out whole (x ∷ xs) (y ∷ ys) (inl end) is = absurd (omega (arith, end))
-zip_itself out whole (x ∷ xs) (y ∷ ys) (inr end) is = absurd (omega (arith, end))
-
--- one numbered element more, as it is seen
-pub numbered_more : {X U Y : Type 0} (see : U → Y) (f : ℕ × X → Y) (xs : List X) (i : ℕ) (x : X) (u : U) (out now : List U) (whole : List Y) → i < length xs
-    → x ≡ get_or xs i x → see u ≡ f (i, x) → now ≡ out ++ u ∷ [] → map see out ++ map f (enumerate_from i (drop i xs)) ≡ whole
-    → map see now ++ map f (enumerate_from (i + 1) (drop (i + 1) xs)) ≡ whole
-numbered_more see f xs i x u out now whole within at is pushed so_far =
-    let rest : drop i xs ≡ x ∷ drop (i + 1) xs = drop_more xs i x within ∙ ap (λ z. z ∷ drop (i + 1) xs) (sym at) in
-    ap (λ l. map see l ++ map f (enumerate_from (i + 1) (drop (i + 1) xs))) pushed
-    ∙ ap (λ l. l ++ map f (enumerate_from (i + 1) (drop (i + 1) xs))) (map-append see out (u ∷ []))
-    ∙ append_assoc (map see out) (see u ∷ []) (map f (enumerate_from (i + 1) (drop (i + 1) xs)))
-    ∙ ap (λ y. map see out ++ y ∷ map f (enumerate_from (i + 1) (drop (i + 1) xs))) is
-    ∙ ap (λ d. map see out ++ map f (enumerate_from i d)) (sym rest)
+-- one pair of two lists more
+pub pair_more : {X Y Z : Type 0} (f : X × Y → Z) (xs : List X) (ys : List Y) (at : ℕ) (x : X) (y : Y) (old now whole : List Z)
+    → at < length xs → at < length ys → x ≡ get_or xs at x → y ≡ get_or ys at y → now ≡ old ++ f (x, y) ∷ []
+    → old ++ map f (drop at (zip xs ys)) ≡ whole → now ++ map f (drop (at + 1) (zip xs ys)) ≡ whole
+pair_more f xs ys at x y old now whole h k is_x is_y pushed so_far =
+    let next : at + 1 ≡ suc at = omega arith in
+    ap (λ l. l ++ map f (drop (at + 1) (zip xs ys))) pushed
+    ∙ append_assoc old (f (x, y) ∷ []) (map f (drop (at + 1) (zip xs ys)))
+    ∙ (λ i. old ++ f (is_x i, is_y i) ∷ map f (drop (next i) (zip xs ys)))
+    ∙ ap (λ pairs. old ++ map f pairs) (sym (pairs_from xs ys at x y h k))
     ∙ so_far
 
--- one element more, as it is seen
-pub seen_more : {X U Y : Type 0} (see : U → Y) (f : X → Y) (xs : List X) (i : ℕ) (x : X) (u : U) (out now : List U) (whole : List Y) → i < length xs
-    → x ≡ get_or xs i x → see u ≡ f x → now ≡ out ++ u ∷ [] → map see out ++ map f (drop i xs) ≡ whole → map see now ++ map f (drop (i + 1) xs) ≡ whole
-seen_more see f xs i x u out now whole within at is pushed so_far =
+pub cell_more : {X Y : Type 0} (xs : List X) (ys : List Y) (at : ℕ) (x : X) (y : Y) (old now whole : List (X × Y))
+    → at < length xs → at < length ys → x ≡ get_or xs at x → y ≡ get_or ys at y → now ≡ old ++ (x, y) ∷ []
+    → old ++ drop at (zip xs ys) ≡ whole → now ++ drop (at + 1) (zip xs ys) ≡ whole
+cell_more xs ys at x y old now whole h k is_x is_y pushed so_far =
+    let next : at + 1 ≡ suc at = omega arith in
+    ap (λ l. l ++ drop (at + 1) (zip xs ys)) pushed
+    ∙ append_assoc old ((x, y) ∷ []) (drop (at + 1) (zip xs ys))
+    ∙ (λ i. old ++ (is_x i, is_y i) ∷ drop (next i) (zip xs ys))
+    ∙ ap (λ pairs. old ++ pairs) (sym (pairs_from xs ys at x y h k))
+    ∙ so_far
+
+-- where one of two lists has ended, no pair is left
+pub pairs_ended : {X Y Z : Type 0} (f : X × Y → Z) (xs : List X) (ys : List Y) (at : ℕ) (out whole : List Z) → min (length xs) (length ys) ≤ at
+    → out ++ map f (drop at (zip xs ys)) ≡ whole → out ≡ whole
+pairs_ended f xs ys at out whole end is =
+    sym (append-nil out) ∙ ap (λ pairs. out ++ map f pairs) (sym (no_more_pairs xs ys at end)) ∙ is
+
+pub cells_ended : {X Y : Type 0} (xs : List X) (ys : List Y) (at : ℕ) (out whole : List (X × Y)) → min (length xs) (length ys) ≤ at
+    → out ++ drop at (zip xs ys) ≡ whole → out ≡ whole
+cells_ended xs ys at out whole end is =
+    sym (append-nil out) ∙ ap (λ pairs. out ++ pairs) (sym (no_more_pairs xs ys at end)) ∙ is
+
+-- one numbered element more
+pub numbered_more : {X Y : Type 0} (f : ℕ × X → Y) (xs : List X) (i : ℕ) (x : X) (old now whole : List Y) → i < length xs
+    → x ≡ get_or xs i x → now ≡ old ++ f (i, x) ∷ [] → old ++ map f (enumerate_from i (drop i xs)) ≡ whole
+    → now ++ map f (enumerate_from (i + 1) (drop (i + 1) xs)) ≡ whole
+numbered_more f xs i x old now whole within at pushed so_far =
     let rest : drop i xs ≡ x ∷ drop (i + 1) xs = drop_more xs i x within ∙ ap (λ z. z ∷ drop (i + 1) xs) (sym at) in
-    ap (λ l. map see l ++ map f (drop (i + 1) xs)) pushed
-    ∙ ap (λ l. l ++ map f (drop (i + 1) xs)) (map-append see out (u ∷ []))
-    ∙ append_assoc (map see out) (see u ∷ []) (map f (drop (i + 1) xs))
-    ∙ ap (λ y. map see out ++ y ∷ map f (drop (i + 1) xs)) is
-    ∙ ap (λ d. map see out ++ map f d) (sym rest)
+    ap (λ l. l ++ map f (enumerate_from (i + 1) (drop (i + 1) xs))) pushed
+    ∙ append_assoc old (f (i, x) ∷ []) (map f (enumerate_from (i + 1) (drop (i + 1) xs)))
+    ∙ ap (λ d. old ++ map f (enumerate_from i d)) (sym rest)
+    ∙ so_far
+
+-- one element more
+pub shown_more : {X Y : Type 0} (f : X → Y) (xs : List X) (i : ℕ) (x : X) (old now whole : List Y) → i < length xs
+    → x ≡ get_or xs i x → now ≡ old ++ f x ∷ [] → old ++ map f (drop i xs) ≡ whole → now ++ map f (drop (i + 1) xs) ≡ whole
+shown_more f xs i x old now whole within at pushed so_far =
+    let rest : drop i xs ≡ x ∷ drop (i + 1) xs = drop_more xs i x within ∙ ap (λ z. z ∷ drop (i + 1) xs) (sym at) in
+    ap (λ l. l ++ map f (drop (i + 1) xs)) pushed
+    ∙ append_assoc old (f x ∷ []) (map f (drop (i + 1) xs))
+    ∙ ap (λ d. old ++ map f d) (sym rest)
     ∙ so_far
 
 -- ---- rows behind references
@@ -107,17 +125,20 @@ pub rows_have_ids : (rows : List (Bor Keyed)) (held : List Keyed) → rows_behin
 rows_have_ids rows held is are = ids_of_keys rows (subst AreRows (sym is) are).small_ids
 
 -- one list more
-pub divided_more : (scope : Scope) (lists : List (List ℕ)) (i : ℕ) (list : List ℕ) (old more now : List (Bor Keyed)) (whole : List Datum) → i < length lists
-    → list ≡ get_or lists i list → now ≡ old ++ more → data_of more ≡ scope list → data_of old ++ flat_map scope (drop i lists) ≡ whole
-    → data_of now ++ flat_map scope (drop (i + 1) lists) ≡ whole
-divided_more scope lists i list old more now whole within at is read so_far =
+pub divided_more : (scope : Scope) (lists : List (List ℕ)) (i : ℕ) (list : List ℕ) (old now whole : List Datum) → i < length lists
+    → list ≡ get_or lists i list → now ≡ old ++ scope list → old ++ flat_map scope (drop i lists) ≡ whole
+    → now ++ flat_map scope (drop (i + 1) lists) ≡ whole
+divided_more scope lists i list old now whole within at is so_far =
     let rest : drop i lists ≡ list ∷ drop (i + 1) lists = drop_more lists i list within ∙ ap (λ z. z ∷ drop (i + 1) lists) (sym at) in
-    ap (λ l. data_of l ++ flat_map scope (drop (i + 1) lists)) is
-    ∙ ap (λ l. l ++ flat_map scope (drop (i + 1) lists)) (map-append (λ (row : Bor Keyed). datum_of row.now) old more)
-    ∙ append_assoc (data_of old) (data_of more) (flat_map scope (drop (i + 1) lists))
-    ∙ ap (λ m. data_of old ++ (m ++ flat_map scope (drop (i + 1) lists))) read
-    ∙ ap (λ d. data_of old ++ flat_map scope d) (sym rest)
+    ap (λ l. l ++ flat_map scope (drop (i + 1) lists)) is
+    ∙ append_assoc old (scope list) (flat_map scope (drop (i + 1) lists))
+    ∙ ap (λ d. old ++ flat_map scope d) (sym rest)
     ∙ so_far
+
+-- the rows of one list more
+pub data_more : (old more now : List (Bor Keyed)) (read : List Datum) → now ≡ old ++ more → data_of more ≡ read → data_of now ≡ data_of old ++ read
+data_more old more now read is reads =
+    ap data_of is ∙ map-append (λ (row : Bor Keyed). datum_of row.now) old more ∙ ap (λ rows. data_of old ++ rows) reads
 
 pub ids_more : (old more now : List (Bor Keyed)) → now ≡ old ++ more → HaveIds old → HaveIds more → HaveIds now
 ids_more old more now is a b =
@@ -180,34 +201,19 @@ module _ (names : NamesAt) (fields : List (List ℕ)) (keys : List (List Cell)) 
         (copies_from (before ++ key ∷ []) rest (i + 1) (e ∙ sym (append_assoc before (key ∷ []) rest))
         (omega (arith, at, length-append before (key ∷ []))))
 
--- the copies by a facet
-module _ (names : NamesAt) (sort : Option Sort) (f : Facet) (d : DividedBy) (rows : List (Bor Keyed)) (lists : List (List ℕ)) where
-  divided_rows : data_of rows ≡ flat_map (scope_at names) lists → lists ≡ texts_in f.data_ → data_of rows ≡ rows_divided (scope_at names) f
-  divided_rows read listed = read ∙ ap (flat_map (scope_at names)) listed
+-- the rows that a facet divides
+pub rows_are : (names : NamesAt) (f : Facet) (shown rows : List (Bor Keyed)) (lists : List (List ℕ))
+    → shown ≡ rows → data_of rows ≡ flat_map (scope_at names) lists → lists ≡ texts_in f.data_ → data_of shown ≡ rows_divided (scope_at names) f
+rows_are names f shown rows lists are read listed = ap data_of are ∙ read ∙ ap (flat_map (scope_at names)) listed
 
-  -- the copies with some of the cells
-  pub copies_are : (cells : DividedBy → List Datum → List (List Cell)) (keys : List (List Cell)) (fields own : List (List ℕ))
-      (tables : List (List (List (Bor Keyed)))) (copies : List CopyOf)
-      → d ≡ divided_by sort f → data_of rows ≡ flat_map (scope_at names) lists → keys ≡ cells d (data_of rows)
-      → fields ≡ f.groupby → own ≡ texts_in f.name → lists ≡ texts_in f.data_
-      → map (map data_of) tables ≡ map (parts_read names fields keys) lists
-      → map copy_seen copies ≡ map (copy_at fields own tables) (enumerate_from 0 keys)
-      → map copy_seen copies ≡ map (copy_with (scope_at names) f) (cells (divided_by sort f) (rows_divided (scope_at names) f))
-  copies_are cells keys fields own tables copies divided read celled by_fields owned listed parted made =
-      made
-      ∙ copies_from names fields keys own lists tables parted [] keys 0 refl refl
-      ∙ (λ i. map (copy_from names (by_fields i) (owned i) (listed i)) keys)
-      ∙ ap (map (copy_with (scope_at names) f)) (celled ∙ (λ i. cells (divided i) (divided_rows read listed i)))
-
-  -- a number by the rows that are divided
-  pub number_is : (count : DividedBy → List Datum → ℕ) (n : ℕ) → d ≡ divided_by sort f → data_of rows ≡ flat_map (scope_at names) lists
-      → lists ≡ texts_in f.data_ → n ≡ count d (data_of rows) → n ≡ count (divided_by sort f) (rows_divided (scope_at names) f)
-  number_is count n divided read listed is = is ∙ (λ i. count (divided i) (divided_rows read listed i))
-
-  pub across_are : (across : Option ℕ) → d ≡ divided_by sort f → data_of rows ≡ flat_map (scope_at names) lists → lists ≡ texts_in f.data_
-      → across ≡ cond d.crosses (second_of_two (cells_of_fields d (data_of rows))) None → across ≡ across_by (scope_at names) sort f
-  across_are across divided read listed is =
-      is ∙ (λ i. cond (divided i).crosses (second_of_two (cells_of_fields (divided i) (divided_rows read listed i))) None)
+-- the copies by a facet with some cells
+pub copies_are : (names : NamesAt) (f : Facet) (keys : List (List Cell)) (fields own lists : List (List ℕ)) (tables : List (List (List (Bor Keyed))))
+    → fields ≡ f.groupby → own ≡ texts_in f.name → lists ≡ texts_in f.data_
+    → map (map data_of) tables ≡ map (parts_read names fields keys) lists
+    → map (copy_at fields own tables) (enumerate_from 0 keys) ≡ map (copy_with (scope_at names) f) keys
+copies_are names f keys fields own lists tables by_fields owned listed parted =
+    copies_from names fields keys own lists tables parted [] keys 0 refl refl
+    ∙ (λ i. map (copy_from names (by_fields i) (owned i) (listed i)) keys)
 
 -- ---- what holds of copies
 

@@ -14,6 +14,7 @@ pub mod PassLaw
 pub mod MadeLemmas
 pub mod SeenFacts
 pub mod FactsLemmas
+pub mod FoundLemmas
 pub mod PathLemmas
 pub mod PanelLemmas
 pub mod BareLemmas

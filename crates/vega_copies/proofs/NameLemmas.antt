@@ -1,6 +1,6 @@
 -- What levels of names stand for.
 use Rattle.std.proofs.Common.{◌≡◌, ℕ, Bool, true, false, cond, ◌||◌, Option, Some, None, List, [], ◌∷◌, map, refl, sym, ap, ◌∙◌, subst}
-use Rattle.std.specs.Prelude.{is_none, unwrap_or, ◌<◌, ◌+◌, length, Err, drop, get_or}
+use Rattle.std.specs.Prelude.{is_none, unwrap_or, ◌<◌, ◌+◌, length, Result, Ok, Err, drop, get_or}
 use Rattle.std.specs.List.{list_any}
 use Rattle.std.proofs.lemmas.List.{drop_more}
 use Rattle.std.proofs.lemmas.List.Elements.{All-head, All-tail}
@@ -13,7 +13,8 @@ use Rattle.cell_value.specs.Datum.{CellAt}
 use Rattle.cell_value.specs.declared.state.Keyed.{Keyed}
 use Rattle.cell_value.specs.declared.state.Named.{Named}
 use Rattle.cell_value.specs.declared.state.StoreOf.{StoreOf}
-use Rattle.vega_lists.specs.Inside.{RowsByName, rows_held}
+use Rattle.vega_lists.specs.declared.held.Lists.{Lists}
+use Rattle.vega_lists.specs.Inside.{RowsByName, rows_held, GivesInside}
 use Rattle.cell_value.specs.State.{dataset_of}
 use Rattle.expr_eval.specs.Answers.{Evaluates, RisesBy}
 use Rattle.expr_eval.specs.declared.error.EvalError.{EvalError}
@@ -30,7 +31,8 @@ use Rattle.vega_copies.specs.Outlines.{Object}
 use Rattle.vega_copies.specs.Scopes.{Names, names_with}
 use Rattle.vega_copies.specs.declared.names.NamesAt.{NamesAt}
 use Rattle.vega_copies.specs.declared.names.Level.{Level}
-use Rattle.vega_copies.specs.inner.Levels.{part_named, parts_over, rows_here, rows_at, values_at, names_over, names_with_parts, AreParts}
+use Rattle.vega_copies.specs.inner.Levels.{part_named, parts_over, rows_here, rows_at, values_at, names_over, names_with_lists, names_with_parts, AreParts}
+use Rattle.vega_copies.specs.inner.Results.{result_map}
 
 -- the rows of a part, or those round it
 pub part_found : (parts : List Named) (rows : RowsByName) (name : List ℕ)
@@ -146,17 +148,22 @@ module _ (outer : NamesAt) (parts : List Named) (o : Object) (own : Settled) whe
       lists_of (values_inside own (values_at outer.stores.now outer.levels.now)) (map dataset_of outer.sources.now)
       (scope_read (parts_over parts (rows_at outer.sources.now outer.levels.now))) o.sets
 
-  pub names_are : (given : Valued) (found : Bool)
+  -- by whether a data set mentions a signal without value
+  pub names_by : (found : Bool) → found ≡ list_any (set_lacks (values_inside own (values_at outer.stores.now outer.levels.now))) o.sets
+      → names_with (map dataset_of outer.sources.now) (names_over outer parts) o own ≡ cond found None (option_map read_as lists_found)
+  names_by found any = ap (λ b. cond b None (option_map read_as lists_found)) (sym any)
+
+  -- by the lists that its data sets give
+  pub names_listed : (result : Result Lists EvalError)
+      → GivesInside outer.sources.now (parts_over parts (rows_at outer.sources.now outer.levels.now)) result lists_found
+      → Evaluates (result_map (names_with_lists outer parts own) result) (option_map read_as lists_found)
+  names_listed (Ok lists) given = ap (option_map read_as) given
+  names_listed (Err Overflow) none = ap (option_map read_as) none
+  names_listed (Err Memory) none = tt
+
+  -- where the signals are settled
+  pub names_settled : (given : Valued)
       → own ≡ settled_own (map dataset_of outer.sources.now) (scope_read (parts_over parts (rows_at outer.sources.now outer.levels.now)))
       (values_at outer.stores.now outer.levels.now) given o.signals o.sets
-      → found ≡ list_any (set_lacks (values_inside own (values_at outer.stores.now outer.levels.now))) o.sets
-      → names_with_parts outer parts o given ≡ cond found None (option_map read_as lists_found)
-  names_are given found settled any =
-      ap (names_with (map dataset_of outer.sources.now) (names_over outer parts) o) (sym settled)
-      ∙ ap (λ b. cond b None (option_map read_as lists_found)) (sym any)
-
--- what fails below fails above
-pub fails_with : {X Y : Type 0} (f : X → Y) (error : EvalError) (given : Option X) (whole : Option Y) → whole ≡ option_map f given
-    → Evaluates {X = X} (Err error) given → Evaluates {X = Y} (Err error) whole
-fails_with f Overflow given whole e none = e ∙ ap (option_map f) none
-fails_with f Memory given whole e none = tt
+      → names_with_parts outer parts o given ≡ names_with (map dataset_of outer.sources.now) (names_over outer parts) o own
+  names_settled given settled = ap (names_with (map dataset_of outer.sources.now) (names_over outer parts) o) (sym settled)

@@ -1,5 +1,5 @@
 -- How products are put under names, and what levels of them give.
-use Rattle.std.proofs.Common.{◌≡◌, ℕ, zero, suc, ◌+◌, ◌<◌, min, Bool, true, false, cond, List, [], ◌∷◌, Option, Some, None, map, length, drop, get_or}
+use Rattle.std.proofs.Common.{◌≡◌, ℕ, zero, suc, ◌+◌, ◌<◌, ◌≤◌, min, Bool, true, false, cond, List, [], ◌∷◌, Option, Some, None, map, length, drop, get_or}
 use Rattle.std.proofs.Common.{unwrap_or, refl, sym, ap, ◌∙◌, arith}
 use Rattle.std.specs.Prelude.{zip}
 use Rattle.std.specs.Option.{option_map, option_map_or}
@@ -45,24 +45,24 @@ here_or_more levels i level name within is =
     (drop_more levels i level within ∙ ap (λ l. l ∷ drop (i + 1) levels) (sym is))
 
 -- the pair at a place, and those behind it
-pairs_from : (names lists : List (List ℕ)) (at : ℕ) (name list : List ℕ) → at < length names → at < length lists
-    → drop at (zip names lists) ≡ (get_or names at name, get_or lists at list) ∷ drop (suc at) (zip names lists)
-pairs_from [] lists at name list h k = absurd (omega (arith, h))
-pairs_from (n ∷ names) [] at name list h k = absurd (omega (arith, k))
-pairs_from (n ∷ names) (l ∷ lists) zero name list h k = refl
-pairs_from (n ∷ names) (l ∷ lists) (suc at) name list h k = pairs_from names lists at name list (omega (arith, h)) (omega (arith, k))
+pub pairs_from : {X Y : Type 0} (xs : List X) (ys : List Y) (at : ℕ) (x : X) (y : Y) → at < length xs → at < length ys
+    → drop at (zip xs ys) ≡ (get_or xs at x, get_or ys at y) ∷ drop (suc at) (zip xs ys)
+pairs_from [] ys at x y h k = absurd (omega (arith, h))
+pairs_from (a ∷ xs) [] at x y h k = absurd (omega (arith, k))
+pairs_from (a ∷ xs) (b ∷ ys) zero x y h k = refl
+pairs_from (a ∷ xs) (b ∷ ys) (suc at) x y h k = pairs_from xs ys at x y (omega (arith, h)) (omega (arith, k))
 
 -- behind all pairs is none
-no_more_pairs : (names lists : List (List ℕ)) (n : ℕ) → n ≡ min (length names) (length lists) → drop n (zip names lists) ≡ []
-no_more_pairs [] lists n e = drop-nil n
-no_more_pairs (x ∷ names) [] n e = drop-nil n
-no_more_pairs (x ∷ names) (y ∷ lists) zero e = absurd (grind (arith, e))
-no_more_pairs (x ∷ names) (y ∷ lists) (suc n) e = no_more_pairs names lists n (grind (arith, e))
+pub no_more_pairs : {X Y : Type 0} (xs : List X) (ys : List Y) (n : ℕ) → min (length xs) (length ys) ≤ n → drop n (zip xs ys) ≡ []
+no_more_pairs [] ys n h = drop-nil n
+no_more_pairs (x ∷ xs) [] n h = drop-nil n
+no_more_pairs (x ∷ xs) (y ∷ ys) zero h = absurd (grind (arith, h))
+no_more_pairs (x ∷ xs) (y ∷ ys) (suc n) h = no_more_pairs xs ys n (grind (arith, h))
 
 -- before any part is put
 pub no_part_yet : (names lists : List (List ℕ)) (n : ℕ) (outer : Products) → n ≡ min (length names) (length lists)
     → outer ≡ with_part_products (drop n (zip names lists)) outer
-no_part_yet names lists n outer e = sym (ap (λ pairs. with_part_products pairs outer) (no_more_pairs names lists n e))
+no_part_yet names lists n outer e = sym (ap (λ pairs. with_part_products pairs outer) (no_more_pairs names lists n (omega (arith, e))))
 
 -- one part more, before those that were put
 pub part_put : (names lists : List (List ℕ)) (at next : ℕ) (name list : List ℕ) (old new : Places) (outer : Products)

@@ -1,9 +1,8 @@
 // Groups of which each copy holds as many plots as any other.
-ghost use Rattle.std.specs.Prelude.{◌≡◌, ◌∷◌, []};
+ghost use Rattle.std.specs.Prelude.{◌≡◌, ◌∷◌, [], option_copied};
 ghost use Rattle.std.specs.List.{list_any};
 ghost use Rattle.vega_spec.specs.declared.spec.Group.{out-Group};
 ghost use Rattle.vega_spec.specs.declared.spec.VgMark.{out-VgMark};
-ghost use Rattle.vega_copies.specs.Outlines.{facet_in};
 ghost use Rattle.vega_copies.specs.inner.Alike.{is_one_of, divides_none, reads_none, all_read_none, group_reads_none, names_of_parts, are_alike};
 ghost use Rattle.vega_copies.specs.inner.Outlined.{marks_in, marks_of, group_object};
 
@@ -12,7 +11,7 @@ use crate::marks::{is_group, marks_in};
 use text_kit::Text;
 use vega_lists::texts_in;
 use vega_signals::data_of;
-use vega_spec::VgMark;
+use vega_spec::{Facet, VgMark};
 
 // Whether a name is one of some.
 fn is_one_of(names: &[Text], name: &str) -> bool
@@ -39,10 +38,10 @@ fn is_any_named(names: &[Text], lists: &[Text]) -> bool
 }
 
 // Whether the facet of a group, if it has one, divides none of the lists of these names.
-fn divides_none(names: &[Text], mark: &VgMark) -> bool
-    ensures { result ≡ divides_none names.now (facet_in (out-VgMark mark.now).from) }
+fn divides_none(names: &[Text], facet: Option<&Facet>) -> bool
+    ensures { result ≡ divides_none names.now (option_copied facet.entry) }
 {
-    match facet_in(mark) {
+    match facet {
         Some(facet) => !is_any_named(names, texts_in(&facet.data_)),
         None => true,
     }
@@ -52,7 +51,7 @@ fn divides_none(names: &[Text], mark: &VgMark) -> bool
 fn reads_none(names: &[Text], mark: &VgMark) -> bool
     ensures { result ≡ reads_none names.now (group_object 0 (out-VgMark mark.now)) }
 {
-    data_of(&mark.group).len() == 0 && divides_none(names, mark)
+    data_of(&mark.group).len() == 0 && divides_none(names, facet_in(mark))
 }
 
 // Whether this holds of each group among marks.
@@ -91,10 +90,10 @@ fn group_reads_none(names: &[Text], mark: &VgMark) -> bool
 }
 
 // The names that the lists of the facet of a group have in a copy.
-fn names_of_parts(mark: &VgMark) -> &[Text]
-    ensures { result.now ≡ names_of_parts (facet_in (out-VgMark mark.now).from) }
+fn names_of_parts(facet: Option<&Facet>) -> &[Text]
+    ensures { result.now ≡ names_of_parts (option_copied facet.entry) }
 {
-    match facet_in(mark) {
+    match facet {
         Some(facet) => texts_in(&facet.name),
         None => &[],
     }
@@ -105,5 +104,6 @@ fn names_of_parts(mark: &VgMark) -> &[Text]
 pub(crate) fn are_alike(mark: &VgMark) -> bool
     ensures { result ≡ are_alike (group_object 0 (out-VgMark mark.now)) (marks_of (marks_in (out-Group (out-VgMark mark.now).group))) }
 {
-    data_of(&mark.group).len() == 0 && all_read_none(names_of_parts(mark), marks_in(&mark.group))
+    data_of(&mark.group).len() == 0
+        && all_read_none(names_of_parts(facet_in(mark)), marks_in(&mark.group))
 }

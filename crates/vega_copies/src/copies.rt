@@ -1,24 +1,24 @@
 // The copies of a group by its facet.
-ghost use Rattle.std.specs.Prelude.{◌≡◌, ◌∷◌, [], None, All, IfOk, map, flat_map, zip, min, length, slice_get, option_copied, unwrap_or, if◌then◌else◌};
+ghost use Rattle.std.specs.Prelude.{◌≡◌, ◌∷◌, ◌++◌, [], None, IfOk, OnOk, map, flat_map, zip, min, length, slice_get, option_copied, unwrap_or, if◌then◌else◌};
 ghost use Rattle.std.specs.Option.{option_map};
 ghost use Rattle.std.specs.List.{enumerate_from};
-ghost use Rattle.plain_facets.specs.Facets.{part_of, cells_of_fields, cells_of_copies, AreDifferent};
+ghost use Rattle.plain_facets.specs.Facets.{part_of, cells_of_fields, cells_of_copies, cells_with_rows, count_without_rows, AreDifferent};
 ghost use Rattle.plain_facets.specs.Rows.{data_of, HaveIds};
 ghost use Rattle.vega_spec.specs.declared.spec.VgMark.{out-VgMark};
-ghost use Rattle.vega_lists.specs.Held.{scope_read};
 ghost use Rattle.vega_lists.specs.Orders.{sort_settings};
-ghost use Rattle.vega_copies.specs.Facets.{crosses, divided_by, second_of_two, only_copy, copies_by, across_by, copies_of, columns_across};
+ghost use Rattle.vega_copies.specs.Facets.{crosses, divided_by, rows_divided, second_of_two, copy_with, only_copy, copies_by, across_by};
 ghost use Rattle.vega_copies.specs.Outlines.{facet_in};
-ghost use Rattle.vega_copies.specs.inner.Levels.{rows_behind, rows_at, AreNames};
-ghost use Rattle.vega_copies.specs.inner.Outlined.{group_object};
-ghost use Rattle.vega_copies.specs.declared.names.NamesAt.{NamesAt as HeldNames};
-ghost use Rattle.vega_copies.specs.inner.Copied.{copy_seen, copy_at, parts_at, parts_read, scope_at, IsCopy};
-ghost use Rattle.vega_copies.specs.inner.Counted.{most_counted, with_rows_by, without_rows_by, copies_with_rows, count_bare, bare_named};
+ghost use Rattle.vega_copies.specs.inner.Levels.{rows_behind, AreNames};
+ghost use Rattle.vega_copies.specs.inner.Copied.{across_with_facet, copies_with_facet, copy_seen, copy_at, named_cell, part_at, parts_at};
+ghost use Rattle.vega_copies.specs.inner.Copied.{parts_read, rows_named, scope_at};
+ghost use Rattle.vega_copies.specs.inner.Counted.{most_counted, with_rows_by, without_rows_by, rows_with_facet, bare_with_facet, bare_named};
 ghost use Rattle.vega_copies.specs.inner.Counted.{parts_of_bare, bare_copy};
 
 use crate::names::NamesAt;
 use cell_value::{Cell, Keyed, Named, Rows};
-use plain_facets::{DividedBy, cells_of_copies, cells_of_fields, choices, count_cells, parts_of};
+use plain_facets::{
+    CellsCounted, DividedBy, cells_of_copies, cells_of_fields, choices, count_cells, parts_of,
+};
 use plain_rows::SortBy;
 use std::alloc::Global;
 use text_kit::{OutOfMemory, Seq, Text, copy_list};
@@ -97,6 +97,21 @@ fn rows_listed<'a>(
     Ok(names.rows(alloc, list.as_str())?)
 }
 
+// Adds the rows for which a name stands.
+fn push_listed<'a>(
+    alloc: Global,
+    names: &'a NamesAt<'a>,
+    list: &Text,
+    rows: &mut Seq<&'a Keyed>,
+) -> Result<(), OutOfMemory>
+    requires names { AreNames names.now }
+    requires ids { HaveIds rows.now }
+    ensures read { OnOk result (data_of rows.new ≡ data_of rows.old ++ scope_at names.now list.now) }
+    ensures ids { OnOk result (HaveIds rows.new) }
+{
+    rows.append(rows_listed(alloc, names, list)?)
+}
+
 // The rows of some lists, list after list.
 fn rows_divided<'a>(
     alloc: Global,
@@ -109,7 +124,7 @@ fn rows_divided<'a>(
 {
     let mut rows = Seq::new(alloc);
     for list in lists {
-        rows.append(rows_listed(alloc, names, list)?)?;
+        push_listed(alloc, names, list, &mut rows)?;
     }
     Ok(rows)
 }
@@ -153,6 +168,13 @@ fn cells_of(alloc: Global, d: &DividedBy, rows: &[&Keyed]) -> Result<CellsOf, Ou
     }
 }
 
+// Adds a field with its cell.
+fn push_cell(field: &Text, cell: &Cell, named: &mut Seq<(Text, Cell)>) -> Result<(), OutOfMemory>
+    ensures { OnOk result (named.new ≡ named.old ++ named_cell field.now cell.now ∷ []) }
+{
+    named.push((field.copy()?, cell.copy()?))
+}
+
 // Fields with their cells.
 fn named_cells(
     alloc: Global,
@@ -162,8 +184,8 @@ fn named_cells(
     ensures { IfOk result (λ named. named ≡ zip fields.now cells.now) }
 {
     let mut named = Seq::new(alloc);
-    for (field, cell) in fields.iter().zip(cells) {
-        named.push((field.copy()?, cell.copy()?))?;
+    for at in 0..fields.len().min(cells.len()) {
+        push_cell(&fields[at], &cells[at], &mut named)?;
     }
     Ok(named)
 }
@@ -182,7 +204,24 @@ fn parts_named<'a>(
         ≡ map (λ key. part_of fields.now key (scope_at names.now list.now)) copies.now) }
 {
     let rows = rows_listed(alloc, names, list)?;
-    Ok(parts_of(alloc, fields, copies, rows.as_slice())?)
+    parts_of(alloc, fields, copies, rows.as_slice())
+}
+
+// Adds them to those of other lists.
+fn push_parts<'a>(
+    alloc: Global,
+    names: &'a NamesAt<'a>,
+    fields: &[Text],
+    copies: &[Seq<Cell>],
+    list: &Text,
+    tables: &mut Seq<Seq<Seq<&'a Keyed>>>,
+) -> Result<(), OutOfMemory>
+    requires names { AreNames names.now }
+    requires different { AreDifferent copies.now }
+    ensures { OnOk result (map (map data_of) tables.new
+        ≡ map (map data_of) tables.old ++ parts_read names.now fields.now copies.now list.now ∷ []) }
+{
+    tables.push(parts_named(alloc, names, fields, copies, list)?)
 }
 
 // The same for each of some lists.
@@ -200,16 +239,16 @@ fn all_parts_named<'a>(
 {
     let mut tables = Seq::with_capacity(alloc, lists.len())?;
     for list in lists {
-        tables.push(parts_named(alloc, names, fields, copies, list)?)?;
+        push_parts(alloc, names, fields, copies, list, &mut tables)?;
     }
     Ok(tables)
 }
 
-// A copy of a row.
-fn row_copied(row: &Keyed) -> Result<Keyed, OutOfMemory>
-    ensures { IfOk result (λ copy. copy ≡ row.now) }
+// Adds a copy of a row.
+fn push_copied(row: &Keyed, copies: &mut Rows) -> Result<(), OutOfMemory>
+    ensures { OnOk result (copies.new ≡ copies.old ++ row.now ∷ []) }
 {
-    row.copy()
+    copies.push(row.copy()?)
 }
 
 // Copies of rows.
@@ -218,7 +257,7 @@ fn all_copied(alloc: Global, rows: &[&Keyed]) -> Result<Rows, OutOfMemory>
 {
     let mut copies = Seq::with_capacity(alloc, rows.len())?;
     for row in rows {
-        copies.push(row_copied(row)?)?;
+        push_copied(row, &mut copies)?;
     }
     Ok(copies)
 }
@@ -233,6 +272,29 @@ fn rows_copied(alloc: Global, table: &Seq<Seq<&Keyed>>, copy: usize) -> Result<R
     }
 }
 
+// Adds rows under a name.
+fn push_named(name: &Text, rows: Rows, parts: &mut Seq<Named>) -> Result<(), OutOfMemory>
+    ensures { OnOk result (parts.new ≡ parts.old ++ rows_named name.now rows ∷ []) }
+{
+    parts.push(Named {
+        name: name.copy()?,
+        rows,
+    })
+}
+
+// Adds the part of a copy in one list, under its name there.
+fn push_part(
+    alloc: Global,
+    name: &Text,
+    table: &Seq<Seq<&Keyed>>,
+    copy: usize,
+    parts: &mut Seq<Named>,
+) -> Result<(), OutOfMemory>
+    ensures { OnOk result (parts.new ≡ parts.old ++ part_at copy (name.now, table.now) ∷ []) }
+{
+    push_named(name, rows_copied(alloc, table, copy)?, parts)
+}
+
 // The parts of a copy in all lists, by their names.
 fn parts_at(
     alloc: Global,
@@ -243,11 +305,8 @@ fn parts_at(
     ensures { IfOk result (λ parts. parts ≡ parts_at copy names.now tables.now) }
 {
     let mut parts = Seq::new(alloc);
-    for (name, table) in names.iter().zip(tables) {
-        parts.push(Named {
-            name: name.copy()?,
-            rows: rows_copied(alloc, table, copy)?,
-        })?;
+    for at in 0..names.len().min(tables.len()) {
+        push_part(alloc, &names[at], &tables[at], copy, &mut parts)?;
     }
     Ok(parts)
 }
@@ -269,6 +328,22 @@ fn copy_at(
     })
 }
 
+// Adds the copy with some cells, which stands at a place.
+fn push_copy(
+    alloc: Global,
+    fields: &[Text],
+    names: &[Text],
+    tables: &[Seq<Seq<&Keyed>>],
+    place: usize,
+    key: &Seq<Cell>,
+    copies: &mut Seq<CopyOf>,
+) -> Result<(), OutOfMemory>
+    ensures { OnOk result (map copy_seen copies.new
+        ≡ map copy_seen copies.old ++ copy_at fields.now names.now tables.now (place, key.now) ∷ []) }
+{
+    copies.push(copy_at(alloc, fields, names, tables, place, key)?)
+}
+
 // The copies with some cells.
 fn copies_with(
     alloc: Global,
@@ -282,9 +357,68 @@ fn copies_with(
 {
     let mut copies = Seq::with_capacity(alloc, cells.len())?;
     for (place, key) in cells.iter().enumerate() {
-        copies.push(copy_at(alloc, fields, names, tables, place, key)?)?;
+        push_copy(alloc, fields, names, tables, place, key, &mut copies)?;
     }
     Ok(copies)
+}
+
+// The cells of the copies by a facet over some rows.
+fn cells_over(
+    alloc: Global,
+    sort: &Option<Sort>,
+    facet: &Facet,
+    rows: &[&Keyed],
+) -> Result<CellsOf, OutOfMemory>
+    requires { HaveIds rows.now }
+    ensures copies { IfOk result (λ found. found.copies ≡ cells_of_copies (divided_by sort.now facet.now) (data_of rows.now)) }
+    ensures across { IfOk result (λ found. found.across
+        ≡ (if crosses facet.now then second_of_two (cells_of_fields (divided_by sort.now facet.now) (data_of rows.now)) else None)) }
+    ensures different { IfOk result (λ found. AreDifferent found.copies) }
+{
+    let d = divided_by(alloc, sort, facet)?;
+    cells_of(alloc, &d, rows)
+}
+
+// The cells of the copies by a facet.
+fn cells_by(
+    alloc: Global,
+    names: &NamesAt,
+    sort: &Option<Sort>,
+    facet: &Facet,
+) -> Result<CellsOf, OutOfMemory>
+    requires names { AreNames names.now }
+    ensures copies { IfOk result (λ found. found.copies
+        ≡ cells_of_copies (divided_by sort.now facet.now) (rows_divided (scope_at names.now) facet.now)) }
+    ensures across { IfOk result (λ found. found.across ≡ across_by (scope_at names.now) sort.now facet.now) }
+    ensures different { IfOk result (λ found. AreDifferent found.copies) }
+{
+    let rows = rows_divided(alloc, names, texts_in(&facet.data_))?;
+    cells_over(alloc, sort, facet, rows.as_slice())
+}
+
+// The copies by a facet that have these cells.
+fn copies_of_cells(
+    alloc: Global,
+    names: &NamesAt,
+    facet: &Facet,
+    cells: &[Seq<Cell>],
+) -> Result<Seq<CopyOf>, OutOfMemory>
+    requires names { AreNames names.now }
+    requires different { AreDifferent cells.now }
+    ensures { IfOk result (λ copies. map copy_seen copies ≡ map (copy_with (scope_at names.now) facet.now) cells.now) }
+{
+    let lists = texts_in(&facet.data_);
+    let fields = facet.groupby.as_slice();
+    let tables = all_parts_named(alloc, names, fields, cells, lists)?;
+    let copies = copies_with(
+        alloc,
+        fields,
+        cells,
+        texts_in(&facet.name),
+        tables.as_slice(),
+    );
+    drop(tables);
+    copies
 }
 
 // The copies by a facet.
@@ -298,20 +432,9 @@ fn copies_by(
     ensures copies { IfOk result (λ found. map copy_seen found.copies ≡ copies_by (scope_at names.now) sort.now facet.now) }
     ensures across { IfOk result (λ found. found.across ≡ across_by (scope_at names.now) sort.now facet.now) }
 {
-    let d = divided_by(alloc, sort, facet)?;
-    let lists = texts_in(&facet.data_);
-    let rows = rows_divided(alloc, names, lists)?;
-    let cells = cells_of(alloc, &d, rows.as_slice())?;
-    let fields = facet.groupby.as_slice();
-    let tables = all_parts_named(alloc, names, fields, cells.copies.as_slice(), lists)?;
+    let cells = cells_by(alloc, names, sort, facet)?;
     Ok(CopiesOf {
-        copies: copies_with(
-            alloc,
-            fields,
-            cells.copies.as_slice(),
-            texts_in(&facet.name),
-            tables.as_slice(),
-        )?,
+        copies: copies_of_cells(alloc, names, facet, cells.copies.as_slice())?,
         across: cells.across,
     })
 }
@@ -332,35 +455,22 @@ fn only_copy(alloc: Global) -> Result<CopiesOf, OutOfMemory>
     })
 }
 
-// The copies of a group, by its facet or without one.
-fn copies_found(alloc: Global, names: &NamesAt, mark: &VgMark) -> Result<CopiesOf, OutOfMemory>
-    requires names { AreNames names.now }
-    ensures copies { IfOk result (λ found. map copy_seen found.copies
-        ≡ copies_of (scope_at names.now) (group_object 0 (out-VgMark mark.now))) }
-    ensures across { IfOk result (λ found. found.across
-        ≡ columns_across (scope_at names.now) (group_object 0 (out-VgMark mark.now))) }
-{
-    match facet_in(mark) {
-        Some(facet) => copies_by(alloc, names, &mark.sort, facet),
-        None => only_copy(alloc),
-    }
-}
-
 /// The copies of a group, and how many stand side by side where its facet crosses two fields. The time is near linear in the rows of the
 /// lists that the facet divides, and in the copies.
 pub(crate) fn copies_of(
     alloc: Global,
     names: &NamesAt,
-    mark: &VgMark,
+    sort: &Option<Sort>,
+    facet: Option<&Facet>,
 ) -> Result<CopiesOf, OutOfMemory>
     requires names { AreNames names.now }
-    ensures copies { IfOk result (λ found. map copy_seen found.copies
-        ≡ copies_of (scope_read (rows_at names.now.sources.now names.now.levels.now)) (group_object 0 (out-VgMark mark.now))) }
-    ensures across { IfOk result (λ found. found.across
-        ≡ columns_across (scope_read (rows_at names.now.sources.now names.now.levels.now)) (group_object 0 (out-VgMark mark.now))) }
-    ensures sound { IfOk result (λ found. All (IsCopy names.now (out-VgMark mark.now)) found.copies) }
+    ensures copies { IfOk result (λ found. map copy_seen found.copies ≡ copies_with_facet (scope_at names.now) sort.now (option_copied facet.entry)) }
+    ensures across { IfOk result (λ found. found.across ≡ across_with_facet (scope_at names.now) sort.now (option_copied facet.entry)) }
 {
-    Ok(copies_found(alloc, names, mark)?)
+    match facet {
+        Some(facet) => copies_by(alloc, names, sort, facet),
+        None => only_copy(alloc),
+    }
 }
 
 /// The copies of a group, those that have rows and the number of the others.
@@ -370,6 +480,41 @@ pub struct CopiesCounted {
     pub with_rows: Seq<CopyOf>,
     /// How many copies have none, up to the greatest number of 64 bits.
     pub without_rows: u64,
+}
+
+// The cells of the copies by a facet over some rows that have any of these, and how many have none.
+fn counted_over(
+    alloc: Global,
+    sort: &Option<Sort>,
+    facet: &Facet,
+    rows: &[&Keyed],
+) -> Result<CellsCounted, OutOfMemory>
+    requires { HaveIds rows.now }
+    ensures with_rows { IfOk result (λ found. found.with_rows ≡ cells_with_rows (divided_by sort.now facet.now) (data_of rows.now)) }
+    ensures without_rows { IfOk result (λ found. found.without_rows
+        ≡ min (count_without_rows (divided_by sort.now facet.now) (data_of rows.now)) most_counted) }
+    ensures different { IfOk result (λ found. AreDifferent found.with_rows) }
+{
+    let d = divided_by(alloc, sort, facet)?;
+    count_cells(alloc, &d, rows)
+}
+
+// The cells of the copies by a facet that have rows, and how many have none.
+fn counted_by(
+    alloc: Global,
+    names: &NamesAt,
+    sort: &Option<Sort>,
+    facet: &Facet,
+) -> Result<CellsCounted, OutOfMemory>
+    requires names { AreNames names.now }
+    ensures with_rows { IfOk result (λ found. found.with_rows
+        ≡ cells_with_rows (divided_by sort.now facet.now) (rows_divided (scope_at names.now) facet.now)) }
+    ensures without_rows { IfOk result (λ found. found.without_rows
+        ≡ min (without_rows_by (scope_at names.now) sort.now facet.now) most_counted) }
+    ensures different { IfOk result (λ found. AreDifferent found.with_rows) }
+{
+    let rows = rows_divided(alloc, names, texts_in(&facet.data_))?;
+    counted_over(alloc, sort, facet, rows.as_slice())
 }
 
 // The copies by a facet that have rows, and how many have none.
@@ -384,20 +529,9 @@ fn count_by(
     ensures without_rows { IfOk result (λ found. found.without_rows
         ≡ min (without_rows_by (scope_at names.now) sort.now facet.now) most_counted) }
 {
-    let d = divided_by(alloc, sort, facet)?;
-    let lists = texts_in(&facet.data_);
-    let rows = rows_divided(alloc, names, lists)?;
-    let cells = count_cells(alloc, &d, rows.as_slice())?;
-    let fields = facet.groupby.as_slice();
-    let tables = all_parts_named(alloc, names, fields, cells.with_rows.as_slice(), lists)?;
+    let cells = counted_by(alloc, names, sort, facet)?;
     Ok(CopiesCounted {
-        with_rows: copies_with(
-            alloc,
-            fields,
-            cells.with_rows.as_slice(),
-            texts_in(&facet.name),
-            tables.as_slice(),
-        )?,
+        with_rows: copies_of_cells(alloc, names, facet, cells.with_rows.as_slice())?,
         without_rows: cells.without_rows,
     })
 }
@@ -413,39 +547,24 @@ fn only_counted(alloc: Global) -> Result<CopiesCounted, OutOfMemory>
     })
 }
 
-// The copies of a group that have rows, and how many have none, by its facet or without one.
-fn copies_counted(
-    alloc: Global,
-    names: &NamesAt,
-    mark: &VgMark,
-) -> Result<CopiesCounted, OutOfMemory>
-    requires names { AreNames names.now }
-    ensures with_rows { IfOk result (λ found. map copy_seen found.with_rows
-        ≡ copies_with_rows (scope_at names.now) (group_object 0 (out-VgMark mark.now))) }
-    ensures without_rows { IfOk result (λ found. found.without_rows
-        ≡ min (count_bare (scope_at names.now) (group_object 0 (out-VgMark mark.now))) most_counted) }
-{
-    match facet_in(mark) {
-        Some(facet) => count_by(alloc, names, &mark.sort, facet),
-        None => only_counted(alloc),
-    }
-}
-
 /// The copies of a group that have rows, and how many have none, which aren't made. The time is near linear in the rows of the lists that
 /// the facet divides.
 pub(crate) fn count_copies(
     alloc: Global,
     names: &NamesAt,
-    mark: &VgMark,
+    sort: &Option<Sort>,
+    facet: Option<&Facet>,
 ) -> Result<CopiesCounted, OutOfMemory>
     requires names { AreNames names.now }
     ensures with_rows { IfOk result (λ found. map copy_seen found.with_rows
-        ≡ copies_with_rows (scope_read (rows_at names.now.sources.now names.now.levels.now)) (group_object 0 (out-VgMark mark.now))) }
+        ≡ rows_with_facet (scope_at names.now) sort.now (option_copied facet.entry)) }
     ensures without_rows { IfOk result (λ found. found.without_rows
-        ≡ min (count_bare (scope_read (rows_at names.now.sources.now names.now.levels.now)) (group_object 0 (out-VgMark mark.now))) most_counted) }
-    ensures sound { IfOk result (λ found. All (IsCopy names.now (out-VgMark mark.now)) found.with_rows) }
+        ≡ min (bare_with_facet (scope_at names.now) sort.now (option_copied facet.entry)) most_counted) }
 {
-    Ok(copies_counted(alloc, names, mark)?)
+    match facet {
+        Some(facet) => count_by(alloc, names, sort, facet),
+        None => only_counted(alloc),
+    }
 }
 
 // How many copies a facet makes, up to the greatest number of 64 bits.
@@ -458,9 +577,7 @@ fn count_all_by(
     requires names { AreNames names.now }
     ensures { IfOk result (λ count. count ≡ min (length (copies_by (scope_at names.now) sort.now facet.now)) most_counted) }
 {
-    let d = divided_by(alloc, sort, facet)?;
-    let rows = rows_divided(alloc, names, texts_in(&facet.data_))?;
-    let cells = count_cells(alloc, &d, rows.as_slice())?;
+    let cells = counted_by(alloc, names, sort, facet)?;
     Ok((cells.with_rows.len() as u64).saturating_add(cells.without_rows))
 }
 
@@ -469,13 +586,15 @@ fn count_all_by(
 pub(crate) fn count_all_copies(
     alloc: Global,
     names: &NamesAt,
-    mark: &VgMark,
+    sort: &Option<Sort>,
+    facet: Option<&Facet>,
 ) -> Result<u64, OutOfMemory>
     requires names { AreNames names.now }
-    ensures { IfOk result (λ count. count ≡ min (length (copies_of (scope_at names.now) (group_object 0 (out-VgMark mark.now)))) most_counted) }
+    ensures { IfOk result (λ count. count
+        ≡ min (length (copies_with_facet (scope_at names.now) sort.now (option_copied facet.entry))) most_counted) }
 {
-    match facet_in(mark) {
-        Some(facet) => count_all_by(alloc, names, &mark.sort, facet),
+    match facet {
+        Some(facet) => count_all_by(alloc, names, sort, facet),
         None => Ok(1),
     }
 }
@@ -485,32 +604,29 @@ fn bare_parts(alloc: Global, names: &[Text], lists: &[Text]) -> Result<Seq<Named
     ensures { IfOk result (λ parts. parts ≡ map bare_named (zip names.now lists.now)) }
 {
     let mut parts = Seq::new(alloc);
-    for (name, _) in names.iter().zip(lists) {
-        parts.push(Named {
-            name: name.copy()?,
-            rows: Seq::new(alloc),
-        })?;
+    for at in 0..names.len().min(lists.len()) {
+        push_named(&names[at], Seq::new(alloc), &mut parts)?;
     }
     Ok(parts)
 }
 
 // The lists of a copy without rows.
-fn parts_of_bare(alloc: Global, mark: &VgMark) -> Result<Seq<Named>, OutOfMemory>
-    ensures { IfOk result (λ parts. parts ≡ parts_of_bare (facet_in (out-VgMark mark.now).from)) }
+fn parts_of_bare(alloc: Global, facet: Option<&Facet>) -> Result<Seq<Named>, OutOfMemory>
+    ensures { IfOk result (λ parts. parts ≡ parts_of_bare (option_copied facet.entry)) }
 {
-    match facet_in(mark) {
+    match facet {
         Some(facet) => bare_parts(alloc, texts_in(&facet.name), texts_in(&facet.data_)),
         None => Ok(Seq::new(alloc)),
     }
 }
 
-/// A copy of a group without rows. Its cells aren't told: what is counted in it doesn't depend on them.
-pub(crate) fn copy_without_rows(alloc: Global, mark: &VgMark) -> Result<CopyOf, OutOfMemory>
-    ensures seen { IfOk result (λ copy. copy_seen copy ≡ bare_copy (facet_in (out-VgMark mark.now).from)) }
-    ensures sound { (names : HeldNames) → IfOk result (IsCopy names (out-VgMark mark.now)) }
+/// A copy without rows of a group with this facet, if it has one. Its cells aren't told: what is counted in it doesn't depend on them.
+pub(crate) fn copy_without_rows(alloc: Global, facet: Option<&Facet>) -> Result<CopyOf, OutOfMemory>
+    ensures seen { IfOk result (λ copy. copy_seen copy ≡ bare_copy (option_copied facet.entry)) }
+    ensures parts { IfOk result (λ copy. copy.parts ≡ parts_of_bare (option_copied facet.entry)) }
 {
     Ok(CopyOf {
         cells: None,
-        parts: parts_of_bare(alloc, mark)?,
+        parts: parts_of_bare(alloc, facet)?,
     })
 }

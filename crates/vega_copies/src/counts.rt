@@ -68,18 +68,11 @@ fn is_deeper(mark: &VgMark, in_facet: bool) -> bool
     in_facet || facet_in(mark).is_some()
 }
 
-// Whether the copies of a group, which are in facets or not, are plots in facets.
-fn is_panel(mark: &VgMark, in_facet: bool, in_grid: bool) -> bool
-    ensures { result ≡ is_panel in_facet in_grid (out-VgMark mark.now) }
-{
-    in_facet && in_grid && mark.group.layout.is_none()
-}
-
 // How many plots in facets a copy of a group is itself.
 fn plot_itself(mark: &VgMark, in_facet: bool, in_grid: bool) -> u64
     ensures { result ≡ (if is_panel in_facet in_grid (out-VgMark mark.now) then 1 else 0) }
 {
-    if is_panel(mark, in_facet, in_grid) {
+    if in_facet && in_grid && mark.group.layout.is_none() {
         1
     } else {
         0
@@ -147,7 +140,7 @@ fn count_of_alike(
         (names_at names.now.stores.now names.now.sources.now names.now.levels.now)
         (copies_of (scope_read (rows_at names.now.sources.now names.now.levels.now)) (group_object 0 (out-VgMark mark.now)))))) }
 {
-    let copies = count_all_copies(alloc, names, mark)?;
+    let copies = count_all_copies(alloc, names, &mark.sort, facet_in(mark))?;
     count_with_bare(alloc, names, mark, in_facet, in_grid, 0, copies)
 }
 
@@ -170,7 +163,7 @@ fn count_of_each(
     let CopiesCounted {
         with_rows,
         without_rows,
-    } = count_copies(alloc, names, mark)?;
+    } = count_copies(alloc, names, &mark.sort, facet_in(mark))?;
     match count_of_copies(alloc, names, with_rows, mark, in_facet, in_grid) {
         Ok(plots) => count_with_bare(alloc, names, mark, in_facet, in_grid, plots, without_rows),
         Err(error) => Err(error),
@@ -224,7 +217,7 @@ fn count_with_bare(
     if copies == 0 {
         return Ok(plots);
     }
-    let copy = copy_without_rows(alloc, mark)?;
+    let copy = copy_without_rows(alloc, facet_in(mark))?;
     match count_of_copy(alloc, names, copy, mark, in_facet, in_grid) {
         Ok(each) => Ok(plots.saturating_add(copies.saturating_mul(each))),
         Err(error) => Err(error),
@@ -268,7 +261,11 @@ fn count_of_copy(
         in_facet in_grid (out-VgMark mark.now) (names_at outer.now.stores.now outer.now.sources.now outer.now.levels.now) (copy_seen copy))) }
 {
     match level_of(alloc, outer, copy, mark) {
-        Ok(level) => count_with_level(alloc, outer, &level, mark, in_facet, in_grid),
+        Ok(level) => {
+            let plots = count_with_level(alloc, outer, &level, mark, in_facet, in_grid);
+            drop(level);
+            plots
+        }
         Err(error) => Err(error),
     }
 }

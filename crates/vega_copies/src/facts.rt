@@ -24,6 +24,7 @@ ghost use Rattle.vega_copies.specs.inner.Outlined.{is_group, marks_in, marks_of}
 ghost use Rattle.vega_copies.specs.inner.Results.{result_map};
 ghost use Rattle.vega_copies.specs.inner.Standing.{MayStand};
 
+use crate::found::push_found;
 use crate::levels::with_level;
 use crate::made::{CopiesMade, CopyMade};
 use crate::marks::{is_group, marks_in};
@@ -107,8 +108,8 @@ fn domains_at(alloc: Global, names: &NamesAt, scales: &[Scale]) -> Result<Seq<Sc
 {
     let mut domains = Seq::with_capacity(alloc, scales.len())?;
     for scale in scales {
-        match domain_at(alloc, names, scale) {
-            Ok(domain) => domains.push(domain)?,
+        match push_found(domain_at(alloc, names, scale), &mut domains) {
+            Ok(()) => {}
             Err(error) => return Err(error),
         }
     }
@@ -236,8 +237,8 @@ fn facts_inside(
     let mut facts = Seq::with_capacity(alloc, marks.len())?;
     let mut at = 0;
     for mark in marks {
-        match facts_of_mark(alloc, names, mark, &made[at]) {
-            Ok(found) => facts.push(found)?,
+        match push_found(facts_of_mark(alloc, names, mark, &made[at]), &mut facts) {
+            Ok(()) => {}
             Err(error) => return Err(error),
         }
         at += 1;
@@ -286,8 +287,8 @@ fn facts_of_group(
     let copies = made.copies.as_slice();
     let mut facts = Seq::with_capacity(alloc, copies.len())?;
     for copy in copies {
-        match facts_of_copy(alloc, names, mark, copy) {
-            Ok(found) => facts.push(found)?,
+        match push_found(facts_of_copy(alloc, names, mark, copy), &mut facts) {
+            Ok(()) => {}
             Err(error) => return Err(error),
         }
     }

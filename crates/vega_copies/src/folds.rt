@@ -254,7 +254,7 @@ fn group_folds_fit(
         return Ok(false);
     };
     let levels = with_products(alloc, &own, &*outer)?;
-    Ok(folds_fit_in(alloc, levels.as_slice(), marks_in(&mark.group))?)
+    folds_fit_in(alloc, levels.as_slice(), marks_in(&mark.group))
 }
 
 /// Whether the folds of an object fit, and those of the groups in it: on no path of data sets does the product of the lengths of the folds
@@ -266,5 +266,5 @@ pub(crate) fn folds_fit(alloc: Global, group: &Group) -> Result<bool, OutOfMemor
         return Ok(false);
     };
     let levels = with_products(alloc, &own, &[])?;
-    Ok(folds_fit_in(alloc, levels.as_slice(), marks_in(group))?)
+    folds_fit_in(alloc, levels.as_slice(), marks_in(group))
 }

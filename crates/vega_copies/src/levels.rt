@@ -8,21 +8,22 @@ ghost use Rattle.vega_copies.specs.inner.Results.{result_map};
 ghost use Rattle.cell_value.specs.State.{dataset_of};
 ghost use Rattle.expr_eval.specs.Answers.{Evaluates};
 ghost use Rattle.vega_spec.specs.declared.spec.Group.{out-Group};
-ghost use Rattle.vega_lists.specs.Inside.{AllKeysFit, SetsMayFold};
+ghost use Rattle.vega_lists.specs.Inside.{rows_inside, AllKeysFit, SetsMayFold};
 ghost use Rattle.vega_lists.specs.Products.{Products, products_after};
 ghost use Rattle.vega_lists.specs.Held.{AreAllRows};
 ghost use Rattle.vega_lists.specs.Transforms.{is_kept, OfTransforms};
 ghost use Rattle.vega_signals.specs.Signals.{data_of};
 ghost use Rattle.vega_copies.specs.Outlines.{object_here};
-ghost use Rattle.vega_copies.specs.Scopes.{written_here, names_in_object};
-ghost use Rattle.vega_copies.specs.inner.Levels.{parts_over, rows_at, names_over, names_with_level, rows_with_level, names_with_parts, AreNames, AreParts};
+ghost use Rattle.vega_copies.specs.Scopes.{written_here, names_with, names_in_object};
+ghost use Rattle.vega_copies.specs.inner.Levels.{parts_over, rows_at, names_over, names_with_level, names_with_lists, rows_with_level};
+ghost use Rattle.vega_copies.specs.inner.Levels.{names_with_parts, AreNames, AreParts};
 
 use crate::names::{Level, NamesAt, part_named, referred};
 use cell_value::{Cell, Keyed, Named};
 use expr_eval::EvalError;
 use std::alloc::Global;
 use text_kit::{OutOfMemory, Seq, Text};
-use vega_lists::{ListReader, lists_inside};
+use vega_lists::{ListReader, Lists, lists_inside};
 use vega_signals::{Inside, any_set_lacks, data_of, own_values, signals_of};
 use vega_spec::{Group, Signal};
 
@@ -85,6 +86,39 @@ fn written(alloc: Global, signals: &[Signal]) -> Result<Seq<(Text, Cell)>, OutOf
     Ok(out)
 }
 
+// The lists of the data sets of an object, where its own signals have these values. `Overflow` comes exactly where one of the data sets
+// overflows, or mentions a signal without value.
+fn lists_with<'x>(
+    alloc: Global,
+    over: &'x PartsOver<'x, 'x>,
+    own: &'x [(Text, Option<Cell>)],
+    group: &Group,
+) -> Result<Lists, EvalError>
+    requires outer { AreNames over.now.outer }
+    requires parts { AreAllRows (parts_over over.now.parts.now (rows_at over.now.outer.sources.now over.now.outer.levels.now)) }
+    requires kept { All (OfTransforms is_kept) (data_of (out-Group group.now)) }
+    requires folds { SetsMayFold (parts_over over.now.parts.now (rows_at over.now.outer.sources.now over.now.outer.levels.now))
+        (data_of (out-Group group.now)) }
+    ensures value { Evaluates (result_map (names_with_lists over.now.outer over.now.parts.now own.now) result)
+        (names_with (map dataset_of over.now.outer.sources.now) (names_over over.now.outer over.now.parts.now) (object_here (out-Group group.now)) own.now) }
+    ensures rows { IfOk result (λ lists. AreAllRows (rows_inside over.now.outer.sources.now
+        (parts_over over.now.parts.now (rows_at over.now.outer.sources.now over.now.outer.levels.now)) lists)) }
+    ensures folds { (products : Products)
+        → AllKeysFit products (parts_over over.now.parts.now (rows_at over.now.outer.sources.now over.now.outer.levels.now))
+        → IfOk result (λ lists. AllKeysFit (products_after products (data_of (out-Group group.now))) (rows_inside over.now.outer.sources.now
+        (parts_over over.now.parts.now (rows_at over.now.outer.sources.now over.now.outer.levels.now)) lists)) }
+{
+    let sets = data_of(group);
+    let inside = Inside {
+        own,
+        outer: &over.outer,
+    };
+    if any_set_lacks(alloc, &inside, sets)? {
+        return Err(EvalError::Overflow);
+    }
+    lists_inside(alloc, over.outer.sources, over, sets, &inside)
+}
+
 /// The names of an object whose given signals have values, in others, where a facet gives parts of lists. `Overflow` comes exactly where one
 /// of its data sets overflows, or mentions a signal without value.
 pub fn level_with(
@@ -105,21 +139,20 @@ pub fn level_with(
     ensures folds { (products : Products) → AllKeysFit products (parts_over parts (rows_at outer.now.sources.now outer.now.levels.now))
         → IfOk result (λ level. AllKeysFit (products_after products (data_of (out-Group group.now))) (rows_with_level outer.now level)) }
 {
-    let signals = signals_of(group);
-    let sets = data_of(group);
     let over = PartsOver {
         parts: parts.as_slice(),
         outer: *outer,
     };
-    let own = own_values(alloc, outer.sources, &over, outer, given, signals, sets)?;
-    let inside = Inside {
-        own: own.as_slice(),
+    let own = own_values(
+        alloc,
+        outer.sources,
+        &over,
         outer,
-    };
-    if any_set_lacks(alloc, &inside, sets)? {
-        return Err(EvalError::Overflow);
-    }
-    match lists_inside(alloc, outer.sources, &over, sets, &inside) {
+        given,
+        signals_of(group),
+        data_of(group),
+    )?;
+    match lists_with(alloc, &over, own.as_slice(), group) {
         Ok(lists) => Ok(Level {
             parts,
             lists,

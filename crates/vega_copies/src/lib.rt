@@ -8,6 +8,7 @@ mod copies;
 mod counts;
 mod facts;
 mod folds;
+mod found;
 mod levels;
 mod made;
 mod marks;

@@ -13,7 +13,8 @@ ghost use Rattle.vega_copies.specs.inner.Made.{levels_behind, made_seen, IsCopyM
 ghost use Rattle.vega_copies.specs.inner.Outlined.{marks_in, marks_of, is_group};
 ghost use Rattle.vega_copies.specs.inner.Standing.{MayStand};
 
-use crate::copies::{CopiesOf, CopyOf, copies_of};
+use crate::copies::{CopiesOf, CopyOf, copies_of, facet_in};
+use crate::found::push_found;
 use crate::levels::{level_in, with_level};
 use crate::marks::{is_group, marks_in};
 use crate::names::{Level, NamesAt};
@@ -62,8 +63,8 @@ pub fn made_in(
 {
     let mut made = Seq::with_capacity(alloc, marks.len())?;
     for mark in marks {
-        match made_of_mark(alloc, names, mark) {
-            Ok(found) => made.push(found)?,
+        match push_found(made_of_mark(alloc, names, mark), &mut made) {
+            Ok(()) => {}
             Err(error) => return Err(error),
         }
     }
@@ -106,11 +107,11 @@ fn made_of_group(alloc: Global, names: &NamesAt, mark: &VgMark) -> Result<Copies
         (marks_of (mark.now ∷ [])) in_facet in_grid (names_at names.now.stores.now names.now.sources.now names.now.levels.now)) }
     ensures made { IfOk result (λ found. OneMade names.now.stores.now names.now.sources.now (levels_behind names.now.levels.now) mark.now found) }
 {
-    let CopiesOf { copies, across } = copies_of(alloc, names, mark)?;
+    let CopiesOf { copies, across } = copies_of(alloc, names, &mark.sort, facet_in(mark))?;
     let mut made = Seq::with_capacity(alloc, copies.len())?;
     for copy in copies.into_vec() {
-        match made_copy(alloc, names, copy, mark) {
-            Ok(found) => made.push(found)?,
+        match push_found(made_copy(alloc, names, copy, mark), &mut made) {
+            Ok(()) => {}
             Err(error) => return Err(error),
         }
     }

@@ -16,7 +16,6 @@ use vega_lists::{ListReader, Lists};
 use vega_signals::{is_own, settled_value};
 
 /// The names that a copy of an object gives itself.
-#[derive(Drop)]
 pub struct Level {
     /// The parts of lists that its facet gives, by their names.
     pub parts: Seq<Named>,
@@ -24,6 +23,16 @@ pub struct Level {
     pub lists: Lists,
     /// Its signals with their values; without one where its computation is out of range.
     pub signals: Seq<(Text, Option<Cell>)>,
+}
+
+impl Drop for Level {
+    fn drop(self) {
+        let Level {
+            parts: _,
+            lists: _,
+            signals: _,
+        } = self;
+    }
 }
 
 /// What names stand for at a copy of an object.

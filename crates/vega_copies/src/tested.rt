@@ -31,36 +31,12 @@ use vega_spec::{
     DataSet, Group, Layout, Lookup, Range, Scale, Size, Transform, VgMark, VgSpec, sources_of,
 };
 
-// A padding of bands is from 0 to 1.
-fn is_padding(n: Num) -> bool
-    ensures { result ≡ is_padding n }
-{
-    let millionths = n.millionths();
-    0 <= millionths && millionths <= 1_000_000
-}
-
 // A place is from 0 to 10^11 pixels.
 fn is_pixel(n: Num) -> bool
     ensures { result ≡ is_pixel n }
 {
     let millionths = n.millionths();
     0 <= millionths && millionths <= 100_000_000_000_000_000
-}
-
-// The space round a picture is from 0 to 1,000 pixels.
-fn is_space(n: Num) -> bool
-    ensures { result ≡ is_space n }
-{
-    let millionths = n.millionths();
-    0 <= millionths && millionths <= 1_000_000_000
-}
-
-// The columns of a grid are from 1 to 1,000.
-fn is_count(n: Num) -> bool
-    ensures { result ≡ is_count n }
-{
-    let millionths = n.millionths();
-    1_000_000 <= millionths && millionths <= 1_000_000_000
 }
 
 // The number in a cell, if it is one.
@@ -139,22 +115,22 @@ fn is_set(set: &DataSet) -> bool
     transforms_of(set).iter().all(is_kept)
 }
 
-// An optional padding is one.
+// A padding of bands that is given is from 0 to 1.
 fn is_padding_given(given: Option<Num>) -> bool
     ensures { result ≡ option_map_or is_padding given true }
 {
     match given {
-        Some(padding) => is_padding(padding),
+        Some(n) => 0 <= n.millionths() && n.millionths() <= 1_000_000,
         None => true,
     }
 }
 
-// An optional space round a picture is one.
+// The space round a picture is from 0 to 1,000 pixels, if it is given.
 fn is_space_given(given: Option<Num>) -> bool
     ensures { result ≡ option_map_or is_space given true }
 {
     match given {
-        Some(padding) => is_space(padding),
+        Some(n) => 0 <= n.millionths() && n.millionths() <= 1_000_000_000,
         None => true,
     }
 }
@@ -202,12 +178,12 @@ fn are_scales(scales: &[Scale]) -> bool
     scales.iter().all(is_scale)
 }
 
-// The columns that a layout asks for, if it does, can be counted.
+// The columns that a layout asks for, if it does, are from 1 to 1,000.
 fn is_count_given(given: Option<Num>) -> bool
     ensures { result ≡ option_map_or is_count given true }
 {
     match given {
-        Some(columns) => is_count(columns),
+        Some(n) => 1_000_000 <= n.millionths() && n.millionths() <= 1_000_000_000,
         None => true,
     }
 }

@@ -1,6 +1,8 @@
 -- Copies of groups, as definitions see them.
-use Rattle.std.specs.Prelude.{ℕ, Some, List, [], map, zip, slice_get, unwrap_or}
+use Rattle.std.specs.Prelude.{ℕ, Option, Some, List, [], ◌∷◌, map, zip, slice_get, unwrap_or}
+use Rattle.std.specs.Option.{option_map_or}
 use Rattle.std.specs.Borrow.{Bor}
+use Rattle.fixed_num.specs.Ranges.{◌>>=◌}
 use Rattle.cell_value.specs.declared.cell.Cell.{Cell}
 use Rattle.cell_value.specs.declared.state.Keyed.{Keyed}
 use Rattle.cell_value.specs.Datum.{Datum}
@@ -10,6 +12,8 @@ use Rattle.vega_lists.specs.Held.{scope_read}
 use Rattle.cell_value.specs.State.{dataset_of}
 use Rattle.cell_value.specs.declared.state.Named.{Named}
 use Rattle.vega_copies.specs.declared.copies.CopyOf.{CopyOf}
+use Rattle.vega_spec.specs.declared.marks.Facet.{Facet}
+use Rattle.vega_spec.specs.declared.orders.Sort.{Sort}
 use Rattle.vega_spec.specs.declared.spec.Group.{Group}
 use Rattle.vega_spec.specs.declared.spec.VgMark.{VgMark, VgMark-F}
 use Rattle.vega_lists.specs.Inside.{AllKeysFit}
@@ -17,7 +21,7 @@ use Rattle.vega_lists.specs.Products.{Products}
 use Rattle.vega_copies.specs.declared.names.NamesAt.{NamesAt}
 use Rattle.vega_copies.specs.Outlines.{facet_in}
 use Rattle.vega_copies.specs.Fitting.{products_in_copy}
-use Rattle.vega_copies.specs.Facets.{Copy}
+use Rattle.vega_copies.specs.Facets.{Copy, only_copy, copies_by, across_by}
 use Rattle.vega_copies.specs.inner.Levels.{rows_at, rows_behind, parts_over, AreParts}
 
 abbrev pub copy_seen : CopyOf → Copy
@@ -26,6 +30,21 @@ copy_seen c = record { cells = c.cells; parts = map dataset_of c.parts }
 -- the rows for which a name stands, as they are read
 abbrev pub scope_at : NamesAt → Scope
 scope_at names = scope_read (rows_at names.sources.now names.levels.now)
+
+-- the copies of a group with this facet, if it has one, and how many stand side by side
+abbrev pub copies_with_facet : Scope → Option Sort → Option Facet → List Copy
+copies_with_facet scope sort facet = option_map_or (copies_by scope sort) facet (only_copy ∷ [])
+
+abbrev pub across_with_facet : Scope → Option Sort → Option Facet → Option ℕ
+across_with_facet scope sort facet = facet >>= across_by scope sort
+
+-- a field with its cell
+abbrev pub named_cell : List ℕ → Cell → List ℕ × Cell
+named_cell field cell = (field, cell)
+
+-- rows under a name
+abbrev pub rows_named : List ℕ → List Keyed → Named
+rows_named name rows = record { name = name; rows = rows }
 
 -- the rows that a list has in a copy, under its name there
 abbrev pub part_at : ℕ → List ℕ × List (List (Bor Keyed)) → Named

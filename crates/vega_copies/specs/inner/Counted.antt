@@ -76,11 +76,17 @@ abbrev pub without_rows_by : Scope → Option Sort → Facet → ℕ
 without_rows_by scope sort f = count_without_rows (divided_by sort f) (rows_divided scope f)
 
 -- the same of a group, which has one copy where it has no facet
+abbrev pub rows_with_facet : Scope → Option Sort → Option Facet → List Copy
+rows_with_facet scope sort facet = option_map_or (with_rows_by scope sort) facet (only_copy ∷ [])
+
+abbrev pub bare_with_facet : Scope → Option Sort → Option Facet → ℕ
+bare_with_facet scope sort facet = option_map_or (without_rows_by scope sort) facet 0
+
 abbrev pub copies_with_rows : Scope → Object → List Copy
-copies_with_rows scope o = option_map_or (with_rows_by scope o.sort) o.facet (only_copy ∷ [])
+copies_with_rows scope o = rows_with_facet scope o.sort o.facet
 
 abbrev pub count_bare : Scope → Object → ℕ
-count_bare scope o = option_map_or (without_rows_by scope o.sort) o.facet 0
+count_bare scope o = bare_with_facet scope o.sort o.facet
 
 -- a list without rows, under the name that it has in a copy
 abbrev pub bare_part : List ℕ × List ℕ → Dataset

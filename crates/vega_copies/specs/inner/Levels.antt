@@ -9,6 +9,7 @@ use Rattle.cell_value.specs.declared.state.Named.{Named}
 use Rattle.cell_value.specs.declared.state.StoreOf.{StoreOf}
 use Rattle.expr_eval.specs.Stores.{values_of_stores}
 use Rattle.expr_eval.specs.Values.{Values}
+use Rattle.vega_lists.specs.declared.held.Lists.{Lists}
 use Rattle.vega_lists.specs.Inside.{RowsByName, no_rows, rows_held, rows_inside}
 use Rattle.vega_lists.specs.Held.{scope_read, AreSources, AreAllRows}
 use Rattle.plain_rows.specs.Rows.{AreRows}
@@ -73,6 +74,13 @@ abbrev pub names_with_level : NamesAt → Level → Names
 names_with_level outer level = record {
   lists = scope_read (rows_with_level outer level);
   values = values_inside level.signals (values_at outer.stores.now outer.levels.now);
+}
+
+-- what names stand for in an object that has these lists, and whose own signals have these values, where a facet gives parts of lists
+abbrev pub names_with_lists : NamesAt → List Named → Settled → Lists → Names
+names_with_lists outer parts own lists = record {
+  lists = scope_read (rows_inside outer.sources.now (parts_over parts (rows_at outer.sources.now outer.levels.now)) lists);
+  values = values_inside own (values_at outer.stores.now outer.levels.now);
 }
 
 -- what names stand for in an object whose given signals have these values, where a facet gives parts of lists

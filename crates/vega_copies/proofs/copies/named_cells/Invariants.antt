@@ -1,5 +1,5 @@
-use Rattle.std.proofs.Common.{◌≡◌, ◌++◌, zip}
+use Rattle.std.proofs.Common.{◌≡◌, ◌++◌, zip, drop}
 use Rattle.vega_copies.proofs.copies.named_cells.Given as goal
 
-abbrev pub invariant-loop-field : goal.invariant-loop-field
-invariant-loop-field l = l.named ++ zip l.field-iterator.a.rest.now l.field-iterator.b.rest.now ≡ zip l.fields l.cells
+abbrev pub invariant-loop-at : goal.invariant-loop-at
+invariant-loop-at l = l.named ++ drop l.at (zip l.fields l.cells) ≡ zip l.fields l.cells

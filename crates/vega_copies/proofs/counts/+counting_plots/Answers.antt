@@ -1,4 +1,4 @@
-use Rattle.std.proofs.Common.{rules, arith, ℕ, Err, ◌≡◌, ◌≤◌, ◌∷◌, map, sym, ap, ◌∙◌, subst}
+use Rattle.std.proofs.Common.{rules, arith, ℕ, Err, ◌≡◌, ◌≤◌, ◌∷◌, min, length, map, sym, ap, ◌∙◌, subst}
 use denote.Param.Weighed.{most, at_most}
 use Rattle.std.specs.List.{All}
 use Rattle.std.specs.Vec.Iter.{into_iter_items}
@@ -8,11 +8,14 @@ use Rattle.expr_eval.specs.Answers.{Evaluates}
 use Rattle.vega_spec.specs.declared.spec.Group.{out-Group}
 use Rattle.vega_spec.specs.declared.spec.VgMark.{out-VgMark}
 use Rattle.vega_spec.proofs.spec.VgMark.TheLaws.{the_size}
-use Rattle.vega_copies.specs.inner.Copied.{IsCopy}
-use Rattle.vega_copies.specs.inner.Counted.{counted, is_panel, plots_inside, plots_of_copy}
+use Rattle.vega_copies.specs.inner.Copied.{copies_with_facet, scope_at, IsCopy}
+use Rattle.vega_copies.specs.inner.Counted.{counted, is_panel, most_counted, plots_inside, plots_of_copy, rows_with_facet, bare_with_facet}
+use Rattle.vega_copies.specs.inner.Counted.{parts_of_bare, bare_copy}
 use Rattle.vega_copies.specs.inner.Levels.{rows_at, names_at, names_with_level}
 use Rattle.vega_copies.specs.inner.Made.{levels_behind}
 use Rattle.vega_copies.specs.inner.Outlined.{marks_in}
+use Rattle.vega_copies.proofs.BareLemmas.{bare_is_copy}
+use Rattle.vega_copies.proofs.CopyLemmas.{with_rows_sound}
 use Rattle.vega_copies.proofs.StandLemmas.{levels_entered, names_entered, stand_inside}
 use Rattle.vega_copies.proofs.CountLemmas.{counted_from, marks_count, plots_alone, plots_held, more_at, one_more, stand_at, copy_stops}
 use Rattle.vega_copies.proofs.CountLemmas.{stops_counted, copy_counts, with_itself, none_with_itself}
@@ -66,26 +69,51 @@ count_of_group-returns-else-are_alike t c =
 pub count_of_alike-returns : goal.count_of_alike-returns
 count_of_alike-returns t c =
     let names = c.args.names.now in
+    let m = out-VgMark c.args.mark.now in
     subst (Evaluates c.count_with_bare.result)
     (alike_plots (map dataset_of names.sources.now) c.args.mark.now c.args.in_facet
     c.args.in_grid (names_at names.stores.now names.sources.now names.levels.now)
-    c.in_ok-copies.copies c.requires.alike c.in_ok-copies.ensures)
+    c.in_ok-copies.copies c.requires.alike
+    (c.in_ok-copies.ensures ∙ ap (λ facet. min (length (copies_with_facet (scope_at names) m.sort facet)) most_counted) c.facet_in.ensures))
     c.count_with_bare.ensures
+
+pub count_of_each-count_of_copies-requires : goal.count_of_each-count_of_copies-requires
+count_of_each-count_of_copies-requires t c = (
+  search rules,
+  (
+    c.requires.names,
+    (
+      c.requires.marks,
+      (
+        with_rows_sound c.args.names.now (out-VgMark c.args.mark.now) c.requires.names
+            c.in_ok-with_rows.field-0.with_rows
+            (c.in_ok-with_rows.ensures.with_rows
+            ∙ ap (rows_with_facet (scope_at c.args.names.now) (out-VgMark c.args.mark.now).sort) c.facet_in.ensures),
+        c.requires.group,
+      ),
+    ),
+  ),
+)
 
 pub count_of_each-returns-in-Ok : goal.count_of_each-returns-in-Ok
 count_of_each-returns-in-Ok t c =
     let names = c.args.names.now in
+    let m = out-VgMark c.args.mark.now in
     subst (Evaluates c.count_with_bare.result)
     (each_plots (map dataset_of names.sources.now) c.args.mark.now c.args.in_facet c.args.in_grid (names_at names.stores.now names.sources.now names.levels.now)
-    c.in_ok-with_rows.field-0.with_rows c.in_ok-with_rows.ensures.with_rows c.in_ok-with_rows.field-0.without_rows c.in-Ok.plots
-    c.in_ok-with_rows.ensures.without_rows c.in-Ok.ensures)
+    c.in_ok-with_rows.field-0.with_rows (c.in_ok-with_rows.ensures.with_rows ∙ ap (rows_with_facet (scope_at names) m.sort) c.facet_in.ensures)
+    c.in_ok-with_rows.field-0.without_rows c.in-Ok.plots
+    (c.in_ok-with_rows.ensures.without_rows ∙ ap (λ facet. min (bare_with_facet (scope_at names) m.sort facet) most_counted) c.facet_in.ensures)
+    c.in-Ok.ensures)
     c.count_with_bare.ensures
 
 pub count_of_each-returns-in-Err : goal.count_of_each-returns-in-Err
 count_of_each-returns-in-Err t c =
     let names = c.args.names.now in
     each_stops (map dataset_of names.sources.now) c.args.mark.now c.args.in_facet c.args.in_grid (names_at names.stores.now names.sources.now names.levels.now)
-    c.in_ok-with_rows.field-0.with_rows c.in_ok-with_rows.ensures.with_rows c.in-Err.error c.in-Err.ensures
+    c.in_ok-with_rows.field-0.with_rows
+    (c.in_ok-with_rows.ensures.with_rows ∙ ap (rows_with_facet (scope_at names) (out-VgMark c.args.mark.now).sort) c.facet_in.ensures) c.in-Err.error
+    c.in-Err.ensures
 
 -- ---- copies one after the other
 
@@ -145,7 +173,16 @@ count_of_copies-loop-copy-preserved t c =
 pub count_with_bare-count_of_copy-requires : goal.count_with_bare-count_of_copy-requires
 count_with_bare-count_of_copy-requires t c = (
   search rules,
-  (c.requires.names, (c.requires.marks, (c.in_ok-copy.ensures.sound c.args.names.now, c.requires.group))),
+  (
+    c.requires.names,
+    (
+      c.requires.marks,
+      (
+        bare_is_copy c.args.names.now (out-VgMark c.args.mark.now) _ (c.in_ok-copy.ensures.parts ∙ ap parts_of_bare c.facet_in.ensures),
+        c.requires.group,
+      ),
+    ),
+  ),
 )
 
 pub count_with_bare-returns-in-Ok : goal.count_with_bare-returns-in-Ok
@@ -153,7 +190,7 @@ count_with_bare-returns-in-Ok t c =
     let names = c.args.names.now in
     with_each_bare c.args.plots c.args.copies c.in-Ok.each _ _ _ (omega arith)
     (ap (λ copy. counted (plots_of_copy (map dataset_of names.sources.now) c.args.in_facet c.args.in_grid (out-VgMark c.args.mark.now)
-    (names_at names.stores.now names.sources.now names.levels.now) copy)) (sym c.in_ok-copy.ensures.seen) ∙ c.in-Ok.ensures)
+    (names_at names.stores.now names.sources.now names.levels.now) copy)) (sym (c.in_ok-copy.ensures.seen ∙ ap bare_copy c.facet_in.ensures)) ∙ c.in-Ok.ensures)
     c.saturating_mul.ensures c.saturating_add.ensures
 
 pub count_with_bare-returns-in-Err : goal.count_with_bare-returns-in-Err
@@ -161,7 +198,8 @@ count_with_bare-returns-in-Err t c =
     let names = c.args.names.now in
     bare_stops c.args.plots c.args.copies _ c.in-Err.error (omega arith)
     (subst (λ copy. Evaluates {X = ℕ} (Err c.in-Err.error) (counted (plots_of_copy (map dataset_of names.sources.now) c.args.in_facet c.args.in_grid
-    (out-VgMark c.args.mark.now) (names_at names.stores.now names.sources.now names.levels.now) copy))) c.in_ok-copy.ensures.seen c.in-Err.ensures)
+    (out-VgMark c.args.mark.now) (names_at names.stores.now names.sources.now names.levels.now) copy))) (c.in_ok-copy.ensures.seen ∙ ap bare_copy c.facet_in.ensures)
+    c.in-Err.ensures)
 
 -- ---- a copy
 
@@ -170,8 +208,8 @@ count_of_copy-returns-in-Err t c =
     stops_counted _ c.in-Err.error
     (copy_stops c.args.outer.now c.args.mark.now c.args.copy c.args.in_facet c.args.in_grid c.in-Err.error c.in-Err.ensures.value)
 
-pub count_of_copy-count_with_level-requires : goal.count_of_copy-count_with_level-requires
-count_of_copy-count_with_level-requires t c = (
+pub count_of_copy-count_with_level-plots-requires : goal.count_of_copy-count_with_level-plots-requires
+count_of_copy-count_with_level-plots-requires t c = (
   search rules,
   (
     c.requires.names,
@@ -184,8 +222,8 @@ count_of_copy-count_with_level-requires t c = (
 
 pub count_of_copy-returns-in-Ok : goal.count_of_copy-returns-in-Ok
 count_of_copy-returns-in-Ok t c =
-    copy_counts c.args.outer.now c.args.mark.now c.args.copy c.args.in_facet c.args.in_grid c.in-Ok.level c.in-Ok.ensures.value c.count_with_level.result
-    c.count_with_level.ensures
+    copy_counts c.args.outer.now c.args.mark.now c.args.copy c.args.in_facet c.args.in_grid c.in-Ok.level c.in-Ok.ensures.value
+    c.count_with_level-plots.result c.count_with_level-plots.ensures
 
 -- what a copy is itself, and what stands in it
 

@@ -13,13 +13,14 @@ use Rattle.vega_copies.specs.declared.made.CopyMade.{out-CopyMade}
 use Rattle.vega_copies.specs.Outlines.{object_here}
 use Rattle.vega_copies.specs.Facts.{CopyFound}
 use Rattle.vega_copies.specs.inner.Counted.{Stops}
-use Rattle.vega_copies.specs.inner.FactsMade.{CopyHasFacts}
+use Rattle.vega_copies.specs.inner.FactsMade.{CopyHasFacts, OneHasFacts}
 use Rattle.vega_copies.specs.inner.Levels.{rows_at, names_at}
 use Rattle.vega_copies.specs.inner.Made.{levels_behind, HaveCopies, IsCopyMade}
 use Rattle.vega_copies.specs.inner.Outlined.{marks_in, marks_of}
 use Rattle.vega_copies.proofs.FactsLemmas.{none_begun, facts_ended, one_within, one_stands, one_is_made, one_stops, one_more_found}
 use Rattle.vega_copies.proofs.FactsLemmas.{own_lost, answer_stops, answer_has, group_of, plain_has, at_index, one_copy_stops, entered_is, entered_has}
 use Rattle.vega_copies.proofs.DepthLemmas.{inside_smaller}
+use Rattle.vega_copies.proofs.FoundLemmas.{added, not_added}
 use Rattle.vega_copies.proofs.MadeLemmas.{zip_more, each_copy_made, copies_in_made, levels_in_made}
 use Rattle.vega_copies.proofs.StandLemmas.{object_kept, object_alone}
 use Rattle.vega_copies.proofs.facts.+finding.Goals as goal
@@ -54,12 +55,18 @@ facts_inside-facts_of_mark-requires t c =
 pub facts_inside-returns-in-Err-clause-stops : goal.facts_inside-returns-in-Err-clause-stops
 facts_inside-returns-in-Err-clause-stops t c =
     one_stops c.args.names.now c.args.marks.now c.args.made.now c.loop-mark.mark-index c.mark-item.result c.loop-mark.at _ c.loop-mark-test.true c.mark-item.is
-    c.loop-mark.invariant c.index-made-at.result c.index-made-at.is c.in-Err.error c.in-Err.ensures.stops
+    c.loop-mark.invariant c.index-made-at.result c.index-made-at.is c.in-Err.error
+    (not_added c.facts_of_mark.result _ _ _ c.in-Err.error c.in-Err.ensures c.facts_of_mark.ensures.stops)
 
 pub facts_inside-loop-mark-preserved : goal.facts_inside-loop-mark-preserved
 facts_inside-loop-mark-preserved t c =
-    one_more_found c.args.names.now c.args.marks.now c.args.made.now c.loop-mark.mark-index c.mark-item.result c.loop-mark.at _ c.loop-mark-test.true
-    c.mark-item.is c.loop-mark.invariant c.index-made-at.result c.index-made-at.is c.in-Ok.found _ c.in-Ok.ensures.facts c.in_ok-push-in-Ok.ensures.ok
+    let names = c.args.names.now in
+    let found =
+    added c.facts_of_mark.result c.loop-mark.facts _
+    (OneHasFacts names.stores.now names.sources.now (levels_behind names.levels.now) c.mark-item.result c.index-made-at.result) _ c.in-Ok.ensures
+    c.facts_of_mark.ensures.facts in
+    one_more_found names c.args.marks.now c.args.made.now c.loop-mark.mark-index c.mark-item.result c.loop-mark.at _ c.loop-mark-test.true
+    c.mark-item.is c.loop-mark.invariant c.index-made-at.result c.index-made-at.is found.0 _ found.1 found.2
 
 pub facts_inside-returns-clause-facts : goal.facts_inside-returns-clause-facts
 facts_inside-returns-clause-facts t c =
@@ -105,14 +112,16 @@ facts_of_group-facts_of_copy-requires t c =
 pub facts_of_group-returns-in-Err-clause-stops : goal.facts_of_group-returns-in-Err-clause-stops
 facts_of_group-returns-in-Err-clause-stops t c =
     one_copy_stops c.args.names.now c.args.mark.now c.args.made.now c.requires.group c.requires.made c.as_slice-copies.result.now c.as_slice-copies.ensures
-    c.loop-copy.copy-index c.copy-item.result c.loop-copy-test.true c.copy-item.is c.in-Err.error c.in-Err.ensures.stops
+    c.loop-copy.copy-index c.copy-item.result c.loop-copy-test.true c.copy-item.is c.in-Err.error
+    (not_added c.facts_of_copy.result _ _ _ c.in-Err.error c.in-Err.ensures c.facts_of_copy.ensures.stops)
 
 pub facts_of_group-loop-copy-preserved : goal.facts_of_group-loop-copy-preserved
 facts_of_group-loop-copy-preserved t c =
     let has = CopyHasFacts c.args.names.now.stores.now c.args.names.now.sources.now (levels_behind c.args.names.now.levels.now) (out-VgMark c.args.mark.now) in
-    subst (AllZip has (take (c.loop-copy.copy-index + 1) c.as_slice-copies.result.now)) (sym c.in_ok-push-in-Ok.ensures.ok)
-    (zip_more has c.as_slice-copies.result.now c.loop-copy.facts c.loop-copy.copy-index c.copy-item.result c.in-Ok.found c.loop-copy-test.true c.copy-item.is
-    c.loop-copy.invariant c.in-Ok.ensures.facts)
+    let found = added c.facts_of_copy.result c.loop-copy.facts _ (has c.copy-item.result) _ c.in-Ok.ensures c.facts_of_copy.ensures.facts in
+    subst (AllZip has (take (c.loop-copy.copy-index + 1) c.as_slice-copies.result.now)) (sym found.2)
+    (zip_more has c.as_slice-copies.result.now c.loop-copy.facts c.loop-copy.copy-index c.copy-item.result found.0 c.loop-copy-test.true c.copy-item.is
+    c.loop-copy.invariant found.1)
 
 pub facts_of_group-returns-clause-facts : goal.facts_of_group-returns-clause-facts
 facts_of_group-returns-clause-facts t c =

@@ -1,4 +1,4 @@
-use Rattle.std.proofs.Common.{false, Option, map, sym, ap, ◌∙◌}
+use Rattle.std.proofs.Common.{◌≡◌, Bool, false, IfOk, Option, map, sym, ap, ◌∙◌, subst}
 use Rattle.std.specs.Option.{option_map_or}
 use Rattle.vega_spec.specs.declared.spec.Group.{out-Group}
 use Rattle.vega_lists.specs.Products.{no_folds}
@@ -20,8 +20,9 @@ pub returns : goal.returns
 returns c =
     let marks = marks_of (marks_in (out-Group c.args.group.now)) in
     let levels = ap (map (λ level. level.now)) c.as_slice.ensures ∙ c.in_ok-levels.ensures in
-    c.in_ok-folds_fit_in.ensures
-    ∙ (λ i. folds_fit_in (products_at (levels i)) (marks_of (c.marks_in.ensures i)))
+    subst (λ (whole : Bool). IfOk c.folds_fit_in.result (λ fit. fit ≡ whole))
+    ((λ i. folds_fit_in (products_at (levels i)) (marks_of (c.marks_in.ensures i)))
     ∙ ap (λ (found : Option Places). option_map_or (λ own. folds_fit_in (products_over own no_folds) marks) found false) (sym c.in-Some.is)
     ∙ fits_by (data_of (out-Group c.args.group.now)) c.data_of.result.now marks c.no_products.result c.in_ok-own.field-0
-    (c.no_products.ensures no_folds) c.data_of.ensures c.in_ok-own.ensures
+    (c.no_products.ensures no_folds) c.data_of.ensures c.in_ok-own.ensures)
+    c.folds_fit_in.ensures

@@ -12,11 +12,13 @@ use Rattle.vega_copies.specs.declared.made.CopiesMade.{CopiesMade, roll-CopiesMa
 use Rattle.vega_copies.specs.declared.made.CopyMade.{roll-CopyMade, out-roll-CopyMade}
 use Rattle.vega_copies.specs.Facets.{copies_of}
 use Rattle.vega_copies.specs.Outlines.{facet_in}
-use Rattle.vega_copies.specs.inner.Copied.{copy_seen, IsCopy}
+use Rattle.vega_copies.specs.inner.Copied.{across_with_facet, copies_with_facet, copy_seen, scope_at, IsCopy}
 use Rattle.vega_copies.specs.inner.Counted.{plots_inside, Stops}
 use Rattle.vega_copies.specs.inner.Levels.{rows_at, names_at}
 use Rattle.vega_copies.specs.inner.Made.{levels_behind, made_seen, IsCopyMade, OneMade}
 use Rattle.vega_copies.specs.inner.Outlined.{marks_in, group_object}
+use Rattle.vega_copies.proofs.CopyLemmas.{copies_sound}
+use Rattle.vega_copies.proofs.FoundLemmas.{added, added_both, not_added}
 use Rattle.vega_copies.proofs.StandLemmas.{levels_entered, names_entered, stand_inside}
 use Rattle.vega_copies.proofs.CountLemmas.{mark_stops, stand_at, copy_stops, inside_stops}
 use Rattle.vega_copies.proofs.PanelLemmas.{one_copy_stops}
@@ -42,9 +44,10 @@ pub made_in-loop-mark-preserved : goal.made_in-loop-mark-preserved
 made_in-loop-mark-preserved t c =
     let names = c.args.names.now in
     let one : VgMark → CopiesMade → Type 0 = OneMade names.stores.now names.sources.now (levels_behind names.levels.now) in
-    subst (AllZip one (take (c.loop-mark.mark-index + 1) c.args.marks.now)) (sym c.in_ok-push-in-Ok.ensures.ok)
-    (zip_more one c.args.marks.now c.loop-mark.made c.loop-mark.mark-index c.mark-item.result c.in-Ok.found c.loop-mark-test.true c.mark-item.is
-    c.loop-mark.invariant c.in-Ok.ensures.made)
+    let found = added c.made_of_mark.result c.loop-mark.made _ (one c.mark-item.result) _ c.in-Ok.ensures c.made_of_mark.ensures.made in
+    subst (AllZip one (take (c.loop-mark.mark-index + 1) c.args.marks.now)) (sym found.2)
+    (zip_more one c.args.marks.now c.loop-mark.made c.loop-mark.mark-index c.mark-item.result found.0 c.loop-mark-test.true c.mark-item.is
+    c.loop-mark.invariant found.1)
 
 pub made_in-returns-in-Err-clause-stops : goal.made_in-returns-in-Err-clause-stops
 made_in-returns-in-Err-clause-stops t c =
@@ -52,7 +55,8 @@ made_in-returns-in-Err-clause-stops t c =
     λ in_facet in_grid.
     mark_stops (map dataset_of names.sources.now) in_facet in_grid
     (names_at names.stores.now names.sources.now names.levels.now) c.args.marks.now c.loop-mark.mark-index c.mark-item.result
-    c.in-Err.error c.loop-mark-test.true c.mark-item.is (c.in-Err.ensures.stops in_facet in_grid)
+    c.in-Err.error c.loop-mark-test.true c.mark-item.is
+    (not_added c.made_of_mark.result _ _ _ c.in-Err.error c.in-Err.ensures (c.made_of_mark.ensures.stops in_facet in_grid))
 
 -- ---- the copies of a group
 
@@ -62,10 +66,13 @@ made_of_group-loop-copy-init t c =
     let items : into_iter_items c.into_iter-copy-iterator.result ≡ c.in_ok-copies.field-0.copies =
     c.into_iter-copy-iterator.ensures.into_iter_gives.0 ∙ c.into_vec-copy-items.ensures in
     let none : c.in_ok-made.made ≡ [] = search rules in
+    let m = out-VgMark c.args.mark.now in
+    let all = c.in_ok-copies.ensures.copies ∙ ap (copies_with_facet (scope_at names) m.sort) c.facet_in.ensures in
     record {
-      copies = subst (All (IsCopy names (out-VgMark c.args.mark.now))) (sym items) c.in_ok-copies.ensures.sound;
+      copies = subst (All (IsCopy names (out-VgMark c.args.mark.now))) (sym items)
+          (copies_sound names (out-VgMark c.args.mark.now) c.requires.names c.in_ok-copies.field-0.copies all);
       seen =
-          (λ i. map made_seen (none i) ++ map copy_seen (items i)) ∙ c.in_ok-copies.ensures.copies;
+          (λ i. map made_seen (none i) ++ map copy_seen (items i)) ∙ all;
       made =
           subst (All (IsCopyMade names.stores.now names.sources.now (levels_behind names.levels.now) (out-VgMark c.args.mark.now))) (sym none)
           (All-nil (IsCopyMade names.stores.now names.sources.now (levels_behind names.levels.now) (out-VgMark c.args.mark.now)));
@@ -91,18 +98,19 @@ pub made_of_group-loop-copy-preserved : goal.made_of_group-loop-copy-preserved
 made_of_group-loop-copy-preserved t c =
     let names = c.args.names.now in
     let m = out-VgMark c.args.mark.now in
+    let one = IsCopyMade names.stores.now names.sources.now (levels_behind names.levels.now) m in
+    let found =
+    added_both c.made_copy.result c.loop-copy.made _ (λ found. made_seen found ≡ copy_seen c.in-Some.copy) one _ c.in-Ok.ensures c.made_copy.ensures.seen
+    c.made_copy.ensures.made in
     record {
       copies =
           All-tail (IsCopy names m) c.in-Some.copy (into_iter_items c.next.new.self)
           (subst (All (IsCopy names m)) c.in-Some.ensures.steps.0 c.loop-copy.invariant.copies);
       seen =
-          seen_next (copies_of (scope_read (rows_at names.sources.now names.levels.now)) (group_object 0 m)) c.loop-copy.made c.push.new.self c.in-Ok.found
-          (into_iter_items c.loop-copy.copy-iterator) (into_iter_items c.next.new.self) c.in-Some.copy c.in-Some.ensures.steps.0 c.in_ok-push-in-Ok.ensures.ok
-          c.in-Ok.ensures.seen c.loop-copy.invariant.seen;
-      made =
-          subst (All (IsCopyMade names.stores.now names.sources.now (levels_behind names.levels.now) m)) (sym c.in_ok-push-in-Ok.ensures.ok)
-          (All-push (IsCopyMade names.stores.now names.sources.now (levels_behind names.levels.now) m)
-          c.loop-copy.made c.in-Ok.found c.loop-copy.invariant.made c.in-Ok.ensures.made);
+          seen_next (copies_of (scope_read (rows_at names.sources.now names.levels.now)) (group_object 0 m)) c.loop-copy.made c.push_found.new.list found.0
+          (into_iter_items c.loop-copy.copy-iterator) (into_iter_items c.next.new.self) c.in-Some.copy c.in-Some.ensures.steps.0 found.3
+          found.1 c.loop-copy.invariant.seen;
+      made = subst (All one) (sym found.3) (All-push one c.loop-copy.made found.0 c.loop-copy.invariant.made found.2);
     }
 
 pub made_of_group-returns-in-Err-clause-stops : goal.made_of_group-returns-in-Err-clause-stops
@@ -114,7 +122,7 @@ made_of_group-returns-in-Err-clause-stops t c =
     (names_at names.stores.now names.sources.now names.levels.now) c.requires.group
     (map made_seen c.loop-copy.made) (copy_seen c.in-Some.copy) (map copy_seen (into_iter_items c.next.new.self)) c.in-Err.error
     (ap (λ copies. map made_seen c.loop-copy.made ++ map copy_seen copies) (sym c.in-Some.ensures.steps.0) ∙ c.loop-copy.invariant.seen)
-    (c.in-Err.ensures.stops (in_facet || is_some (facet_in m.from)) in_grid)
+    (not_added c.made_copy.result _ _ _ c.in-Err.error c.in-Err.ensures (c.made_copy.ensures.stops (in_facet || is_some (facet_in m.from)) in_grid))
 
 pub made_of_group-returns-clause-made : goal.made_of_group-returns-clause-made
 made_of_group-returns-clause-made t c =
@@ -126,7 +134,7 @@ made_of_group-returns-clause-made t c =
     (seen_end (copies_of (scope_read (rows_at names.sources.now names.levels.now)) (group_object 0 m))
     c.loop-copy.made (into_iter_items c.loop-copy.copy-iterator)
     (none_left c.loop-copy.copy-iterator c.in-None.ensures.steps.0) c.loop-copy.invariant.seen)
-    c.in_ok-copies.ensures.across c.loop-copy.invariant.made
+    (c.in_ok-copies.ensures.across ∙ ap (across_with_facet (scope_at names) m.sort) c.facet_in.ensures) c.loop-copy.invariant.made
 
 -- ---- a copy
 
