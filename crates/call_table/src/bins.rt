@@ -72,11 +72,18 @@ fn said(alloc: Global, b: &BinOf, rows: &Rows) -> Result<Text, OutOfMemory>
     Ok(text)
 }
 
+// What is found for some bins and the rows of a list.
+fn said_of_list(alloc: Global, b: &BinOf, list: &str) -> Result<Text, OutOfMemory>
+    requires { IfSome b.now.step (λ step. pos 0 <ℤ step) }
+{
+    said(alloc, b, &one_each(alloc, list)?)
+}
+
 /// What is found for a question.
 pub(crate) fn found(alloc: Global, told: &str) -> Result<Text, OutOfMemory> {
     let Some((words, list)) = told.split_once('\t') else {
         return Text::of(alloc, "no rows");
     };
     let bins = bins_by(alloc, words)?;
-    said(alloc, &bins, &one_each(alloc, list)?)
+    said_of_list(alloc, &bins, list)
 }

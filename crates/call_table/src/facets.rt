@@ -37,8 +37,9 @@ fn divided_by(
     order: &str,
     way: &str,
 ) -> Result<DividedBy, OutOfMemory> {
+    let fields = names_of(alloc, fields)?;
     Ok(DividedBy {
-        fields: names_of(alloc, fields)?,
+        fields,
         sort: order_of(alloc, order)?,
         crosses: way == "crossed",
     })
@@ -167,13 +168,29 @@ fn say_copies(
     say_all_parts(text, alloc, d.fields.as_slice(), copies.as_slice(), lists)
 }
 
+// Adds how rows are divided.
+fn say_division(
+    text: &mut Text,
+    alloc: Global,
+    d: &DividedBy,
+    lists: &[Rows],
+) -> Result<(), OutOfMemory> {
+    let rows = all_shown(alloc, lists)?;
+    say_fields(text, alloc, d, rows.as_slice())?;
+    say_copies(text, alloc, d, rows.as_slice(), lists)
+}
+
 // How rows are divided.
 fn division(alloc: Global, d: &DividedBy, lists: &[Rows]) -> Result<Text, OutOfMemory> {
-    let rows = all_shown(alloc, lists)?;
     let mut text = Text::new(alloc);
-    say_fields(&mut text, alloc, d, rows.as_slice())?;
-    say_copies(&mut text, alloc, d, rows.as_slice(), lists)?;
+    say_division(&mut text, alloc, d, lists)?;
     Ok(text)
+}
+
+// How the rows of lists are divided.
+fn division_of(alloc: Global, d: &DividedBy, words: &str) -> Result<Text, OutOfMemory> {
+    let lists = lists_of(alloc, words)?;
+    division(alloc, d, lists.as_slice())
 }
 
 /// What is found for a question.
@@ -182,6 +199,5 @@ pub(crate) fn found(alloc: Global, told: &str) -> Result<Text, OutOfMemory> {
     let fields = word_or_none(words.next());
     let order = word_or_none(words.next());
     let d = divided_by(alloc, fields, order, word_or_none(words.next()))?;
-    let lists = lists_of(alloc, word_or_none(words.next()))?;
-    division(alloc, &d, lists.as_slice())
+    division_of(alloc, &d, word_or_none(words.next()))
 }

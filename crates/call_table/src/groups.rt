@@ -17,9 +17,10 @@ pub(crate) fn op_of(
     field: &str,
     out: &str,
 ) -> Result<OpOf, OutOfMemory> {
+    let field = field_of(alloc, field)?;
     Ok(OpOf {
         op: code.parse::<u16>().unwrap_or(0),
-        field: field_of(alloc, field)?,
+        field,
         out: SharedText::of(alloc, out)?,
     })
 }
@@ -45,8 +46,9 @@ fn ops_of(alloc: Global, list: &str) -> Result<Seq<OpOf>, OutOfMemory> {
 
 // The groups of two lists.
 fn groups_by(alloc: Global, fields: &str, ops: &str) -> Result<GroupOf, OutOfMemory> {
+    let groupby = names_of(alloc, fields)?;
     Ok(GroupOf {
-        groupby: names_of(alloc, fields)?,
+        groupby,
         ops: ops_of(alloc, ops)?,
     })
 }
@@ -58,6 +60,11 @@ fn said_of_aggregate(alloc: Global, g: &GroupOf, rows: &Rows) -> Result<Text, Ou
     said_of_answer(alloc, &aggregate(alloc, rows, g), false)
 }
 
+// What an aggregate gives of the rows of a list.
+fn aggregate_of_list(alloc: Global, g: &GroupOf, list: &str) -> Result<Text, OutOfMemory> {
+    said_of_aggregate(alloc, g, &one_each(alloc, list)?)
+}
+
 // What a join gives.
 fn said_of_join(alloc: Global, g: &GroupOf, rows: &Rows) -> Result<Text, OutOfMemory>
     requires { AreRows rows.now }
@@ -65,16 +72,17 @@ fn said_of_join(alloc: Global, g: &GroupOf, rows: &Rows) -> Result<Text, OutOfMe
     said_of_answer(alloc, &join_aggregate(alloc, rows, g), false)
 }
 
+// What a join gives of the rows of a list.
+fn join_of_list(alloc: Global, g: &GroupOf, list: &str) -> Result<Text, OutOfMemory> {
+    said_of_join(alloc, g, &one_each(alloc, list)?)
+}
+
 /// What is found for a question about an aggregate.
 pub(crate) fn aggregated(alloc: Global, told: &str) -> Result<Text, OutOfMemory> {
     let mut words = told.split('\t');
     let fields = word_or_none(words.next());
     let groups = groups_by(alloc, fields, word_or_none(words.next()))?;
-    said_of_aggregate(
-        alloc,
-        &groups,
-        &one_each(alloc, word_or_none(words.next()))?,
-    )
+    aggregate_of_list(alloc, &groups, word_or_none(words.next()))
 }
 
 /// What is found for a question about a join.
@@ -82,9 +90,5 @@ pub(crate) fn joined(alloc: Global, told: &str) -> Result<Text, OutOfMemory> {
     let mut words = told.split('\t');
     let fields = word_or_none(words.next());
     let groups = groups_by(alloc, fields, word_or_none(words.next()))?;
-    said_of_join(
-        alloc,
-        &groups,
-        &one_each(alloc, word_or_none(words.next()))?,
-    )
+    join_of_list(alloc, &groups, word_or_none(words.next()))
 }

@@ -3,6 +3,7 @@ use crate::transformed::{folded, folded_twice, looked_up};
 use crate::{shown, told};
 use cell_value::Rows;
 use json_exact::Json;
+use plain_rows::{FoldOf, LookupOf};
 use std::alloc::Global;
 use text_kit::{OutOfMemory, Text};
 
@@ -23,7 +24,10 @@ impl From<OutOfMemory> for CallStop {
 
 // The tree of a text.
 fn tree_of(alloc: Global, text: &str) -> Result<Json, CallStop> {
-    json_exact::read(alloc, text.as_bytes()).map_err(|_| CallStop::Shape)
+    match json_exact::read(alloc, text.as_bytes()) {
+        Ok(tree) => Ok(tree),
+        Err(_) => Err(CallStop::Shape),
+    }
 }
 
 // The rows of a tree of JSON.
@@ -36,36 +40,47 @@ fn of_json(alloc: Global, how: &Json, data: &Json) -> Result<Json, CallStop> {
 fn of_csv(alloc: Global, how: &Json, data: &Json) -> Result<Json, CallStop> {
     let bytes = told::bytes(alloc, data)?;
     let kinds = told::kinds(alloc, how)?;
-    shown::read(
-        alloc,
-        data_rows::rows_of_csv(alloc, bytes.as_slice(), &kinds),
-    )
+    let rows = data_rows::rows_of_csv(alloc, bytes.as_slice(), &kinds);
+    shown::read(alloc, rows)
 }
 
 // What one fold makes of rows.
 fn fold(alloc: Global, how: &Json, data: &Json) -> Result<Rows, CallStop> {
+    let how = told::fold(alloc, how)?;
     let rows = told::rows(alloc, data)?;
-    folded(alloc, &rows, &told::fold(alloc, how)?, 2)
+    folded(alloc, &rows, &how, 2)
 }
 
 // What two folds make of rows, one after the other.
+fn fold_twice(
+    alloc: Global,
+    first: &FoldOf,
+    second: &FoldOf,
+    data: &Json,
+) -> Result<Rows, CallStop> {
+    folded_twice(alloc, &told::rows(alloc, data)?, first, second)
+}
+
+// What two folds that are told make of rows.
 fn folds(alloc: Global, how: &Json, data: &Json) -> Result<Rows, CallStop> {
     let (first, second) = told::two(how)?;
     let first = told::fold(alloc, first)?;
     let second = told::fold(alloc, second)?;
-    folded_twice(alloc, &told::rows(alloc, data)?, &first, &second)
+    fold_twice(alloc, &first, &second, data)
 }
 
-// What a lookup makes of the first list of rows in the second.
+// What a lookup makes of rows in others.
+fn look_up(alloc: Global, how: &LookupOf, rows: &Json, other: &Json) -> Result<Rows, CallStop> {
+    let rows = told::rows(alloc, rows)?;
+    let other = told::rows(alloc, other)?;
+    looked_up(alloc, &rows, &other, how)
+}
+
+// What a lookup that is told makes of the first list of rows in the second.
 fn lookup(alloc: Global, how: &Json, data: &Json) -> Result<Rows, CallStop> {
     let (rows, other) = told::two(data)?;
     let how = told::lookup(alloc, how)?;
-    looked_up(
-        alloc,
-        &told::rows(alloc, rows)?,
-        &told::rows(alloc, other)?,
-        &how,
-    )
+    look_up(alloc, &how, rows, other)
 }
 
 // What a call that transforms rows answers.
@@ -88,20 +103,33 @@ fn answer_of(alloc: Global, call: &str, how: &Json, data: &Json) -> Result<Json,
     }
 }
 
+// What a call answers that is told the text of its data.
+fn answer_over(alloc: Global, call: &str, how: &Json, data: &str) -> Result<Json, CallStop> {
+    let data = tree_of(alloc, data)?;
+    let answer = answer_of(alloc, call, how, &data);
+    drop(data);
+    answer
+}
+
 // What a call answers that is told a text.
 fn answer(alloc: Global, call: &str, told: &str) -> Result<Json, CallStop> {
     let Some((how, data)) = told.split_once('\t') else {
         return Err(CallStop::Shape);
     };
     let how = tree_of(alloc, how)?;
-    let data = tree_of(alloc, data)?;
-    answer_of(alloc, call, &how, &data)
+    let answer = answer_over(alloc, call, &how, data);
+    drop(how);
+    answer
 }
 
 /// What is found for a question.
 pub(crate) fn found(alloc: Global, call: &str, told: &str) -> Result<Text, OutOfMemory> {
     match answer(alloc, call, told) {
-        Ok(tree) => json_exact::write(alloc, &tree),
+        Ok(tree) => {
+            let text = json_exact::write(alloc, &tree);
+            drop(tree);
+            text
+        }
         Err(CallStop::Shape) => Text::of(alloc, "no call"),
         Err(CallStop::Memory) => Err(OutOfMemory),
     }

@@ -74,13 +74,19 @@ fn take_word(alloc: Global, word: &str, open: &mut Seq<Seq<BoxTree>>) -> Result<
     }
 }
 
+// Takes the words of a tree.
+fn take_words(alloc: Global, text: &str, open: &mut Seq<Seq<BoxTree>>) -> Result<(), OutOfMemory> {
+    open.push(Seq::new(alloc))?;
+    for word in text.split(' ') {
+        take_word(alloc, word, open)?;
+    }
+    Ok(())
+}
+
 // The tree of a text; None where it is none.
 fn tree_by(alloc: Global, text: &str) -> Result<Option<BoxTree>, OutOfMemory> {
     let mut open = Seq::new(alloc);
-    open.push(Seq::new(alloc))?;
-    for word in text.split(' ') {
-        take_word(alloc, word, &mut open)?;
-    }
+    take_words(alloc, text, &mut open)?;
     match open.pop() {
         Some(mut trees) => Ok(trees.pop()),
         None => Ok(None),
@@ -100,41 +106,69 @@ fn say_size(text: &mut Text, width: Num, height: Num) -> Result<(), OutOfMemory>
     say(text, height)
 }
 
+// Adds a layout.
+fn say_laid(text: &mut Text, laid: &Laid) -> Result<(), OutOfMemory> {
+    for place in laid.places.as_slice() {
+        say(text, place.0)?;
+        say(text, place.1)?;
+    }
+    say_size(text, laid.width, laid.height)
+}
+
 // How a layout is spelled.
 fn said(alloc: Global, laid: &Laid) -> Result<Text, OutOfMemory> {
     let mut text = Text::new(alloc);
-    for place in laid.places.as_slice() {
-        say(&mut text, place.0)?;
-        say(&mut text, place.1)?;
-    }
-    say_size(&mut text, laid.width, laid.height)?;
+    say_laid(&mut text, laid)?;
     Ok(text)
+}
+
+// Adds a layout with titles.
+fn say_laid_with_titles(text: &mut Text, laid: &LaidWithTitles) -> Result<(), OutOfMemory> {
+    for place in laid.places.as_slice() {
+        say(text, place.x)?;
+        say(text, place.y)?;
+        say(text, place.width)?;
+    }
+    say_size(text, laid.width, laid.height)
 }
 
 // How a layout with titles is spelled.
 fn said_with_titles(alloc: Global, laid: &LaidWithTitles) -> Result<Text, OutOfMemory> {
     let mut text = Text::of(alloc, "titles ")?;
-    for place in laid.places.as_slice() {
-        say(&mut text, place.x)?;
-        say(&mut text, place.y)?;
-        say(&mut text, place.width)?;
-    }
-    say_size(&mut text, laid.width, laid.height)?;
+    say_laid_with_titles(&mut text, laid)?;
     Ok(text)
+}
+
+// What is found for a tree that was read.
+fn found_of(alloc: Global, tree: &BoxTree) -> Result<Text, OutOfMemory> {
+    said(alloc, &lay_out(alloc, tree)?)
 }
 
 /// What is found for a tree.
 pub(crate) fn found(alloc: Global, text: &str) -> Result<Text, OutOfMemory> {
     match tree_by(alloc, text)? {
-        Some(tree) => said(alloc, &lay_out(alloc, &tree)?),
+        Some(tree) => {
+            let found = found_of(alloc, &tree);
+            drop(tree);
+            found
+        }
         None => Text::of(alloc, "no tree"),
     }
+}
+
+// What is found for a tree that was read, with the titles of its grids.
+fn found_with_titles_of(alloc: Global, tree: &BoxTree) -> Result<Text, OutOfMemory> {
+    said_with_titles(alloc, &lay_out_with_titles(alloc, tree)?)
 }
 
 /// What is found for a tree with the titles of its grids.
 pub(crate) fn found_with_titles(alloc: Global, text: &str) -> Result<Text, OutOfMemory> {
     match tree_by(alloc, text)? {
-        Some(tree) => said_with_titles(alloc, &lay_out_with_titles(alloc, &tree)?),
+        Some(tree) => {
+            let found = found_with_titles_of(alloc, &tree);
+            drop(tree);
+            found
+        }
         None => Text::of(alloc, "no tree"),
     }
 }

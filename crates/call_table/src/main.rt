@@ -47,20 +47,34 @@ fn found(alloc: Global, call: &str, told: &str) -> Result<Text, OutOfMemory> {
     }
 }
 
+// The name of a call, and what it is told.
+fn call_of(line: &str) -> (&str, &str) {
+    match line.split_once('\t') {
+        Some(parts) => parts,
+        None => (line, ""),
+    }
+}
+
 // What is found for a line, where it isn't what the line expects.
 fn failed(alloc: Global, line: &str) -> Result<Option<Text>, OutOfMemory> {
     let Some((expected, rest)) = line.split_once('\t') else {
         return Ok(Some(Text::of(alloc, "no call")?));
     };
-    let (call, told) = match rest.split_once('\t') {
-        Some(parts) => parts,
-        None => (rest, ""),
-    };
+    let (call, told) = call_of(rest);
     let found = found(alloc, call, told)?;
     if found.as_str() == expected {
         Ok(None)
     } else {
         Ok(Some(found))
+    }
+}
+
+// What is written of that.
+fn word_of(failed: &Result<Option<Text>, OutOfMemory>) -> Option<&str> {
+    match failed {
+        Ok(Some(found)) => Some(found.as_str()),
+        Ok(None) => None,
+        Err(_) => Some("no memory"),
     }
 }
 
@@ -70,10 +84,9 @@ fn main(rt: HostRuntime) -> io::Result<()> {
     for line in rt.lines(alloc) {
         let line = line?;
         count = count.saturating_add(1);
-        match failed(alloc, line.as_str()) {
-            Ok(None) => {}
-            Ok(Some(found)) => println!(rt; "{} at {line}", found.as_str())?,
-            Err(_) => println!(rt; "no memory at {line}")?,
+        let found = failed(alloc, line.as_str());
+        if let Some(word) = word_of(&found) {
+            println!(rt; "{word} at {line}")?;
         }
     }
     println!(rt; "{count} lines")

@@ -67,6 +67,14 @@ fn say_entry(text: &mut Text, name: &str, cell: &Cell) -> Result<(), OutOfMemory
     say_cell(text, cell)
 }
 
+// Adds the rows of an answer.
+fn say_rows(text: &mut Text, rows: &[Keyed], branches: bool) -> Result<(), OutOfMemory> {
+    for row in rows {
+        say_row(text, row, branches)?;
+    }
+    Ok(())
+}
+
 // Adds a row.
 fn say_row(text: &mut Text, row: &Keyed, branches: bool) -> Result<(), OutOfMemory> {
     say_key(text, row.key, branches)?;
@@ -83,12 +91,7 @@ pub(crate) fn say_answer(
     branches: bool,
 ) -> Result<(), OutOfMemory> {
     match answer {
-        Ok(rows) => {
-            for row in rows.as_slice() {
-                say_row(text, row, branches)?;
-            }
-            Ok(())
-        }
+        Ok(rows) => say_rows(text, rows.as_slice(), branches),
         Err(EvalError::Overflow) => text.push_str("overflow"),
         Err(EvalError::Memory) => text.push_str("memory"),
     }

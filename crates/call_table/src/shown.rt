@@ -1,6 +1,6 @@
 // Answers as JSON.
 use crate::json_rows::CallStop;
-use cell_value::{Cell, Keyed, Row, Rows};
+use cell_value::{Cell, Keyed, Row, Rows, SharedText};
 use data_rows::RowError;
 use fixed_num::Num;
 use json_exact::{Json, Member};
@@ -25,25 +25,50 @@ pub(crate) fn keyed(alloc: Global, rows: &Rows) -> Result<Json, CallStop> {
     Ok(Json::List(shown))
 }
 
+// Adds a member with a count.
+fn push_count(
+    alloc: Global,
+    members: &mut Seq<Member>,
+    name: &str,
+    n: u64,
+) -> Result<(), OutOfMemory> {
+    let name = Text::of(alloc, name)?;
+    members.push(Member {
+        name,
+        value: whole(n),
+    })
+}
+
+// Adds a row as a member.
+fn push_row(alloc: Global, members: &mut Seq<Member>, row: &Row) -> Result<(), OutOfMemory> {
+    let name = Text::of(alloc, "row")?;
+    members.push(Member {
+        name,
+        value: shown_row(alloc, row)?,
+    })
+}
+
 fn shown_keyed(alloc: Global, keyed: &Keyed) -> Result<Json, OutOfMemory> {
     let mut members = Seq::new(alloc);
-    members.push(member(alloc, "id", whole(keyed.key.id))?)?;
-    members.push(member(alloc, "branch", whole(u64::from(keyed.key.branch)))?)?;
-    members.push(member(alloc, "row", shown_row(alloc, &keyed.row)?)?)?;
+    push_count(alloc, &mut members, "id", keyed.key.id)?;
+    push_count(alloc, &mut members, "branch", u64::from(keyed.key.branch))?;
+    push_row(alloc, &mut members, &keyed.row)?;
     Ok(Json::Object(members))
 }
 
-fn member(alloc: Global, name: &str, value: Json) -> Result<Member, OutOfMemory> {
-    Ok(Member {
-        name: Text::of(alloc, name)?,
-        value,
+// Adds a field as a member.
+fn push_field(alloc: Global, members: &mut Seq<Member>, field: Text) -> Result<(), OutOfMemory> {
+    let name = Text::of(alloc, "field")?;
+    members.push(Member {
+        name,
+        value: Json::Text(field),
     })
 }
 
 fn bad(alloc: Global, row: u64, field: Text) -> Result<Json, OutOfMemory> {
     let mut members = Seq::new(alloc);
-    members.push(member(alloc, "bad", whole(row))?)?;
-    members.push(member(alloc, "field", Json::Text(field))?)?;
+    push_count(alloc, &mut members, "bad", row)?;
+    push_field(alloc, &mut members, field)?;
     Ok(Json::Object(members))
 }
 
@@ -62,15 +87,33 @@ fn shown_rows(alloc: Global, rows: &[Row]) -> Result<Json, OutOfMemory> {
     Ok(Json::List(shown))
 }
 
+// Adds a cell under a name as a member.
+fn push_cell(
+    alloc: Global,
+    members: &mut Seq<Member>,
+    name: &SharedText,
+    cell: &Cell,
+) -> Result<(), OutOfMemory> {
+    let name = name.as_text().copy()?;
+    members.push(Member {
+        name,
+        value: shown_cell(alloc, cell)?,
+    })
+}
+
 fn shown_row(alloc: Global, row: &Row) -> Result<Json, OutOfMemory> {
     let mut members = Seq::new(alloc);
     for entry in row.entries() {
-        members.push(Member {
-            name: entry.0.as_text().copy()?,
-            value: shown_cell(alloc, &entry.1.cell()?)?,
-        })?;
+        push_cell(alloc, &mut members, &entry.0, &entry.1.cell()?)?;
     }
     Ok(Json::Object(members))
+}
+
+fn shown_pair(alloc: Global, a: Num, b: Num) -> Result<Json, OutOfMemory> {
+    let mut ends = Seq::new(alloc);
+    ends.push(Json::Number(a))?;
+    ends.push(Json::Number(b))?;
+    Ok(Json::List(ends))
 }
 
 fn shown_cell(alloc: Global, cell: &Cell) -> Result<Json, OutOfMemory> {
@@ -79,11 +122,6 @@ fn shown_cell(alloc: Global, cell: &Cell) -> Result<Json, OutOfMemory> {
         Cell::Flag(flag) => Ok(Json::Flag(*flag)),
         Cell::Number(number) => Ok(Json::Number(*number)),
         Cell::Text(text) => Ok(Json::Text(text.copy()?)),
-        Cell::Pair(a, b) => {
-            let mut ends = Seq::new(alloc);
-            ends.push(Json::Number(*a))?;
-            ends.push(Json::Number(*b))?;
-            Ok(Json::List(ends))
-        }
+        Cell::Pair(a, b) => shown_pair(alloc, *a, *b),
     }
 }

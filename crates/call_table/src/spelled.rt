@@ -94,12 +94,18 @@ fn cell_by(alloc: Global, word: &str) -> Result<Cell, OutOfMemory> {
     })
 }
 
+// Sets a cell of a row.
+fn set_cell(alloc: Global, row: &mut Row, name: &str, cell: &str) -> Result<(), OutOfMemory> {
+    let cell = cell_by(alloc, cell)?;
+    row.set(Text::of(alloc, name)?, cell)
+}
+
 // A row by its cells, with bars between them.
 fn row_by(alloc: Global, word: &str) -> Result<Row, OutOfMemory> {
     let mut row = Row::new(alloc)?;
     for part in word.split('|') {
         if let Some((name, cell)) = part.split_once('=') {
-            row.set(Text::of(alloc, name)?, cell_by(alloc, cell)?)?;
+            set_cell(alloc, &mut row, name, cell)?;
         }
     }
     Ok(row)

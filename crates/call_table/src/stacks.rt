@@ -19,6 +19,15 @@ fn offset_of(word: &str) -> Offset {
     }
 }
 
+// The field of a stack, and the names of the start and the end.
+fn stacked_by(alloc: Global, names: &str) -> Result<(Text, SharedText, SharedText), OutOfMemory> {
+    let mut names = names.split(':');
+    let field = Text::of(alloc, word_or_none(names.next()))?;
+    let out = SharedText::of(alloc, word_or_none(names.next()))?;
+    let out_end = SharedText::of(alloc, word_or_none(names.next()))?;
+    Ok((field, out, out_end))
+}
+
 // The stacks of four words.
 fn stacks_by(
     alloc: Global,
@@ -27,13 +36,11 @@ fn stacks_by(
     sort: &str,
     names: &str,
 ) -> Result<StackOf, OutOfMemory> {
-    let mut names = names.split(':');
-    let field = Text::of(alloc, word_or_none(names.next()))?;
-    let out = SharedText::of(alloc, word_or_none(names.next()))?;
-    let out_end = SharedText::of(alloc, word_or_none(names.next()))?;
+    let (field, out, out_end) = stacked_by(alloc, names)?;
+    let groupby = names_of(alloc, fields)?;
     Ok(StackOf {
         field,
-        groupby: names_of(alloc, fields)?,
+        groupby,
         sort: sort_of(alloc, sort)?,
         offset: offset_of(offset),
         out,
@@ -48,6 +55,11 @@ fn said(alloc: Global, s: &StackOf, rows: &Rows) -> Result<Text, OutOfMemory>
     said_of_answer(alloc, &stack(alloc, rows, s), true)
 }
 
+// What a stack gives of the rows of a list.
+fn said_of_list(alloc: Global, s: &StackOf, list: &str) -> Result<Text, OutOfMemory> {
+    said(alloc, s, &two_each(alloc, list)?)
+}
+
 /// What is found for a question.
 pub(crate) fn found(alloc: Global, told: &str) -> Result<Text, OutOfMemory> {
     let mut words = told.split('\t');
@@ -55,9 +67,5 @@ pub(crate) fn found(alloc: Global, told: &str) -> Result<Text, OutOfMemory> {
     let fields = word_or_none(words.next());
     let sort = word_or_none(words.next());
     let stacks = stacks_by(alloc, offset, fields, sort, word_or_none(words.next()))?;
-    said(
-        alloc,
-        &stacks,
-        &two_each(alloc, word_or_none(words.next()))?,
-    )
+    said_of_list(alloc, &stacks, word_or_none(words.next()))
 }

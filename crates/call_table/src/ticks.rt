@@ -11,14 +11,19 @@ use tick_kit::{
     TickError, decimals_of, nice, number_label, step_of, ticks, time_label, time_ticks,
 };
 
+// Adds numbers.
+fn say_all(all: &mut Text, answer: &[Num]) -> Result<(), OutOfMemory> {
+    for number in answer {
+        all.push_str(" ")?;
+        say_number(all, *number)?;
+    }
+    all.push_str(" ]")
+}
+
 // A list of numbers.
 fn said_of_all(alloc: Global, answer: &[Num]) -> Result<Text, OutOfMemory> {
     let mut all = Text::of(alloc, "[")?;
-    for number in answer {
-        all.push_str(" ")?;
-        say_number(&mut all, *number)?;
-    }
-    all.push_str(" ]")?;
+    say_all(&mut all, answer)?;
     Ok(all)
 }
 
@@ -54,13 +59,18 @@ fn say_label(all: &mut Text, alloc: Global, at: Num) -> Result<(), OutOfMemory> 
     all.push_str(" |")
 }
 
+// Adds the labels of ticks of instants.
+fn say_labels(all: &mut Text, alloc: Global, ticks: &[Num]) -> Result<(), OutOfMemory> {
+    for tick in ticks {
+        say_label(all, alloc, *tick)?;
+    }
+    all.push_str(" ]")
+}
+
 // The labels of ticks of instants.
 fn labels(alloc: Global, ticks: &[Num]) -> Result<Text, OutOfMemory> {
     let mut all = Text::of(alloc, "[")?;
-    for tick in ticks {
-        say_label(&mut all, alloc, *tick)?;
-    }
-    all.push_str(" ]")?;
+    say_labels(&mut all, alloc, ticks)?;
     Ok(all)
 }
 

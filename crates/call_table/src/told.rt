@@ -7,7 +7,7 @@ use crate::json_rows::CallStop;
 use crate::keys;
 use cell_value::{Cell, Rows, SharedText};
 use data_rows::{ParseKind, rows_of_json};
-use json_exact::{Json, at_path};
+use json_exact::{Json, Member, at_path};
 use plain_rows::{FoldOf, LookupOf};
 use std::alloc::Global;
 use text_kit::{OutOfMemory, Seq, Text};
@@ -41,9 +41,15 @@ pub(crate) fn kinds(alloc: Global, told: &Json) -> Result<Seq<(Text, ParseKind)>
     };
     let mut kinds = Seq::new(alloc);
     for member in members.as_slice() {
-        kinds.push((member.name.copy()?, kind(&member.value)?))?;
+        kinds.push(field_kind(member)?)?;
     }
     Ok(kinds)
+}
+
+// The name of a field and its kind.
+fn field_kind(member: &Member) -> Result<(Text, ParseKind), CallStop> {
+    let kind = kind(&member.value)?;
+    Ok((member.name.copy()?, kind))
 }
 
 fn kind(told: &Json) -> Result<ParseKind, CallStop> {
@@ -120,22 +126,44 @@ fn shared_texts(alloc: Global, told: &Json, path: &str) -> Result<Seq<SharedText
     Ok(shared)
 }
 
+// The names of the keys and of the values of a fold.
+fn fold_outs(alloc: Global, told: &Json) -> Result<(SharedText, SharedText), CallStop> {
+    let out_key = shared(alloc, told, "/as/0")?;
+    Ok((out_key, shared(alloc, told, "/as/1")?))
+}
+
 /// What a fold is told.
 pub(crate) fn fold(alloc: Global, told: &Json) -> Result<FoldOf, CallStop> {
+    let fields = shared_texts(alloc, told, "/fields")?;
+    let (out_key, out_value) = fold_outs(alloc, told)?;
     Ok(FoldOf {
-        fields: shared_texts(alloc, told, "/fields")?,
-        out_key: shared(alloc, told, "/as/0")?,
-        out_value: shared(alloc, told, "/as/1")?,
+        fields,
+        out_key,
+        out_value,
     })
+}
+
+// The two keys of a lookup.
+fn lookup_keys(told: &Json) -> Result<(Text, Text), CallStop> {
+    let here = text(told, "/here")?;
+    Ok((here, text(told, "/there")?))
+}
+
+// The fields of a lookup and their names.
+fn lookup_fields(alloc: Global, told: &Json) -> Result<(Seq<Text>, Seq<SharedText>), CallStop> {
+    let fields = texts(alloc, told, "/fields")?;
+    Ok((fields, shared_texts(alloc, told, "/as")?))
 }
 
 /// What a lookup is told.
 pub(crate) fn lookup(alloc: Global, told: &Json) -> Result<LookupOf, CallStop> {
+    let (key_here, key_there) = lookup_keys(told)?;
+    let (fields, outs) = lookup_fields(alloc, told)?;
     Ok(LookupOf {
-        key_here: text(told, "/here")?,
-        key_there: text(told, "/there")?,
-        fields: texts(alloc, told, "/fields")?,
-        outs: shared_texts(alloc, told, "/as")?,
+        key_here,
+        key_there,
+        fields,
+        outs,
         otherwise: cell(told, "/default")?,
     })
 }

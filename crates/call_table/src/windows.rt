@@ -51,11 +51,13 @@ fn framed(alloc: Global, fields: &str, sort: &str, frame: &str) -> Result<Window
     let before = bound_of(word_or_none(bounds.next()));
     let after = bound_of(word_or_none(bounds.next()));
     let ignore_peers = word_or_none(bounds.next()) == "rows";
+    let groupby = names_of(alloc, fields)?;
+    let sort = sort_of(alloc, sort)?;
     Ok(WindowOf {
         ops: Seq::new(alloc),
         params: Seq::new(alloc),
-        groupby: names_of(alloc, fields)?,
-        sort: sort_of(alloc, sort)?,
+        groupby,
+        sort,
         before,
         after,
         ignore_peers,
@@ -72,6 +74,11 @@ fn said(alloc: Global, w: &WindowOf, rows: &Rows) -> Result<Text, OutOfMemory>
     said_of_answer(alloc, &window(alloc, rows, w), true)
 }
 
+// What windows give of the rows of a list.
+fn said_of_list(alloc: Global, w: &WindowOf, list: &str) -> Result<Text, OutOfMemory> {
+    said(alloc, w, &two_each(alloc, list)?)
+}
+
 /// What is found for a question.
 pub(crate) fn found(alloc: Global, told: &str) -> Result<Text, OutOfMemory> {
     let mut words = told.split('\t');
@@ -80,9 +87,5 @@ pub(crate) fn found(alloc: Global, told: &str) -> Result<Text, OutOfMemory> {
     let sort = word_or_none(words.next());
     let mut windows = framed(alloc, fields, sort, word_or_none(words.next()))?;
     push_ops(alloc, ops, &mut windows.ops, &mut windows.params)?;
-    said(
-        alloc,
-        &windows,
-        &two_each(alloc, word_or_none(words.next()))?,
-    )
+    said_of_list(alloc, &windows, word_or_none(words.next()))
 }

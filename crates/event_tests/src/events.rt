@@ -2,9 +2,9 @@
 ghost use Rattle.std.specs.Prelude.{◌≡◌, ◌<◌, IfOk};
 ghost use Rattle.event_tests.specs.OneCircle.{pixels, the_circle, the_panel, the_scene, the_scales};
 
-use cell_value::{Cell, Key, Params, Steps, StoreOf};
+use cell_value::{Cell, Extent, Key, Params, Steps, StoreOf};
 use fixed_num::Num;
-use json_exact::read;
+use json_exact::{Json, read};
 use param_flow::{Event, UnitRows};
 use scale_kit::{Scale, ScaleIn, ScaleSet};
 use scene_tree::{Item, Items, Panel, Scene, Shape};
@@ -12,7 +12,6 @@ use selection_events::empty_store;
 use std::alloc::Global;
 use std::marker::Brand;
 use std::sync::ledger::{Blank, Ledger};
-use std::test::Fail;
 use text_kit::{OutOfMemory, Seq, Text};
 use vega_building::spec_of;
 use vega_events::on_event;
@@ -111,10 +110,11 @@ fn scene(alloc: Global) -> Result<Scene, OutOfMemory>
 fn scales(alloc: Global) -> Result<ScaleSet, OutOfMemory>
     ensures { IfOk result (λ set. set ≡ the_scales) }
 {
+    let name = Text::of(alloc, "s")?;
     let mut scales = Seq::new(alloc);
     scales.push(ScaleIn {
         panel: None,
-        name: Text::of(alloc, "s")?,
+        name,
         scale: Scale::Linear {
             d0: pixels(0),
             d1: pixels(10),
@@ -125,10 +125,18 @@ fn scales(alloc: Global) -> Result<ScaleSet, OutOfMemory>
     Ok(ScaleSet { scales })
 }
 
-fn spec(alloc: Global) -> Result<VgSpec, Fail> {
+// The specification of a tree.
+fn built(alloc: Global, tree: &Json) -> Option<VgSpec> {
+    match spec_of(alloc, tree) {
+        Ok(g) => Some(g),
+        Err(_) => None,
+    }
+}
+
+fn spec(alloc: Global) -> Option<VgSpec> {
     match read(alloc, SPEC.as_bytes()) {
-        Ok(tree) => Ok(spec_of(alloc, &tree)?),
-        Err(_) => Err(Fail::new("a tree")),
+        Ok(tree) => built(alloc, &tree),
+        Err(_) => None,
     }
 }
 
@@ -155,17 +163,33 @@ fn event(alloc: Global, g: &VgSpec, now: &Params, e: &Event) -> Result<Params, O
     event_in::<Brand>(alloc, g, now, e, Blank::new(1))
 }
 
-// Adds what a store holds: for each tuple a mark, and the ends of its extents.
-fn push_store(alloc: Global, store: &StoreOf, out: &mut Text) -> Result<(), OutOfMemory> {
-    out.push_str(store.name.as_str())?;
+// Adds a number.
+fn push_number(alloc: Global, number: Num, out: &mut Text) -> Result<(), OutOfMemory> {
+    out.push_str(Cell::Number(number).display(alloc)?.as_str())
+}
+
+// Adds the ends of an extent.
+fn push_extent(alloc: Global, extent: &Extent, out: &mut Text) -> Result<(), OutOfMemory> {
+    out.push_str(" ")?;
+    push_number(alloc, extent.lo, out)?;
+    out.push_str("-")?;
+    push_number(alloc, extent.hi, out)
+}
+
+// Adds a mark for each tuple of a store.
+fn push_tuples(store: &StoreOf, out: &mut Text) -> Result<(), OutOfMemory> {
     for _ in store.tuples.as_slice() {
         out.push_str(" tuple")?;
     }
+    Ok(())
+}
+
+// Adds what a store holds: for each tuple a mark, and the ends of its extents.
+fn push_store(alloc: Global, store: &StoreOf, out: &mut Text) -> Result<(), OutOfMemory> {
+    out.push_str(store.name.as_str())?;
+    push_tuples(store, out)?;
     for extent in store.extents.as_slice() {
-        out.push_str(" ")?;
-        out.push_str(Cell::Number(extent.lo).display(alloc)?.as_str())?;
-        out.push_str("-")?;
-        out.push_str(Cell::Number(extent.hi).display(alloc)?.as_str())?;
+        push_extent(alloc, extent, out)?;
     }
     out.push_str(";")
 }
@@ -179,11 +203,16 @@ fn shown(alloc: Global, now: &Params) -> Result<Text, OutOfMemory> {
     Ok(out)
 }
 
+// Adds the empty store of a selection.
+fn push_empty(alloc: Global, stores: &mut Seq<StoreOf>, name: &str) -> Result<(), OutOfMemory> {
+    stores.push(empty_store(alloc, name)?)
+}
+
 // The opening stores.
 fn opening(alloc: Global) -> Result<Params, OutOfMemory> {
     let mut stores = Seq::new(alloc);
-    stores.push(empty_store(alloc, "pick")?)?;
-    stores.push(empty_store(alloc, "brush")?)?;
+    push_empty(alloc, &mut stores, "pick")?;
+    push_empty(alloc, &mut stores, "brush")?;
     Ok(Params {
         params: Seq::new(alloc),
         stores,
@@ -220,28 +249,61 @@ fn place(count: u32) -> Num {
     pixels(count % 1000)
 }
 
-// The parameters after an event of the table, and whether the stores then hold what they should.
-fn is_right(
-    alloc: Global,
-    g: &VgSpec,
-    now: &Params,
-    row: &Row,
-) -> Result<(Params, bool), OutOfMemory> {
+// The parameters after an event of the table.
+fn after(alloc: Global, g: &VgSpec, now: &Params, row: &Row) -> Result<Params, OutOfMemory> {
     let [x1, y1, x2, y2] = row.1;
-    let e = event_of(row.0, place(x1), place(y1), place(x2), place(y2));
-    let after = event(alloc, g, now, &e)?;
-    let right = shown(alloc, &after)?.as_str() == row.2;
-    Ok((after, right))
+    event(
+        alloc,
+        g,
+        now,
+        &event_of(row.0, place(x1), place(y1), place(x2), place(y2)),
+    )
+}
+
+// Whether the stores hold what they should.
+fn is_right(alloc: Global, now: &Params, wanted: &str) -> bool {
+    match shown(alloc, now) {
+        Ok(text) => text.as_str() == wanted,
+        Err(_) => false,
+    }
+}
+
+// How many events change the stores as they should, up to the first that doesn't.
+fn right_events(alloc: Global, g: &VgSpec, opening: Params) -> usize {
+    let mut now = opening;
+    for (place, row) in EVENTS.iter().enumerate() {
+        now = match after(alloc, g, &now, row) {
+            Ok(after) => after,
+            Err(_) => return place,
+        };
+        if !is_right(alloc, &now, row.2) {
+            return place;
+        }
+    }
+    EVENTS.len()
+}
+
+// The same from the opening stores on.
+fn right_from_opening(alloc: Global, g: &VgSpec) -> usize {
+    match opening(alloc) {
+        Ok(opening) => right_events(alloc, g, opening),
+        Err(_) => 0,
+    }
+}
+
+// The same of the specification.
+fn right_in_all(alloc: Global) -> usize {
+    match spec(alloc) {
+        Some(g) => right_from_opening(alloc, &g),
+        None => 0,
+    }
 }
 
 #[test]
-fn events_change_stores(rt: HostRuntime) -> Result<(), Fail> {
-    let g = spec(rt.alloc())?;
-    let mut now = opening(rt.alloc())?;
-    for row in &EVENTS {
-        let (after, right) = is_right(rt.alloc(), &g, &now, row)?;
-        now = after;
-        assert!(rt; right, "{}", row.2);
-    }
-    Ok(())
+fn events_change_stores(rt: HostRuntime) {
+    assert_eq!(rt;
+        right_in_all(rt.alloc()),
+        EVENTS.len(),
+        "the first that is wrong"
+    );
 }

@@ -65,12 +65,27 @@ fn is_call(call: &TextCall, name: &str, arguments: &[&str]) -> bool {
             .all(|(text, other)| text.as_str() == *other)
 }
 
+// Whether a call is one that a text should spell.
+fn is_wanted(call: &TextCall, wanted: Option<(&str, &[&str])>) -> bool {
+    match wanted {
+        Some((name, arguments)) => is_call(call, name, arguments),
+        None => false,
+    }
+}
+
 // Whether a text spells the call of a row.
 fn spells(alloc: Global, row: &CallRow) -> bool {
-    match (call_of(alloc, row.0), row.1) {
-        (Ok(Some(call)), Some((name, arguments))) => is_call(&call, name, arguments),
-        (Ok(None), None) => true,
-        _ => false,
+    match call_of(alloc, row.0) {
+        Ok(Some(call)) => is_wanted(&call, row.1),
+        Ok(None) => row.1.is_none(),
+        Err(_) => false,
+    }
+}
+
+#[test]
+fn calls_are_spelled(rt: HostRuntime) {
+    for row in &CALLS {
+        assert!(rt; spells(rt.alloc(), row), "{}", row.0);
     }
 }
 
@@ -107,33 +122,69 @@ const NAMES: [NameRow; 7] = [
     ("-p + length(data('p_store'))", &["p"], &["p"], &[]),
 ];
 
+// Whether an expression has these parameters.
+fn has_parameters(alloc: Global, e: &Expr, want: &[&str]) -> bool {
+    match parameters_of(alloc, e) {
+        Ok(names) => are(names.as_slice(), want),
+        Err(_) => false,
+    }
+}
+
+// Whether it has these selections.
+fn has_selections(alloc: Global, e: &Expr, want: &[&str]) -> bool {
+    match selections_of(alloc, e) {
+        Ok(names) => are(names.as_slice(), want),
+        Err(_) => false,
+    }
+}
+
+// Whether it has these scales.
+fn has_scales(alloc: Global, e: &Expr, want: &[&str]) -> bool {
+    match scales_of(alloc, e) {
+        Ok(names) => are(names.as_slice(), want),
+        Err(_) => false,
+    }
+}
+
 // Whether an expression has the names of a row.
-fn has_names(alloc: Global, e: &Expr, row: &NameRow) -> Result<bool, OutOfMemory> {
-    let parameters = parameters_of(alloc, e)?;
-    let selections = selections_of(alloc, e)?;
-    let scales = scales_of(alloc, e)?;
-    Ok(
-        are(parameters.as_slice(), row.1)
-            && are(selections.as_slice(), row.2)
-            && are(scales.as_slice(), row.3),
-    )
+fn has_names(alloc: Global, e: &Expr, row: &NameRow) -> bool {
+    has_parameters(alloc, e, row.1)
+        && has_selections(alloc, e, row.2)
+        && has_scales(alloc, e, row.3)
 }
 
 // Whether the expression of a row is read, and has its names.
 fn names(alloc: Global, row: &NameRow) -> bool {
     match expression_of(alloc, row.0) {
-        Ok(Some(e)) => has_names(alloc, &e, row) == Ok(true),
+        Ok(Some(e)) => {
+            let has = has_names(alloc, &e, row);
+            drop(e);
+            has
+        }
         _ => false,
     }
 }
 
 #[test]
-fn calls_and_names(rt: HostRuntime) {
-    for row in &CALLS {
-        assert!(rt; spells(rt.alloc(), row), "{}", row.0);
-    }
+fn names_are_found(rt: HostRuntime) {
     for row in &NAMES {
         assert!(rt; names(rt.alloc(), row), "{}", row.0);
     }
-    assert!(rt; expression_of(rt.alloc(), "f('a')").is_ok_and(|found| found.is_none()));
+}
+
+// Whether a text is read as no expression.
+fn is_none(alloc: Global, text: &str) -> bool {
+    match expression_of(alloc, text) {
+        Ok(None) => true,
+        Ok(Some(e)) => {
+            drop(e);
+            false
+        }
+        Err(_) => false,
+    }
+}
+
+#[test]
+fn a_call_is_no_expression(rt: HostRuntime) {
+    assert!(rt; is_none(rt.alloc(), "f('a')"));
 }

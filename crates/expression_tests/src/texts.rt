@@ -1,9 +1,10 @@
-use expr_syntax::{ExprError, read, write};
+use expr_syntax::{Expr, ExprError, read, write};
 use std::alloc::{AllocError, Global};
-use std::test::*;
 
-/// Texts, and what is written of the trees that they read as: nothing where they read as none.
-const TEXTS: [(&str, &str); 156] = [
+/// A text, and what is written of the tree that it reads as: nothing where it reads as none.
+type Row = (&'static str, &'static str);
+
+const TEXTS: [Row; 156] = [
     ("1.50", "1.5"),
     ("'a'", "'a'"),
     ("\"a'b\"", "'a\\'b'"),
@@ -177,27 +178,38 @@ const TEXTS: [(&str, &str); 156] = [
     ("'a''b'", ""),
 ];
 
-fn same_tree(alloc: Global, text: &str, want: &str) -> Result<bool, AllocError> {
-    match read(alloc, text) {
-        Ok(e) => match write(alloc, &e) {
-            Ok(written) => Ok(written.as_str() == want),
-            Err(_) => Err(AllocError),
-        },
-        Err(ExprError::Shape) => Ok(want.is_empty()),
-        Err(ExprError::Memory) => Err(AllocError),
+// Whether a tree is written so.
+fn is_written(alloc: Global, e: &Expr, want: &str) -> bool {
+    match write(alloc, e) {
+        Ok(written) => written.as_str() == want,
+        Err(_) => false,
+    }
+}
+
+// Whether a text reads as the tree that it should.
+fn reads(alloc: Global, row: &Row) -> bool {
+    match read(alloc, row.0) {
+        Ok(e) => {
+            let written = is_written(alloc, &e, row.1);
+            drop(e);
+            written
+        }
+        Err(ExprError::Shape) => row.1.is_empty(),
+        Err(ExprError::Memory) => false,
     }
 }
 
 #[test]
-fn texts_read_as_trees(rt: HostRuntime) -> Result<(), Fail> {
-    for (text, want) in &TEXTS {
-        assert!(rt; same_tree(rt.alloc(), text, want)?, "{text}");
+fn texts_read_as_trees(rt: HostRuntime) {
+    for row in &TEXTS {
+        assert!(rt; reads(rt.alloc(), row), "{}", row.0);
     }
-    Ok(())
 }
 
 /// A front, how often it stands there, what stands behind it, a back, how often that stands there, and whether the text is read.
-const DEEP: [(&str, usize, &str, &str, usize, bool); 24] = [
+type Deep = (&'static str, usize, &'static str, &'static str, usize, bool);
+
+const DEEP: [Deep; 24] = [
     ("!", 255, "a", "", 0, true),
     ("!", 256, "a", "", 0, false),
     ("", 0, "a", "+a", 255, true),
@@ -231,30 +243,44 @@ const DEEP: [(&str, usize, &str, &str, usize, bool); 24] = [
     ("(", 100_000, "a", ")", 100_000, false),
 ];
 
-fn repeated(
-    alloc: Global,
-    row: &(&str, usize, &str, &str, usize, bool),
-) -> Result<String, AllocError> {
+// Adds a text so many times.
+fn push_times(text: &mut String, part: &str, times: usize) -> Result<(), AllocError> {
+    for _ in 0..times {
+        text.push_str(part)?;
+    }
+    Ok(())
+}
+
+// The text of a row.
+fn repeated(alloc: Global, row: &Deep) -> Result<String, AllocError> {
     let mut text = String::new(alloc);
-    for _ in 0..row.1 {
-        text.push_str(row.0)?;
-    }
+    push_times(&mut text, row.0, row.1)?;
     text.push_str(row.2)?;
-    for _ in 0..row.4 {
-        text.push_str(row.3)?;
-    }
+    push_times(&mut text, row.3, row.4)?;
     Ok(text)
 }
 
 fn is_read(alloc: Global, text: &str) -> bool {
-    read(alloc, text).is_ok()
+    match read(alloc, text) {
+        Ok(e) => {
+            drop(e);
+            true
+        }
+        Err(_) => false,
+    }
+}
+
+// Whether the text of a row is read where it should be.
+fn is_read_so(alloc: Global, row: &Deep) -> bool {
+    match repeated(alloc, row) {
+        Ok(text) => is_read(alloc, text.as_str()) == row.5,
+        Err(_) => false,
+    }
 }
 
 #[test]
-fn heights_and_brackets_have_limits(rt: HostRuntime) -> Result<(), Fail> {
+fn heights_and_brackets_have_limits(rt: HostRuntime) {
     for row in &DEEP {
-        let text = repeated(rt.alloc(), row)?;
-        assert!(rt; is_read(rt.alloc(), text.as_str()) == row.5);
+        assert!(rt; is_read_so(rt.alloc(), row), "{row:?}");
     }
-    Ok(())
 }

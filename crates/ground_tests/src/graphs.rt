@@ -49,26 +49,46 @@ const ROWS: [Row; 28] = [
     (100_000, &[&[0]], &[50_000, 0], Some(50_000)),
 ];
 
-// The graph of a row.
-fn graph(alloc: Global, chain: usize, others: &[&[usize]]) -> Result<Seq<Seq<usize>>, OutOfMemory> {
+// Adds a node that needs these.
+fn push_node(
+    alloc: Global,
+    needs: &mut Seq<Seq<usize>>,
+    nodes: &[usize],
+) -> Result<(), OutOfMemory> {
+    needs.push(Seq::from_slice(alloc, nodes)?)
+}
+
+// So many nodes that each need just the next one.
+fn chain(alloc: Global, count: usize) -> Result<Seq<Seq<usize>>, OutOfMemory> {
     let mut needs = Seq::new(alloc);
-    for v in 0..chain {
-        needs.push(Seq::from_slice(alloc, &[v.saturating_add(1)])?)?;
+    for v in 0..count {
+        push_node(alloc, &mut needs, &[v.saturating_add(1)])?;
     }
-    for nodes in others {
-        needs.push(Seq::from_slice(alloc, nodes)?)?;
+    Ok(needs)
+}
+
+// The graph of a row.
+fn graph(alloc: Global, row: &Row) -> Result<Seq<Seq<usize>>, OutOfMemory> {
+    let mut needs = chain(alloc, row.0)?;
+    for nodes in row.1 {
+        push_node(alloc, &mut needs, nodes)?;
     }
     Ok(needs)
 }
 
 // What is found in the graph of a row.
 fn found(alloc: Global, row: &Row) -> Result<Option<usize>, OutOfMemory> {
-    first_in_need_of_itself(alloc, &graph(alloc, row.0, row.1)?, row.2)
+    first_in_need_of_itself(alloc, &graph(alloc, row)?, row.2)
+}
+
+// Whether that is what should be found.
+fn is_found(alloc: Global, row: &Row) -> bool {
+    found(alloc, row) == Ok(row.3)
 }
 
 #[test]
 fn the_first_that_needs_itself(rt: HostRuntime) {
     for row in &ROWS {
-        assert!(rt; found(rt.alloc(), row) == Ok(row.3), "{row:?}");
+        assert!(rt; is_found(rt.alloc(), row), "{row:?}");
     }
 }

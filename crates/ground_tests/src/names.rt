@@ -14,8 +14,10 @@ enum Table {
     ScaleKinds,
 }
 
-/// Tables, how many names they have, and the names.
-const NAMES: [(Table, usize, &str); 5] = [
+/// A table, how many names it has, and the names.
+type Names = (Table, usize, &'static str);
+
+const NAMES: [Names; 5] = [
     (
         Table::Operations,
         19,
@@ -92,13 +94,27 @@ fn has_names(table: Table, count: usize, names: &str) -> bool {
     names.split(' ').count() == count
 }
 
+const NO_NAMES: [&str; 4] = ["", "Count", "xx", "utc2"];
+
+// Whether a table has none of the words that are no names.
+fn has_no_other(table: Table) -> bool {
+    for name in &NO_NAMES {
+        if code_of(table, name).is_some() {
+            return false;
+        }
+    }
+    true
+}
+
+// Whether a table has the names of a row, and no others.
+fn is_table(row: &Names) -> bool {
+    has_names(row.0, row.1, row.2) && has_no_other(row.0)
+}
+
 #[test]
 fn codes_count_from_0(rt: HostRuntime) {
-    for (table, count, names) in &NAMES {
-        assert!(rt; has_names(*table, *count, names), "{table:?}");
-        for name in ["", "Count", "xx", "utc2"] {
-            assert_eq!(rt; code_of(*table, name), None, "{name}");
-        }
+    for row in &NAMES {
+        assert!(rt; is_table(row), "{:?}", row.0);
     }
 }
 
@@ -108,15 +124,27 @@ const TWICE: [Case; 3] = [
     Case { name: "a", code: 9 },
 ];
 
-#[test]
-fn the_first_case_of_a_name_is_found(rt: HostRuntime) {
-    assert_eq!(rt; find(&TWICE, "a"), Some(7));
-    assert_eq!(rt; find(&TWICE, "b"), Some(5));
-    assert_eq!(rt; find(&TWICE, "c"), None);
+/// A name, and the code that is found.
+type Found = (&'static str, Option<u16>);
+
+const FOUND: [Found; 3] = [("a", Some(7)), ("b", Some(5)), ("c", None)];
+
+// Whether the code of a name is found.
+fn finds(row: &Found) -> bool {
+    find(&TWICE, row.0) == row.1
 }
 
-/// Builtins, and the least and the greatest number of their arguments.
-const COUNTS: [(&str, usize, usize); 10] = [
+#[test]
+fn the_first_case_of_a_name_is_found(rt: HostRuntime) {
+    for row in &FOUND {
+        assert!(rt; finds(row), "{row:?}");
+    }
+}
+
+/// A builtin, and the least and the greatest number of its arguments.
+type Counts = (&'static str, usize, usize);
+
+const COUNTS: [Counts; 10] = [
     ("isValid", 1, 1),
     ("toDate", 1, 1),
     ("round", 1, 1),
@@ -129,15 +157,25 @@ const COUNTS: [(&str, usize, usize); 10] = [
     ("datetime", 2, 7),
 ];
 
-#[test]
-fn builtins_take_so_many_arguments(rt: HostRuntime) {
-    for (name, least, most) in &COUNTS {
-        let code = builtin_of(name).unwrap_or(u16::MAX);
-        for count in 0..10 {
-            let within = *least <= count && count <= *most;
-            assert_eq!(rt; admits(code, count), within, "{name} of {count}");
+// Whether a builtin takes as many arguments as it should, of counts below 10.
+fn takes(row: &Counts) -> bool {
+    let code = builtin_of(row.0).unwrap_or(u16::MAX);
+    for count in 0..10 {
+        if admits(code, count) != (row.1 <= count && count <= row.2) {
+            return false;
         }
     }
-    assert_eq!(rt; ARGUMENTS.len(), BUILTINS.len());
-    assert!(rt; !admits(39, 1));
+    true
+}
+
+#[test]
+fn builtins_take_so_many_arguments(rt: HostRuntime) {
+    for row in &COUNTS {
+        assert!(rt; takes(row), "{row:?}");
+    }
+}
+
+#[test]
+fn only_builtins_take_arguments(rt: HostRuntime) {
+    assert!(rt; ARGUMENTS.len() == BUILTINS.len() && !admits(39, 1));
 }

@@ -1,6 +1,6 @@
 // Worked values: each expected value is computed with whole numbers of any size.
 use fixed_num::{Num, NumFault};
-use std::test::Fail;
+use std::alloc::{AllocError, Global};
 
 #[derive(Clone, Copy, Debug)]
 enum Operation {
@@ -12,7 +12,10 @@ enum Operation {
     Ceiling,
 }
 
-const OPERATIONS: [(Operation, i128, i128, Option<i128>); 47] = [
+/// An operation, two numbers, and what it gives of them.
+type Operated = (Operation, i128, i128, Option<i128>);
+
+const OPERATIONS: [Operated; 47] = [
     (
         Operation::Sum,
         1000000000000000000000,
@@ -122,7 +125,10 @@ const OPERATIONS: [(Operation, i128, i128, Option<i128>); 47] = [
     ),
 ];
 
-const ALONG: [(i128, i128, i128, i128, Option<i128>); 18] = [
+/// `m`, `p`, `q` and `r`, and what `m + p * q / r` is.
+type Along = (i128, i128, i128, i128, Option<i128>);
+
+const ALONG: [Along; 18] = [
     (0, 1, 1, 2, Some(1)),
     (0, -1, 1, 2, Some(0)),
     (0, 1, 1, -2, Some(0)),
@@ -191,7 +197,10 @@ const ALONG: [(i128, i128, i128, i128, Option<i128>); 18] = [
     (10, 1, 3, 1999999999999999999997, Some(10)),
 ];
 
-const ROOTS: [(i128, Option<i128>); 10] = [
+/// A number and its root.
+type Root = (i128, Option<i128>);
+
+const ROOTS: [Root; 10] = [
     (0, Some(0)),
     (1, Some(1000)),
     (3, Some(1732)),
@@ -204,7 +213,10 @@ const ROOTS: [(i128, Option<i128>); 10] = [
     (-1000000000000000000000, None),
 ];
 
-const READ: [(&str, Result<i128, NumFault>); 36] = [
+/// A text, and the number that it is read as.
+type Read = (&'static str, Result<i128, NumFault>);
+
+const READ: [Read; 36] = [
     ("0.0000005", Ok(1)),
     ("-0.0000005", Ok(0)),
     ("-0.0000015", Ok(-1)),
@@ -251,8 +263,10 @@ const NO_NUMBERS: [&str; 27] = [
     "1.5e", "e5", "00", "1.5.5", "1e5e5", "-.5", "1,5", "\u{661}", "1e 5", "-e1", "0.", "1_0",
 ];
 
-// The number at the front, how many bytes are left, and whether it is a number.
-const FRONTS: [(&str, (Option<i128>, usize, bool)); 9] = [
+/// A text, the number at its front, how many bytes are left, and whether it is a number.
+type Front = (&'static str, (Option<i128>, usize, bool));
+
+const FRONTS: [Front; 9] = [
     ("-1.5e1,2", (Some(-15000000), 2, true)),
     ("01", (Some(0), 1, true)),
     ("1e16]", (None, 1, true)),
@@ -264,7 +278,10 @@ const FRONTS: [(&str, (Option<i128>, usize, bool)); 9] = [
     ("", (None, 0, false)),
 ];
 
-const LONG: [(&str, u8, &str, Result<i128, NumFault>); 10] = [
+/// A front, a digit that stands a thousand times behind it, what stands behind that, and the number that it all is read as.
+type Long = (&'static str, u8, &'static str, Result<i128, NumFault>);
+
+const LONG: [Long; 10] = [
     ("0.0000004", b'9', "", Ok(0)),
     ("0.000000", b'0', "5", Ok(0)),
     ("-0.0000005", b'0', "1", Ok(-1)),
@@ -277,7 +294,10 @@ const LONG: [(&str, u8, &str, Result<i128, NumFault>); 10] = [
     ("1e", b'9', "", Err(NumFault::Range)),
 ];
 
-const WRITTEN: [(i128, &str); 14] = [
+/// A number and how it is written.
+type Written = (i128, &'static str);
+
+const WRITTEN: [Written; 14] = [
     (1, "0.000001"),
     (-1, "-0.000001"),
     (0, "0"),
@@ -336,71 +356,136 @@ fn front(text: &str) -> (Option<i128>, usize, bool) {
     }
 }
 
-#[test]
-fn operations_round_once(rt: HostRuntime) {
-    for (operation, a, b, want) in &OPERATIONS {
-        assert_eq!(rt;
-            operate(*operation, *a, *b),
-            *want,
-            "{operation:?} of {a} and {b}"
-        );
-    }
+// Whether an operation gives what it should.
+fn operates(row: &Operated) -> bool {
+    operate(row.0, row.1, row.2) == row.3
 }
 
 #[test]
-fn steps_along_and_roots(rt: HostRuntime) {
-    for (m, p, q, r, want) in &ALONG {
-        assert_eq!(rt; along(*m, *p, *q, *r), *want, "{m} + {p} * {q} / {r}");
+fn operations_round_once(rt: HostRuntime) {
+    for row in &OPERATIONS {
+        assert!(rt; operates(row), "{row:?}");
     }
-    for (m, want) in &ROOTS {
-        assert_eq!(rt; root(*m), *want, "the root of {m}");
+}
+
+// Whether a step along gives what it should.
+fn steps(row: &Along) -> bool {
+    along(row.0, row.1, row.2, row.3) == row.4
+}
+
+#[test]
+fn steps_along(rt: HostRuntime) {
+    for row in &ALONG {
+        assert!(rt; steps(row), "{row:?}");
     }
+}
+
+// Whether a root is what it should be.
+fn is_root(row: &Root) -> bool {
+    root(row.0) == row.1
+}
+
+#[test]
+fn roots(rt: HostRuntime) {
+    for row in &ROOTS {
+        assert!(rt; is_root(row), "{row:?}");
+    }
+}
+
+// Whether a text is read as it should be.
+fn reads(row: &Read) -> bool {
+    read(row.0.as_bytes()) == row.1
 }
 
 #[test]
 fn decimals_are_read(rt: HostRuntime) {
-    for (text, want) in &READ {
-        assert_eq!(rt; read(text.as_bytes()), *want, "{text}");
+    for row in &READ {
+        assert!(rt; reads(row), "{row:?}");
     }
+}
+
+// Whether a text is refused for its shape.
+fn is_no_number(text: &str) -> bool {
+    read(text.as_bytes()) == Err(NumFault::Shape)
+}
+
+#[test]
+fn what_is_no_decimal_is_refused(rt: HostRuntime) {
     for text in &NO_NUMBERS {
-        assert_eq!(rt; read(text.as_bytes()), Err(NumFault::Shape), "{text}");
+        assert!(rt; is_no_number(text), "{text}");
     }
+}
+
+// Whether a text has such a number at its front.
+fn begins(row: &Front) -> bool {
+    front(row.0) == row.1
 }
 
 #[test]
 fn numbers_are_found_at_the_front(rt: HostRuntime) {
-    for (text, want) in &FRONTS {
-        assert_eq!(rt; front(text), *want, "{text}");
+    for row in &FRONTS {
+        assert!(rt; begins(row), "{row:?}");
+    }
+}
+
+// The bytes of a row.
+fn long(alloc: Global, row: &Long) -> Result<Vec<u8>, AllocError> {
+    let mut text = row.0.as_bytes().to_vec(alloc)?;
+    text.extend_from_slice(&[row.1; 1000])?;
+    text.extend_from_slice(row.2.as_bytes())?;
+    Ok(text)
+}
+
+// Whether a long text is read as it should be.
+fn reads_long(alloc: Global, row: &Long) -> bool {
+    match long(alloc, row) {
+        Ok(text) => read(&text) == row.3,
+        Err(_) => false,
     }
 }
 
 #[test]
-fn long_decimals_are_read(rt: HostRuntime) -> Result<(), Fail> {
-    for (front, byte, last, want) in &LONG {
-        let mut text = front.as_bytes().to_vec(rt.alloc())?;
-        text.extend_from_slice(&[*byte; 1000])?;
-        text.extend_from_slice(last.as_bytes())?;
-        assert_eq!(rt; read(&text), *want, "{front} and so on to {last}");
+fn long_decimals_are_read(rt: HostRuntime) {
+    for row in &LONG {
+        assert!(rt; reads_long(rt.alloc(), row), "{row:?}");
     }
-    Ok(())
+}
+
+// Whether a number is written so in its place.
+fn writes(number: Num, text: &str) -> bool {
+    let mut buf = [b'x'; 32];
+    let len = number.write_decimal(&mut buf);
+    &buf[..len] == text.as_bytes()
+}
+
+// Whether a number is written as it should be, in both ways.
+fn is_written(row: &Written) -> bool {
+    match Num::of_millionths(row.0) {
+        Some(number) => writes(number, row.1) && number.decimal().as_str() == row.1,
+        None => false,
+    }
 }
 
 #[test]
 fn decimals_are_written(rt: HostRuntime) {
-    for (m, want) in &WRITTEN {
-        let mut buf = [b'x'; 32];
-        let number = Num::of_millionths(*m).expect(&rt, "in range");
-        let len = number.write_decimal(&mut buf);
-        assert_eq!(rt; &buf[..len], want.as_bytes(), "{m}");
-        assert_eq!(rt; number.decimal().as_str(), *want);
+    for row in &WRITTEN {
+        assert!(rt; is_written(row), "{row:?}");
     }
+}
+
+// Whether the limits are numbers, the one greater than the other.
+fn limits_are_numbers() -> bool {
+    Num::of_millionths(1000000000000000000000) > Num::of_millionths(-1000000000000000000000)
+}
+
+// Whether what lies beyond the limits is no number.
+fn beyond_are_none() -> bool {
+    Num::of_millionths(1000000000000000000001) == None
+        && Num::of_millionths(-1000000000000000000001) == None
 }
 
 #[test]
 fn numbers_end_at_the_limit(rt: HostRuntime) {
-    assert!(rt;
-        Num::of_millionths(1000000000000000000000) > Num::of_millionths(-1000000000000000000000)
-    );
-    assert_eq!(rt; Num::of_millionths(1000000000000000000001), None);
-    assert_eq!(rt; Num::of_millionths(-1000000000000000000001), None);
+    assert!(rt; limits_are_numbers());
+    assert!(rt; beyond_are_none());
 }

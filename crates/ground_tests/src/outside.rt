@@ -6,10 +6,13 @@ use chart_io::{
 use std::alloc::{AllocError, Global};
 use std::fs;
 use std::test::Fail;
+use text_kit::OutOfMemory;
+
+const FILES: [(&str, &[u8]); 3] = [("a", b"first"), ("b", b""), ("a", b"second")];
 
 fn files(alloc: Global) -> Result<Vec<(String, Vec<u8>)>, AllocError> {
     let mut files = Vec::new(alloc);
-    for (name, bytes) in [("a", b"first".as_slice()), ("b", b""), ("a", b"second")] {
+    for (name, bytes) in &FILES {
         files.push((String::from_str(alloc, name)?, bytes.to_vec(alloc)?))?;
     }
     Ok(files)
@@ -97,16 +100,33 @@ const BY_TWOS: [Read; 4] = [
     (Ok(0), b""),
 ];
 
+// Whether a source that can't fail gives its bytes.
+fn a_sure_source_gives(alloc: Global) -> bool {
+    match b"abcd".to_vec(alloc) {
+        Ok(bytes) => takes(&mut SureSource::of(bytes), &BY_THREES),
+        Err(_) => false,
+    }
+}
+
+// A source by twos whose second call fails.
+fn listed(alloc: Global) -> Result<ListSource, AllocError> {
+    let fails = [2].to_vec(alloc)?;
+    Ok(ListSource::of(b"abcd".to_vec(alloc)?, 2, fails))
+}
+
+// Whether that source gives its bytes.
+fn a_listed_source_gives(alloc: Global) -> bool {
+    match listed(alloc) {
+        Ok(mut source) => takes(&mut source, &BY_TWOS),
+        Err(_) => false,
+    }
+}
+
 #[test]
-fn a_source_gives_each_byte_once(rt: HostRuntime) -> Result<(), Fail> {
-    let alloc = rt.alloc();
-    let mut sure = SureSource::of(b"abcd".to_vec(alloc)?);
-    assert!(rt; takes(&mut sure, &BY_THREES));
-    let mut listed = ListSource::of(b"abcd".to_vec(alloc)?, 2, [2].to_vec(alloc)?);
-    assert!(rt; takes(&mut listed, &BY_TWOS));
-    let mut stream = StreamSource::of(b"abcd".as_slice());
-    assert!(rt; takes(&mut stream, &BY_THREES));
-    Ok(())
+fn a_source_gives_each_byte_once(rt: HostRuntime) {
+    assert!(rt; a_sure_source_gives(rt.alloc()));
+    assert!(rt; a_listed_source_gives(rt.alloc()));
+    assert!(rt; takes(&mut StreamSource::of(b"abcd".as_slice()), &BY_THREES));
 }
 
 // Writes all of some bytes.
@@ -114,16 +134,35 @@ fn puts<K: Sink>(sink: &mut K, bytes: &[u8]) -> Result<(), WriteFault> {
     write_all(sink, bytes)
 }
 
+// A sink that takes at most ten bytes at once, and whose second call fails.
+fn sink_of_ten(alloc: Global) -> Result<ListSink, OutOfMemory> {
+    let fails = [2].to_vec(alloc)?;
+    ListSink::of(alloc, 10, fails)
+}
+
+// Whether it takes the first ten of twelve bytes, and fails.
+fn takes_ten(sink: &mut ListSink) -> bool {
+    puts(sink, b"twelve bytes") == Err(WriteFault) && sink.bytes() == b"twelve byt".as_slice()
+}
+
+// Whether it then takes the others.
+fn takes_two(sink: &mut ListSink) -> bool {
+    puts(sink, b"es") == Ok(())
+        && puts(sink, b"") == Ok(())
+        && sink.bytes() == b"twelve bytes".as_slice()
+}
+
+// Whether the sink takes all bytes so.
+fn takes_twelve(alloc: Global) -> bool {
+    match sink_of_ten(alloc) {
+        Ok(mut sink) => takes_ten(&mut sink) && takes_two(&mut sink),
+        Err(_) => false,
+    }
+}
+
 #[test]
-fn a_sink_takes_ten_bytes_and_then_fails(rt: HostRuntime) -> Result<(), Fail> {
-    let alloc = rt.alloc();
-    let mut sink = ListSink::of(alloc, 10, [2].to_vec(alloc)?)?;
-    assert_eq!(rt; puts(&mut sink, b"twelve bytes"), Err(WriteFault));
-    assert_eq!(rt; sink.bytes(), b"twelve byt".as_slice());
-    assert_eq!(rt; puts(&mut sink, b"es"), Ok(()));
-    assert_eq!(rt; puts(&mut sink, b""), Ok(()));
-    assert_eq!(rt; sink.bytes(), b"twelve bytes".as_slice());
-    Ok(())
+fn a_sink_takes_ten_bytes_and_then_fails(rt: HostRuntime) {
+    assert!(rt; takes_twelve(rt.alloc()));
 }
 
 // Writes some of a piece.
@@ -134,35 +173,65 @@ fn put<K: Sink>(sink: &mut K, piece: &[u8]) -> Result<usize, Failed> {
     sink.write(piece)
 }
 
+// Whether a sink takes what it has room for of one byte more, and then nothing.
+fn is_filled(sink: &mut ListSink, bytes: &[u8]) -> bool {
+    put(sink, bytes) == Ok(SINK_ROOM)
+        && put(sink, b"x") == Err(Failed)
+        && sink.bytes().len() == SINK_ROOM
+}
+
+// One byte more than a sink has room for.
+fn too_many(alloc: Global) -> Result<Vec<u8>, AllocError> {
+    vec![in alloc; 7u8; SINK_ROOM + 1]
+}
+
+// Whether a sink that takes all at once is filled by some bytes.
+fn all_at_once(alloc: Global, bytes: &[u8]) -> bool {
+    match ListSink::of(alloc, usize::MAX, Vec::new(alloc)) {
+        Ok(mut sink) => is_filled(&mut sink, bytes),
+        Err(_) => false,
+    }
+}
+
+// Whether it is filled by one byte too many.
+fn is_full(alloc: Global) -> bool {
+    match too_many(alloc) {
+        Ok(bytes) => all_at_once(alloc, &bytes),
+        Err(_) => false,
+    }
+}
+
 #[test]
-fn a_full_sink_fails(rt: HostRuntime) -> Result<(), Fail> {
-    let alloc = rt.alloc();
-    let mut sink = ListSink::of(alloc, usize::MAX, Vec::new(alloc))?;
-    let bytes = vec![in alloc; 7u8; SINK_ROOM + 1]?;
-    assert_eq!(rt; put(&mut sink, bytes.as_slice()), Ok(SINK_ROOM));
-    assert_eq!(rt; put(&mut sink, b"x"), Err(Failed));
-    assert_eq!(rt; sink.bytes().len(), SINK_ROOM);
-    Ok(())
+fn a_full_sink_fails(rt: HostRuntime) {
+    assert!(rt; is_full(rt.alloc()));
+}
+
+// Whether a sink counts the bytes of two writes.
+fn counts_five() -> bool {
+    let mut sink = CountSink::new();
+    puts(&mut sink, b"abc") == Ok(()) && puts(&mut sink, b"de") == Ok(()) && sink.total() == 5
 }
 
 #[test]
 fn a_counting_sink_adds_up(rt: HostRuntime) {
-    let mut sink = CountSink::new();
-    assert_eq!(rt; puts(&mut sink, b"abc"), Ok(()));
-    assert_eq!(rt; puts(&mut sink, b"de"), Ok(()));
-    assert_eq!(rt; sink.total(), 5);
+    assert!(rt; counts_five());
+}
+
+// Whether a stream takes all of some bytes.
+fn a_stream_takes(alloc: Global) -> bool {
+    let mut written = Vec::new(alloc);
+    let end = puts(&mut StreamSink::of(&mut written), b"abcd");
+    end == Ok(()) && written.as_slice() == b"abcd".as_slice()
+}
+
+// Whether a stream into two bytes refuses three.
+fn a_full_stream_fails() -> bool {
+    let mut no_room = [0u8; 2];
+    puts(&mut StreamSink::of(no_room.as_mut_slice()), b"abc") == Err(WriteFault)
 }
 
 #[test]
-fn a_stream_takes_what_it_has_room_for(rt: HostRuntime) -> Result<(), Fail> {
-    let mut written = Vec::new(rt.alloc());
-    {
-        let mut sink = StreamSink::of(&mut written);
-        assert_eq!(rt; puts(&mut sink, b"abcd"), Ok(()));
-    }
-    assert_eq!(rt; written.as_slice(), b"abcd".as_slice());
-    let mut no_room = [0u8; 2];
-    let mut full = StreamSink::of(no_room.as_mut_slice());
-    assert_eq!(rt; puts(&mut full, b"abc"), Err(WriteFault));
-    Ok(())
+fn a_stream_takes_what_it_has_room_for(rt: HostRuntime) {
+    assert!(rt; a_stream_takes(rt.alloc()));
+    assert!(rt; a_full_stream_fails());
 }

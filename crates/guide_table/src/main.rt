@@ -24,16 +24,23 @@ fn failed(alloc: Global, line: &str) -> Result<Option<Text>, OutOfMemory> {
     }
 }
 
+// What is written of that.
+fn word_of(failed: &Result<Option<Text>, OutOfMemory>) -> Option<&str> {
+    match failed {
+        Ok(Some(answer)) => Some(answer.as_str()),
+        Ok(None) => None,
+        Err(_) => Some("no memory"),
+    }
+}
+
 fn main(rt: HostRuntime) -> io::Result<()> {
     let alloc = rt.alloc();
     let mut count: u64 = 0;
     for line in rt.lines(alloc) {
         let line = line?;
         count = count.saturating_add(1);
-        match failed(alloc, line.as_str()) {
-            Ok(Some(answer)) => println!(rt; "{} at {line}", answer.as_str())?,
-            Ok(None) => {}
-            Err(_) => println!(rt; "no memory at {line}")?,
+        if let Some(word) = word_of(&failed(alloc, line.as_str())) {
+            println!(rt; "{word} at {line}")?;
         }
     }
     println!(rt; "{count} lines")

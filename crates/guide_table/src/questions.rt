@@ -109,25 +109,67 @@ fn legend_answer(alloc: Global, legend: &LegendOf, s: &Scale) -> Result<Text, Ou
     }
 }
 
-// The answer to a question about an axis, with the letters of the parts that it has: labels, ticks, domain line, grid, turned labels.
-fn of_axis(alloc: Global, w: &[&str], s: &Scale) -> Result<Text, OutOfMemory>
-    requires { IsScale s.now }
+// What the words of an axis say that takes memory: its title, its values and its format.
+type AxisTexts = (Option<Text>, Option<Seq<Cell>>, Option<Text>);
+
+fn axis_texts(alloc: Global, w: &[&str]) -> Result<AxisTexts, OutOfMemory> {
+    let title = text_given(alloc, at(w, 7))?;
+    let format = text_given(alloc, at(w, 10))?;
+    Ok((title, cells_given(alloc, at(w, 9))?, format))
+}
+
+// An axis, with the letters of the parts that it has: labels, ticks, domain line, grid, turned labels.
+fn axis_by(w: &[&str], texts: AxisTexts) -> AxisOf
+    ensures { IfSome result.count (λ n. (1 ≤ n) × (n ≤ 1000)) }
 {
+    let (title, values, format) = texts;
     let parts = at(w, 6);
-    let axis = AxisOf {
+    AxisOf {
         side: side_of(at(w, 5)),
-        title: text_given(alloc, at(w, 7))?,
+        title,
         labels: parts.contains('l'),
         ticks: parts.contains('t'),
         line: parts.contains('d'),
         grid: parts.contains('g'),
         turned: parts.contains('r'),
         count: count_of(at(w, 8)),
-        values: cells_given(alloc, at(w, 9))?,
-        format: text_given(alloc, at(w, 10))?,
-    };
+        values,
+        format,
+    }
+}
+
+// The answer to a question about an axis.
+fn of_axis(alloc: Global, w: &[&str], s: &Scale) -> Result<Text, OutOfMemory>
+    requires { IsScale s.now }
+{
     let (width, height) = (number_or_zero(at(w, 11)), number_or_zero(at(w, 12)));
-    axis_answer(alloc, &axis, s, width, height, number_or_zero(at(w, 13)))
+    let offset = number_or_zero(at(w, 13));
+    let texts = axis_texts(alloc, w)?;
+    axis_answer(alloc, &axis_by(w, texts), s, width, height, offset)
+}
+
+// What the words of a legend say that takes memory: its title, its format and its colour.
+type LegendTexts = (Option<Text>, Option<Text>, Text);
+
+fn legend_texts(alloc: Global, w: &[&str]) -> Result<LegendTexts, OutOfMemory> {
+    let title = text_given(alloc, at(w, 6))?;
+    let format = text_given(alloc, at(w, 7))?;
+    Ok((title, format, Text::of(alloc, at(w, 8))?))
+}
+
+// The answer to a question about a legend of a channel.
+fn of_channel(alloc: Global, w: &[&str], s: &Scale, channel: u16) -> Result<Text, OutOfMemory>
+    requires scale { IsScale s.now }
+    requires channel { IsSome (sign_kind_of channel) }
+{
+    let (title, format, colour) = legend_texts(alloc, w)?;
+    let legend = LegendOf {
+        channel,
+        title,
+        format,
+        colour,
+    };
+    legend_answer(alloc, &legend, s)
 }
 
 // The answer to a question about a legend.
@@ -140,13 +182,7 @@ fn of_legend(alloc: Global, w: &[&str], s: &Scale) -> Result<Text, OutOfMemory>
     if !has_legend(channel) {
         return text(alloc, "no legend");
     }
-    let legend = LegendOf {
-        channel,
-        title: text_given(alloc, at(w, 6))?,
-        format: text_given(alloc, at(w, 7))?,
-        colour: Text::of(alloc, at(w, 8))?,
-    };
-    legend_answer(alloc, &legend, s)
+    of_channel(alloc, w, s, channel)
 }
 
 // The answer to a question about a title.
@@ -162,21 +198,26 @@ fn of_title(alloc: Global, w: &[&str]) -> Result<Text, OutOfMemory> {
     }
 }
 
+// The answer to a question about a guide of a scale.
+fn of_scale(alloc: Global, w: &[&str], s: &Scale) -> Result<Text, OutOfMemory> {
+    if !s.is_sound() {
+        return text(alloc, "no sound scale");
+    }
+    match at(w, 0) {
+        "axis" => of_axis(alloc, w, s),
+        "legend" => of_legend(alloc, w, s),
+        _ => text(alloc, "no question"),
+    }
+}
+
 // The answer to a question by its words.
 fn answer_by(alloc: Global, w: &[&str]) -> Result<Text, OutOfMemory> {
     if at(w, 0) == "title" {
         return of_title(alloc, w);
     }
-    let Some(s) = scale_of(alloc, at(w, 1), at(w, 2), at(w, 3), at(w, 4))? else {
-        return text(alloc, "no scale");
-    };
-    if !s.is_sound() {
-        return text(alloc, "no sound scale");
-    }
-    match at(w, 0) {
-        "axis" => of_axis(alloc, w, &s),
-        "legend" => of_legend(alloc, w, &s),
-        _ => text(alloc, "no question"),
+    match scale_of(alloc, at(w, 1), at(w, 2), at(w, 3), at(w, 4))? {
+        Some(s) => of_scale(alloc, w, &s),
+        None => text(alloc, "no scale"),
     }
 }
 

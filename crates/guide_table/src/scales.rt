@@ -112,25 +112,50 @@ fn ramp(time: bool, d0: Num, d1: Num) -> Scale {
     }
 }
 
-// A discrete scale of a kind, by its numbers and its cells.
-fn discrete(kind: &str, n: &[Num], domain: Seq<Cell>, range: Seq<Cell>) -> Option<Scale> {
-    match kind {
-        "band" => Some(Scale::Band {
-            domain,
-            inner: number_at(n, 0),
-            outer: number_at(n, 1),
-            r0: number_at(n, 2),
-            r1: number_at(n, 3),
-        }),
-        "point" => Some(Scale::Point {
-            domain,
-            outer: number_at(n, 1),
-            r0: number_at(n, 2),
-            r1: number_at(n, 3),
-        }),
-        "ordinal" => Some(Scale::Ordinal { domain, range }),
-        _ => None,
-    }
+// A band scale, by its numbers and its cells.
+fn band(alloc: Global, n: &[Num], domain: &str) -> Result<Scale, OutOfMemory> {
+    Ok(Scale::Band {
+        domain: cells_of(alloc, domain)?,
+        inner: number_at(n, 0),
+        outer: number_at(n, 1),
+        r0: number_at(n, 2),
+        r1: number_at(n, 3),
+    })
+}
+
+// A point scale, by its numbers and its cells.
+fn point(alloc: Global, n: &[Num], domain: &str) -> Result<Scale, OutOfMemory> {
+    Ok(Scale::Point {
+        domain: cells_of(alloc, domain)?,
+        outer: number_at(n, 1),
+        r0: number_at(n, 2),
+        r1: number_at(n, 3),
+    })
+}
+
+// An ordinal scale, by its cells.
+fn ordinal(alloc: Global, domain: &str, range: &str) -> Result<Scale, OutOfMemory> {
+    let domain = cells_of(alloc, domain)?;
+    Ok(Scale::Ordinal {
+        domain,
+        range: cells_of(alloc, range)?,
+    })
+}
+
+// A scale of a kind, by its numbers and its cells.
+fn scale_by(
+    alloc: Global,
+    kind: &str,
+    n: &[Num],
+    domain: &str,
+    range: &str,
+) -> Result<Option<Scale>, OutOfMemory> {
+    Ok(match kind {
+        "band" => Some(band(alloc, n, domain)?),
+        "point" => Some(point(alloc, n, domain)?),
+        "ordinal" => Some(ordinal(alloc, domain, range)?),
+        _ => continuous(kind, n),
+    })
 }
 
 /// The scale of a kind, by numbers, the cells of its domain and those of its range.
@@ -142,10 +167,5 @@ pub(crate) fn scale_of(
     range: &str,
 ) -> Result<Option<Scale>, OutOfMemory> {
     let numbers = numbers_of(alloc, numbers)?;
-    if let Some(scale) = continuous(kind, numbers.as_slice()) {
-        return Ok(Some(scale));
-    }
-    let domain = cells_of(alloc, domain)?;
-    let range = cells_of(alloc, range)?;
-    Ok(discrete(kind, numbers.as_slice(), domain, range))
+    scale_by(alloc, kind, numbers.as_slice(), domain, range)
 }

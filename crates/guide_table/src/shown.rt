@@ -29,20 +29,19 @@ fn push_color(out: &mut Text, color: &Option<SharedText>) -> Result<(), OutOfMem
     }
 }
 
+// Adds a point of a path.
+fn push_point(out: &mut Text, point: &Point) -> Result<(), OutOfMemory> {
+    match point {
+        Point::Move(x, y) => push_named(out, " M", &[*x, *y]),
+        Point::Line(x, y) => push_named(out, " L", &[*x, *y]),
+        Point::Close => push_word(out, "Z"),
+    }
+}
+
 // Adds the points of a path.
 fn push_points(out: &mut Text, points: &[Point]) -> Result<(), OutOfMemory> {
     for point in points {
-        match point {
-            Point::Move(x, y) => {
-                push_word(out, "M")?;
-                push_numbers(out, &[*x, *y])?;
-            }
-            Point::Line(x, y) => {
-                push_word(out, "L")?;
-                push_numbers(out, &[*x, *y])?;
-            }
-            Point::Close => push_word(out, "Z")?,
-        }
+        push_point(out, point)?;
     }
     Ok(())
 }
@@ -53,6 +52,11 @@ fn anchor_word(anchor: Anchor) -> &'static str {
         Anchor::Middle => "middle",
         Anchor::End => "end",
     }
+}
+
+// Adds the size of a text.
+fn push_size(alloc: Global, out: &mut Text, size: u32) -> Result<(), OutOfMemory> {
+    push_word(out, format!(in alloc; "{size}")?.as_str())
 }
 
 // Adds how a text is drawn.
@@ -66,8 +70,24 @@ fn push_style(
 ) -> Result<(), OutOfMemory> {
     push_word(out, if turned { "turned" } else { "upright" })?;
     push_word(out, anchor_word(anchor))?;
-    push_word(out, format!(in alloc; "{size}")?.as_str())?;
+    push_size(alloc, out, size)?;
     push_word(out, if bold { "bold" } else { "plain" })
+}
+
+// Adds a path.
+fn push_path(out: &mut Text, points: &[Point], picked: &Option<Num>) -> Result<(), OutOfMemory> {
+    out.push_str("path")?;
+    push_points(out, points)?;
+    match picked {
+        Some(half) => push_numbers(out, &[*half]),
+        None => push_word(out, "none"),
+    }
+}
+
+// Adds the name of a shape and its numbers.
+fn push_named(out: &mut Text, name: &str, numbers: &[Num]) -> Result<(), OutOfMemory> {
+    out.push_str(name)?;
+    push_numbers(out, numbers)
 }
 
 // Adds a shape.
@@ -78,26 +98,10 @@ fn push_shape(alloc: Global, out: &mut Text, shape: &Shape) -> Result<(), OutOfM
             y,
             width,
             height,
-        } => {
-            out.push_str("rect")?;
-            push_numbers(out, &[*x, *y, *width, *height])
-        }
-        Shape::Circle { x, y, r } => {
-            out.push_str("circle")?;
-            push_numbers(out, &[*x, *y, *r])
-        }
-        Shape::Path { points, picked } => {
-            out.push_str("path")?;
-            push_points(out, points.as_slice())?;
-            match picked {
-                Some(half) => push_numbers(out, &[*half]),
-                None => push_word(out, "none"),
-            }
-        }
-        Shape::Line { x1, y1, x2, y2 } => {
-            out.push_str("line")?;
-            push_numbers(out, &[*x1, *y1, *x2, *y2])
-        }
+        } => push_named(out, "rect", &[*x, *y, *width, *height]),
+        Shape::Circle { x, y, r } => push_named(out, "circle", &[*x, *y, *r]),
+        Shape::Path { points, picked } => push_path(out, points.as_slice(), picked),
+        Shape::Line { x1, y1, x2, y2 } => push_named(out, "line", &[*x1, *y1, *x2, *y2]),
         Shape::Words {
             x,
             y,
@@ -107,8 +111,7 @@ fn push_shape(alloc: Global, out: &mut Text, shape: &Shape) -> Result<(), OutOfM
             bold,
             text,
         } => {
-            out.push_str("text")?;
-            push_numbers(out, &[*x, *y])?;
+            push_named(out, "text", &[*x, *y])?;
             push_style(alloc, out, *turned, *anchor, *size, *bold)?;
             push_word(out, text.as_str())
         }
@@ -136,24 +139,34 @@ fn push_items(alloc: Global, out: &mut Text, items: &[Item]) -> Result<(), OutOf
     Ok(())
 }
 
+// Adds an axis.
+fn push_axis(alloc: Global, out: &mut Text, guide: &Guide) -> Result<(), OutOfMemory> {
+    out.push_str(guide.extent.decimal().as_str())?;
+    out.push_str(" grid ")?;
+    push_items(alloc, out, guide.grid.as_slice())?;
+    out.push_str(" items ")?;
+    push_items(alloc, out, guide.items.as_slice())
+}
+
 /// An axis in words.
 pub(crate) fn said_of_axis(alloc: Global, guide: &Guide) -> Result<Text, OutOfMemory> {
     let mut out = Text::new(alloc);
-    out.push_str(guide.extent.decimal().as_str())?;
-    out.push_str(" grid ")?;
-    push_items(alloc, &mut out, guide.grid.as_slice())?;
-    out.push_str(" items ")?;
-    push_items(alloc, &mut out, guide.items.as_slice())?;
+    push_axis(alloc, &mut out, guide)?;
     Ok(out)
+}
+
+// Adds a legend.
+fn push_legend(alloc: Global, out: &mut Text, block: &Block) -> Result<(), OutOfMemory> {
+    out.push_str(block.width.decimal().as_str())?;
+    push_numbers(out, &[block.height])?;
+    out.push_str(" items ")?;
+    push_items(alloc, out, block.items.as_slice())
 }
 
 /// A legend in words.
 pub(crate) fn said_of_legend(alloc: Global, block: &Block) -> Result<Text, OutOfMemory> {
     let mut out = Text::new(alloc);
-    out.push_str(block.width.decimal().as_str())?;
-    push_numbers(&mut out, &[block.height])?;
-    out.push_str(" items ")?;
-    push_items(alloc, &mut out, block.items.as_slice())?;
+    push_legend(alloc, &mut out, block)?;
     Ok(out)
 }
 

@@ -3,5 +3,4 @@
 #[cfg(test)]
 mod scenes;
 #[cfg(test)]
-#[cfg(test)]
 mod svg;

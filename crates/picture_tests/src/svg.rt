@@ -3,9 +3,8 @@ use chart_io::{ListSink, WriteFault};
 use fixed_num::Num;
 use scene_tree::{Anchor, Item, Items, Panel, Point, Scene, Shape};
 use std::alloc::Global;
-use std::test::Fail;
 use svg_text::print;
-use text_kit::{Seq, Text};
+use text_kit::{OutOfMemory, Seq, Text};
 
 const ALL_SHAPES: &str =
     "<svg xmlns=\"http://www.w3.org/2000/svg\" version=\"1.1\" width=\"78\" height=\"90\" viewBox=\"0 0 78 90\">
@@ -50,44 +49,70 @@ fn pixels(count: i32) -> Num {
 /// How an item is filled and stroked (nothing where a text is empty), how wide its stroke is in pixels, and its opacity in millionths.
 type Style = (&'static str, &'static str, i32, i64);
 
-fn paint_of(alloc: Global, paint: &str) -> Result<Option<SharedText>, Fail> {
+fn paint_of(alloc: Global, paint: &str) -> Result<Option<SharedText>, OutOfMemory> {
     if paint.is_empty() {
         return Ok(None);
     }
     Ok(Some(SharedText::of(alloc, paint)?))
 }
 
-fn item_of(alloc: Global, shape: Shape, style: Style) -> Result<Item, Fail> {
-    Ok(Item {
+/// A fill and a stroke.
+type Paints = (Option<SharedText>, Option<SharedText>);
+
+fn paints_of(alloc: Global, style: Style) -> Result<Paints, OutOfMemory> {
+    let fill = paint_of(alloc, style.0)?;
+    Ok((fill, paint_of(alloc, style.1)?))
+}
+
+fn item_of(shape: Shape, paints: Paints, style: Style) -> Item {
+    let (fill, stroke) = paints;
+    Item {
         shape,
-        fill: paint_of(alloc, style.0)?,
-        stroke: paint_of(alloc, style.1)?,
+        fill,
+        stroke,
         stroke_width: pixels(style.2),
         opacity: number(style.3),
         unit: None,
         key: None,
-    })
+    }
 }
 
 // Adds an item.
-fn add(alloc: Global, items: &mut Seq<Item>, shape: Shape, style: Style) -> Result<(), Fail> {
-    items.push(item_of(alloc, shape, style)?)?;
-    Ok(())
+fn add(
+    alloc: Global,
+    items: &mut Seq<Item>,
+    shape: Shape,
+    style: Style,
+) -> Result<(), OutOfMemory> {
+    let paints = paints_of(alloc, style)?;
+    items.push(item_of(shape, paints, style))
 }
 
-fn words(alloc: Global, turned: bool, text: &str) -> Result<Shape, Fail> {
-    Ok(Shape::Words {
-        x: if turned { pixels(-17) } else { pixels(-7) },
-        y: if turned { pixels(40) } else { pixels(83) },
-        turned,
-        anchor: if turned { Anchor::Middle } else { Anchor::End },
-        size: if turned { 11 } else { 10 },
-        bold: turned,
-        text: Text::of(alloc, text)?,
-    })
+fn upright(text: Text) -> Shape {
+    Shape::Words {
+        x: pixels(-7),
+        y: pixels(83),
+        turned: false,
+        anchor: Anchor::End,
+        size: 10,
+        bold: false,
+        text,
+    }
 }
 
-fn path(alloc: Global) -> Result<Shape, Fail> {
+fn turned(text: Text) -> Shape {
+    Shape::Words {
+        x: pixels(-17),
+        y: pixels(40),
+        turned: true,
+        anchor: Anchor::Middle,
+        size: 11,
+        bold: true,
+        text,
+    }
+}
+
+fn path(alloc: Global) -> Result<Shape, OutOfMemory> {
     let points = [
         Point::Move(pixels(0), pixels(200)),
         Point::Line(number(66_666_667), pixels(100)),
@@ -129,22 +154,47 @@ const BLACK: Style = ("#000", "", 1, 1_000_000);
 
 const OUTLINED: Style = ("", "#000", 2, 1_000_000);
 
-fn all_items(alloc: Global) -> Result<Seq<Item>, Fail> {
+const DARK: Style = ("#333", "", 1, 125_000);
+
+const BLUE: Style = ("#4c78a8", "", 1, 700_000);
+
+const BLUE_LINE: Style = ("", "#4c78a8", 2, 1_000_000);
+
+const GREY_LINE: Style = ("", "#888", 1, 1_000_000);
+
+const UNPAINTED: Style = ("", "", 1, 1_000_000);
+
+// Adds words that stand upright.
+fn add_upright(
+    alloc: Global,
+    items: &mut Seq<Item>,
+    text: &str,
+    style: Style,
+) -> Result<(), OutOfMemory> {
+    add(alloc, items, upright(Text::of(alloc, text)?), style)
+}
+
+// Adds shapes of each kind but words.
+fn add_shapes(alloc: Global, items: &mut Seq<Item>) -> Result<(), OutOfMemory> {
+    add(alloc, items, rect(), DARK)?;
+    add(alloc, items, circle(), BLUE)?;
+    add(alloc, items, path(alloc)?, BLUE_LINE)?;
+    add(alloc, items, line(), GREY_LINE)
+}
+
+// Adds words, and a rect that isn't painted between them.
+fn add_words(alloc: Global, items: &mut Seq<Item>) -> Result<(), OutOfMemory> {
+    add_upright(alloc, items, "0 < &\u{1}", BLACK)?;
+    add(alloc, items, turned(Text::of(alloc, "b")?), BLACK)?;
+    add(alloc, items, rect(), UNPAINTED)?;
+    add_upright(alloc, items, "u", OUTLINED)
+}
+
+fn all_items(alloc: Global) -> Result<Items, OutOfMemory> {
     let mut items = Seq::new(alloc);
-    add(alloc, &mut items, rect(), ("#333", "", 1, 125_000))?;
-    add(alloc, &mut items, circle(), ("#4c78a8", "", 1, 700_000))?;
-    add(
-        alloc,
-        &mut items,
-        path(alloc)?,
-        ("", "#4c78a8", 2, 1_000_000),
-    )?;
-    add(alloc, &mut items, line(), ("", "#888", 1, 1_000_000))?;
-    add(alloc, &mut items, words(alloc, false, "0 < &\u{1}")?, BLACK)?;
-    add(alloc, &mut items, words(alloc, true, "b")?, BLACK)?;
-    add(alloc, &mut items, rect(), ("", "", 1, 1_000_000))?;
-    add(alloc, &mut items, words(alloc, false, "u")?, OUTLINED)?;
-    Ok(items)
+    add_shapes(alloc, &mut items)?;
+    add_words(alloc, &mut items)?;
+    Items::from_seq(alloc, items)
 }
 
 fn panel_of(x: i32, items: Items) -> Panel {
@@ -159,12 +209,16 @@ fn panel_of(x: i32, items: Items) -> Panel {
     }
 }
 
+// Adds a panel of all shapes.
+fn push_panel(alloc: Global, panels: &mut Seq<Panel>) -> Result<(), OutOfMemory> {
+    panels.push(panel_of(33, all_items(alloc)?))
+}
+
 // A scene with so many panels of all shapes.
-fn scene_of(alloc: Global, panels: usize) -> Result<Scene, Fail> {
+fn scene_of(alloc: Global, panels: usize) -> Result<Scene, OutOfMemory> {
     let mut all = Seq::new(alloc);
     for _ in 0..panels {
-        let items = Items::from_seq(alloc, all_items(alloc)?)?;
-        all.push(panel_of(33, items))?;
+        push_panel(alloc, &mut all)?;
     }
     Ok(Scene {
         width: pixels(78),
@@ -181,59 +235,122 @@ fn empty_scene(panels: Seq<Panel>) -> Scene {
     }
 }
 
-fn sink_of(alloc: Global, most: usize, failing: u64) -> Result<ListSink, Fail> {
-    let most = most.max(1);
-    Ok(ListSink::of(alloc, most, [failing].to_vec(alloc)?)?)
-}
-
-// Whether a scene is printed as this text, to a sink that takes so many bytes at once and at least one.
-fn is_printed(alloc: Global, scene: &Scene, most: usize, text: &str) -> Result<bool, Fail> {
-    let mut sink = sink_of(alloc, most, 0)?;
-    Ok(print(scene, &mut sink) == Ok(()) && sink.bytes() == text.as_bytes())
-}
-
-#[test]
-fn scenes_are_printed(rt: HostRuntime) -> Result<(), Fail> {
-    let alloc = rt.alloc();
+// A scene with a panel without items.
+fn scene_without_items(alloc: Global) -> Result<Scene, OutOfMemory> {
     let mut panels = Seq::new(alloc);
     panels.push(panel_of(5, Items::new(alloc)))?;
-    let no_panel = empty_scene(Seq::new(alloc));
-    let no_item = empty_scene(panels);
-    let all = scene_of(alloc, 1)?;
+    Ok(empty_scene(panels))
+}
+
+// A sink that takes so many bytes at once and at least one, and whose write of this number fails.
+fn sink_of(alloc: Global, most: usize, failing: u64) -> Result<ListSink, OutOfMemory> {
+    let most = most.max(1);
+    let fails = [failing].to_vec(alloc)?;
+    ListSink::of(alloc, most, fails)
+}
+
+// Prints a scene.
+fn printed(scene: &Scene, sink: &mut ListSink) -> Result<(), WriteFault> {
+    print(scene, sink)
+}
+
+// Whether a scene is printed as this text.
+fn prints(scene: &Scene, sink: &mut ListSink, text: &str) -> bool {
+    printed(scene, sink) == Ok(()) && sink.bytes() == text.as_bytes()
+}
+
+// Whether it is to a sink that takes so many bytes at once and at least one.
+fn is_printed(alloc: Global, scene: &Scene, most: usize, text: &str) -> bool {
+    match sink_of(alloc, most, 0) {
+        Ok(mut sink) => prints(scene, &mut sink, text),
+        Err(_) => false,
+    }
+}
+
+// Whether a scene without panels is printed.
+fn no_panel_is(alloc: Global, most: usize) -> bool {
+    is_printed(alloc, &empty_scene(Seq::new(alloc)), most, NO_PANEL)
+}
+
+// Whether one without items is.
+fn no_item_is(alloc: Global, most: usize) -> bool {
+    match scene_without_items(alloc) {
+        Ok(scene) => is_printed(alloc, &scene, most, NO_ITEM),
+        Err(_) => false,
+    }
+}
+
+// Whether one of all shapes is.
+fn all_shapes_are(alloc: Global, most: usize) -> bool {
+    match scene_of(alloc, 1) {
+        Ok(scene) => is_printed(alloc, &scene, most, ALL_SHAPES),
+        Err(_) => false,
+    }
+}
+
+#[test]
+fn scenes_are_printed(rt: HostRuntime) {
     for most in [usize::MAX, 1] {
-        assert!(rt; is_printed(alloc, &no_panel, most, NO_PANEL)?, "no panel");
-        assert!(rt; is_printed(alloc, &no_item, most, NO_ITEM)?, "no item");
-        assert!(rt; is_printed(alloc, &all, most, ALL_SHAPES)?, "all shapes");
+        assert!(rt; no_panel_is(rt.alloc(), most), "no panel");
+        assert!(rt; no_item_is(rt.alloc(), most), "no item");
+        assert!(rt; all_shapes_are(rt.alloc(), most), "all shapes");
     }
-    Ok(())
 }
 
-// The sink of a print whose write of this number fails, where a write takes so many bytes and at least one.
-fn cut(alloc: Global, scene: &Scene, most: usize, failing: u64) -> Result<ListSink, Fail> {
-    let mut sink = sink_of(alloc, most, failing)?;
-    match print(scene, &mut sink) {
-        Ok(()) => Err(Fail::new("a write fails")),
-        Err(WriteFault) => Ok(sink),
+// Whether a write that fails leaves so many bytes of a scene.
+fn leaves(scene: &Scene, sink: &mut ListSink, len: usize) -> bool {
+    printed(scene, sink) == Err(WriteFault) && sink.bytes().len() == len
+}
+
+// Whether they are a beginning of the scene of all shapes.
+fn leaves_beginning(scene: &Scene, sink: &mut ListSink, len: usize) -> bool {
+    leaves(scene, sink, len) && ALL_SHAPES.as_bytes().starts_with(sink.bytes())
+}
+
+// Whether they are where the sink takes one byte at once, and its write of this number fails.
+fn begins(alloc: Global, scene: &Scene, failing: u16) -> bool {
+    match sink_of(alloc, 1, u64::from(failing)) {
+        Ok(mut sink) => {
+            leaves_beginning(scene, &mut sink, usize::from(failing.saturating_sub(1)))
+        }
+        Err(_) => false,
+    }
+}
+
+// Whether that holds of the scene of all shapes.
+fn all_shapes_begin(alloc: Global, failing: u16) -> bool {
+    match scene_of(alloc, 1) {
+        Ok(scene) => begins(alloc, &scene, failing),
+        Err(_) => false,
     }
 }
 
 #[test]
-fn a_failed_write_leaves_a_beginning(rt: HostRuntime) -> Result<(), Fail> {
-    let scene = scene_of(rt.alloc(), 1)?;
+fn a_failed_write_leaves_a_beginning(rt: HostRuntime) {
     for failing in [1, 2, 40, 600] {
-        let sink = cut(rt.alloc(), &scene, 1, failing)?;
-        assert!(rt; ALL_SHAPES.as_bytes().starts_with(sink.bytes()));
-        assert_eq!(rt; sink.bytes().len() as u64, failing - 1);
+        assert!(rt; all_shapes_begin(rt.alloc(), failing), "{failing}");
     }
-    Ok(())
+}
+
+// Whether a write of this number that fails leaves so many bytes, where the sink takes all at once.
+fn cuts(alloc: Global, scene: &Scene, failing: u64, len: usize) -> bool {
+    match sink_of(alloc, usize::MAX, failing) {
+        Ok(mut sink) => leaves(scene, &mut sink, len),
+        Err(_) => false,
+    }
+}
+
+// Whether it does of twenty panels of all shapes.
+fn many_are_cut(alloc: Global, failing: u64, len: usize) -> bool {
+    match scene_of(alloc, 20) {
+        Ok(scene) => cuts(alloc, &scene, failing, len),
+        Err(_) => false,
+    }
 }
 
 #[test]
-fn whole_pages_are_written(rt: HostRuntime) -> Result<(), Fail> {
-    let scene = scene_of(rt.alloc(), 20)?;
+fn whole_pages_are_written(rt: HostRuntime) {
     for (failing, len) in [(2, 4_096), (3, 8_192)] {
-        let sink = cut(rt.alloc(), &scene, usize::MAX, failing)?;
-        assert_eq!(rt; sink.bytes().len(), len);
+        assert!(rt; many_are_cut(rt.alloc(), failing, len), "{failing}");
     }
-    Ok(())
 }

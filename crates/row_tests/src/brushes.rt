@@ -9,7 +9,6 @@ use scale_kit::Scale;
 use scene_tree::{Item, Items, Panel, Scene, Shape};
 use selection_events::{BrushError, DragScales, PlotOf, with_brushes};
 use std::alloc::Global;
-use std::test::Fail;
 use text_kit::{OutOfMemory, Seq, Text};
 
 // So many.
@@ -61,20 +60,31 @@ fn line() -> Option<OneScale>
     }
 }
 
-// What a selection named `brush` holds of a drag along `x`, in a plot that draws this unit.
-fn store(alloc: Global, unit: u32, ends: (i32, i32)) -> Result<StoreOf, OutOfMemory> {
-    let mut extents = Seq::new(alloc);
-    extents.push(Extent {
-        channel: Text::of(alloc, "x")?,
+// What a drag along `x` leaves.
+fn extent(alloc: Global, ends: (i32, i32)) -> Result<Extent, OutOfMemory> {
+    let channel = Text::of(alloc, "x")?;
+    Ok(Extent {
+        channel,
         field: Text::of(alloc, "p")?,
         temporal: false,
         lo: whole(ends.0),
         hi: whole(ends.1),
-    })?;
+    })
+}
+
+fn extents(alloc: Global, ends: (i32, i32)) -> Result<Seq<Extent>, OutOfMemory> {
+    let mut extents = Seq::new(alloc);
+    extents.push(extent(alloc, ends)?)?;
+    Ok(extents)
+}
+
+// What a selection named `brush` holds of a drag along `x`, in a plot that draws this unit.
+fn store(alloc: Global, unit: u32, ends: (i32, i32)) -> Result<StoreOf, OutOfMemory> {
+    let name = Text::of(alloc, "brush")?;
     Ok(StoreOf {
-        name: Text::of(alloc, "brush")?,
+        name,
         tuples: Seq::new(alloc),
-        extents,
+        extents: extents(alloc, ends)?,
         panel: None,
         unit,
     })
@@ -87,12 +97,17 @@ fn stores(alloc: Global, unit: u32, ends: (i32, i32)) -> Result<Seq<StoreOf>, Ou
     Ok(stores)
 }
 
-// One plot, which draws the unit 0.
-fn plots(alloc: Global) -> Result<Seq<PlotOf>, OutOfMemory> {
+// A plot that draws the unit 0.
+fn plot(alloc: Global) -> Result<PlotOf, OutOfMemory> {
     let mut units = Seq::new(alloc);
     units.push(0)?;
+    Ok(PlotOf { units, facet: None })
+}
+
+// One plot, which draws the unit 0.
+fn plots(alloc: Global) -> Result<Seq<PlotOf>, OutOfMemory> {
     let mut plots = Seq::new(alloc);
-    plots.push(PlotOf { units, facet: None })?;
+    plots.push(plot(alloc)?)?;
     Ok(plots)
 }
 
@@ -113,12 +128,11 @@ fn circle() -> Item {
     }
 }
 
-// That plot with a circle.
-fn scene(alloc: Global) -> Result<Scene, OutOfMemory> {
+// The plot with a circle.
+fn panel(alloc: Global) -> Result<Panel, OutOfMemory> {
     let mut items = Items::new(alloc);
     items.push(alloc, circle())?;
-    let mut panels = Seq::new(alloc);
-    panels.push(Panel {
+    Ok(Panel {
         x: whole(5),
         y: whole(20),
         width: whole(100),
@@ -126,7 +140,13 @@ fn scene(alloc: Global) -> Result<Scene, OutOfMemory> {
         view: Some(0),
         facet: None,
         items,
-    })?;
+    })
+}
+
+// The scene of that plot.
+fn scene(alloc: Global) -> Result<Scene, OutOfMemory> {
+    let mut panels = Seq::new(alloc);
+    panels.push(panel(alloc)?)?;
     Ok(Scene {
         width: whole(110),
         height: whole(45),
@@ -134,15 +154,22 @@ fn scene(alloc: Global) -> Result<Scene, OutOfMemory> {
     })
 }
 
+// That scene with the brushes of stores.
+fn brushed_by(alloc: Global, plots: &[PlotOf], stores: &[StoreOf]) -> Result<Scene, BrushError> {
+    let Some(scales) = line() else {
+        return Err(BrushError::Overflow);
+    };
+    match scene(alloc) {
+        Ok(scene) => with_brushes(alloc, plots, &scales, stores, scene),
+        Err(_) => Err(BrushError::Memory),
+    }
+}
+
 // That scene with the brush of a store.
 fn brushed(alloc: Global, unit: u32, ends: (i32, i32)) -> Result<Scene, BrushError> {
     let plots = plots(alloc)?;
     let stores = stores(alloc, unit, ends)?;
-    let scene = scene(alloc)?;
-    match line() {
-        Some(scales) => with_brushes(alloc, plots.as_slice(), &scales, stores.as_slice(), scene),
-        None => Err(BrushError::Overflow),
-    }
+    brushed_by(alloc, plots.as_slice(), stores.as_slice())
 }
 
 // Whether an item is a rect over the height of the plot, so far to the right and so wide.
@@ -184,52 +211,63 @@ fn is_brushed(scene: &Scene, wanted: Option<(i32, i32)>) -> bool {
 }
 
 /// The unit and the ends that a store has, and where its brush stands: one beyond the plot has no width, and one of another plot isn't drawn.
-const BRUSHES: [(u32, i32, i32, Option<(i32, i32)>); 4] = [
+type Brush = (u32, i32, i32, Option<(i32, i32)>);
+
+const BRUSHES: [Brush; 4] = [
     (0, 2, 6, Some((20, 40))),
     (0, -5, 5, Some((0, 50))),
     (0, 11, 20, Some((100, 0))),
     (1, 2, 6, None),
 ];
 
-// Whether brushes stand where they should.
-fn all_stand(alloc: Global) -> Result<bool, BrushError> {
-    let mut right = true;
-    for (unit, lo, hi, wanted) in &BRUSHES {
-        right = is_brushed(&brushed(alloc, *unit, (*lo, *hi))?, *wanted) && right;
-    }
-    Ok(right)
-}
-
-// Whether they do, where an end out of range is one that doesn't.
-fn answered(right: Result<bool, BrushError>) -> Result<bool, OutOfMemory> {
-    match right {
-        Ok(right) => Ok(right),
-        Err(BrushError::Overflow) => Ok(false),
-        Err(BrushError::Memory) => Err(OutOfMemory),
+// Whether a brush stands where it should; where an end is out of range, it doesn't.
+fn stands(alloc: Global, row: &Brush) -> bool {
+    match brushed(alloc, row.0, (row.1, row.2)) {
+        Ok(scene) => is_brushed(&scene, row.3),
+        Err(_) => false,
     }
 }
 
 #[test]
-fn a_brush_is_the_last_item_of_its_plot(rt: HostRuntime) -> Result<(), Fail> {
-    assert!(rt; answered(all_stand(rt.alloc()))?);
-    Ok(())
+fn a_brush_is_the_last_item_of_its_plot(rt: HostRuntime) {
+    for row in &BRUSHES {
+        assert!(rt; stands(rt.alloc(), row), "{row:?}");
+    }
+}
+
+// Whether a member of a store is this cell.
+fn is_member(alloc: Global, stores: &Stores, name: &str, cell: &Cell) -> bool {
+    match stores.member(alloc, "brush", name) {
+        Ok(member) => member.same(cell),
+        Err(_) => false,
+    }
 }
 
 // Whether a store counts as one tuple, and gives its ends, by its name.
-fn all_read(alloc: Global) -> Result<bool, OutOfMemory> {
-    let all = stores(alloc, 0, (2, 6))?;
-    let stores = Stores::of(alloc, all.as_slice())?;
-    let ends = stores.member(alloc, "brush", "x")?;
-    Ok(
-        ends.same(&Cell::Pair(whole(2), whole(6)))
-            && stores.member(alloc, "brush", "y")?.same(&Cell::Null)
-            && stores.stored("brush") == 1
-            && stores.stored("pick") == 0,
-    )
+fn are_read(alloc: Global, stores: &Stores) -> bool {
+    is_member(alloc, stores, "x", &Cell::Pair(whole(2), whole(6)))
+        && is_member(alloc, stores, "y", &Cell::Null)
+        && stores.stored("brush") == 1
+        && stores.stored("pick") == 0
+}
+
+// Whether that holds of a list of stores.
+fn all_are_read(alloc: Global, all: &[StoreOf]) -> bool {
+    match Stores::of(alloc, all) {
+        Ok(stores) => are_read(alloc, &stores),
+        Err(_) => false,
+    }
+}
+
+// Whether it does of one store.
+fn one_is_read(alloc: Global) -> bool {
+    match stores(alloc, 0, (2, 6)) {
+        Ok(all) => all_are_read(alloc, all.as_slice()),
+        Err(_) => false,
+    }
 }
 
 #[test]
-fn stores_are_read_by_their_names(rt: HostRuntime) -> Result<(), Fail> {
-    assert!(rt; all_read(rt.alloc())?);
-    Ok(())
+fn stores_are_read_by_their_names(rt: HostRuntime) {
+    assert!(rt; one_is_read(rt.alloc()));
 }

@@ -4,7 +4,6 @@ use fixed_num::Num;
 use scene_tree::{Item, Items, Panel, Scene, Shape};
 use selection_events::{DragOf, Hit, PlotOf, SelectionOf, hit_at, panel_at, units_in_panel};
 use std::alloc::Global;
-use std::test::Fail;
 use text_kit::{Copies, OutOfMemory, Seq, Text, copy_list};
 
 // So many pixels.
@@ -41,14 +40,19 @@ fn bare(alloc: Global, place: (i32, i32), size: (i32, i32), view: Option<u32>) -
     plot(place, size, view, Items::new(alloc))
 }
 
-// Two facets and a plot beside them, a part without marks over the first facet, and a plot over the last.
-fn scene(alloc: Global) -> Result<Scene, OutOfMemory> {
-    let mut panels = Seq::new(alloc);
+// Adds two facets and a plot beside them, a part without marks over the first facet, and a plot over the last.
+fn push_plots(alloc: Global, panels: &mut Seq<Panel>) -> Result<(), OutOfMemory> {
     panels.push(bare(alloc, (5, 20), (100, 20), Some(0)))?;
     panels.push(bare(alloc, (125, 20), (100, 20), Some(0)))?;
     panels.push(bare(alloc, (245, 5), (20, 200), Some(1)))?;
     panels.push(bare(alloc, (5, 20), (100, 20), None))?;
-    panels.push(bare(alloc, (255, 105), (20, 20), Some(2)))?;
+    panels.push(bare(alloc, (255, 105), (20, 20), Some(2)))
+}
+
+// The picture of these.
+fn scene(alloc: Global) -> Result<Scene, OutOfMemory> {
+    let mut panels = Seq::new(alloc);
+    push_plots(alloc, &mut panels)?;
     Ok(Scene {
         width: pixels(280),
         height: pixels(210),
@@ -56,8 +60,10 @@ fn scene(alloc: Global) -> Result<Scene, OutOfMemory> {
     })
 }
 
-/// Points of that picture, and the panel in which an event acts there: edges are in, and of several the last counts.
-const PLACES: [(i32, i32, Option<usize>); 11] = [
+/// A point of that picture, and the panel in which an event acts there: edges are in, and of several the last counts.
+type Place = (i32, i32, Option<usize>);
+
+const PLACES: [Place; 11] = [
     (55, 30, Some(0)),
     (5, 20, Some(0)),
     (105, 40, Some(0)),
@@ -71,25 +77,24 @@ const PLACES: [(i32, i32, Option<usize>); 11] = [
     (265, 126, Some(2)),
 ];
 
-// Whether an event at a point acts in this panel.
-fn acts_in(scene: &Scene, point: (i32, i32), wanted: Option<usize>) -> bool {
-    panel_at(scene, pixels(point.0), pixels(point.1)) == wanted
+// Whether an event at a point acts in the panel that it should.
+fn acts_in(scene: &Scene, row: &Place) -> bool {
+    panel_at(scene, pixels(row.0), pixels(row.1)) == row.2
 }
 
-// Whether events act where they should.
-fn all_act(alloc: Global) -> Result<bool, OutOfMemory> {
-    let scene = scene(alloc)?;
-    let mut right = true;
-    for (x, y, wanted) in &PLACES {
-        right = acts_in(&scene, (*x, *y), *wanted) && right;
+// Whether it does in that picture.
+fn acts(alloc: Global, row: &Place) -> bool {
+    match scene(alloc) {
+        Ok(scene) => acts_in(&scene, row),
+        Err(_) => false,
     }
-    Ok(right)
 }
 
 #[test]
-fn an_event_acts_in_the_last_panel(rt: HostRuntime) -> Result<(), Fail> {
-    assert!(rt; all_act(rt.alloc())?);
-    Ok(())
+fn an_event_acts_in_the_last_panel(rt: HostRuntime) {
+    for row in &PLACES {
+        assert!(rt; acts(rt.alloc(), row), "{row:?}");
+    }
 }
 
 fn item(shape: Shape, unit: u32, key: Option<u64>) -> Item {
@@ -129,19 +134,26 @@ fn bar(id: Option<u64>) -> Item {
     item(bar, 1, id)
 }
 
-// Three circles, two of which stand at one place, and a bar, with another over it that has no key.
-fn items(alloc: Global) -> Result<Items, OutOfMemory> {
-    let mut items = Items::new(alloc);
+// Adds three circles, two of which stand at one place, and a bar, with another over it that has no key.
+fn push_items(alloc: Global, items: &mut Items) -> Result<(), OutOfMemory> {
     items.push(alloc, circle(1, 0))?;
     items.push(alloc, circle(2, 200))?;
     items.push(alloc, circle(3, 200))?;
     items.push(alloc, bar(Some(4)))?;
-    items.push(alloc, bar(None))?;
-    Ok(items)
+    items.push(alloc, bar(None))
 }
 
-/// Units and points of the picture, and the id of the row that is hit there: circles by the distance, bars with their edges.
-const HITS: [(u32, i32, i32, Option<u64>); 10] = [
+// The plot of these.
+fn plot_of_items(alloc: Global) -> Result<Panel, OutOfMemory> {
+    let mut items = Items::new(alloc);
+    push_items(alloc, &mut items)?;
+    Ok(plot((5, 5), (200, 20), Some(0), items))
+}
+
+/// A unit and a point of that plot, and the id of the row that is hit there: circles by the distance, bars with their edges.
+type HitRow = (u32, i32, i32, Option<u64>);
+
+const HITS: [HitRow; 10] = [
     (0, 205, 15, Some(3)),
     (0, 5, 15, Some(1)),
     (0, 7, 16, Some(1)),
@@ -155,8 +167,7 @@ const HITS: [(u32, i32, i32, Option<u64>); 10] = [
 ];
 
 // Whether what is hit of a unit is an item of the row with this id.
-fn hits(panel: &Panel, unit: u32, point: (i32, i32), wanted: Option<u64>) -> bool {
-    let hit = hit_at(&[7, unit], panel, pixels(point.0), pixels(point.1));
+fn is_hit(hit: Option<Hit>, unit: u32, wanted: Option<u64>) -> bool {
     match wanted {
         Some(id) => {
             hit == Some(Hit {
@@ -168,20 +179,25 @@ fn hits(panel: &Panel, unit: u32, point: (i32, i32), wanted: Option<u64>) -> boo
     }
 }
 
-// Whether all points hit what they should.
-fn all_hit(alloc: Global) -> Result<bool, OutOfMemory> {
-    let panel = plot((5, 5), (200, 20), Some(0), items(alloc)?);
-    let mut right = true;
-    for (unit, x, y, wanted) in &HITS {
-        right = hits(&panel, *unit, (*x, *y), *wanted) && right;
+// Whether a point of a plot hits what it should.
+fn hits_in(panel: &Panel, row: &HitRow) -> bool {
+    let hit = hit_at(&[7, row.0], panel, pixels(row.1), pixels(row.2));
+    is_hit(hit, row.0, row.3)
+}
+
+// Whether a point of that plot does.
+fn hits(alloc: Global, row: &HitRow) -> bool {
+    match plot_of_items(alloc) {
+        Ok(panel) => hits_in(&panel, row),
+        Err(_) => false,
     }
-    Ok(right)
 }
 
 #[test]
-fn the_last_item_is_hit(rt: HostRuntime) -> Result<(), Fail> {
-    assert!(rt; all_hit(rt.alloc())?);
-    Ok(())
+fn the_last_item_is_hit(rt: HostRuntime) {
+    for row in &HITS {
+        assert!(rt; hits(rt.alloc(), row), "{row:?}");
+    }
 }
 
 fn names(alloc: Global, first: &str, second: &str) -> Result<Seq<Text>, OutOfMemory> {
@@ -199,36 +215,55 @@ fn channels(alloc: Global) -> Result<Seq<DragOf>, OutOfMemory> {
     Ok(channels)
 }
 
+// The fields of clicks, and those of clicks with the shift key.
+fn fields(alloc: Global) -> Result<(Seq<Text>, Seq<Text>), OutOfMemory> {
+    let click = names(alloc, "a", "b")?;
+    Ok((click, names(alloc, "b", "a")?))
+}
+
+// A name and the units of two plots.
+fn named(alloc: Global) -> Result<(Text, Seq<u32>), OutOfMemory> {
+    let name = Text::of(alloc, "pick")?;
+    Ok((name, Seq::from_slice(alloc, &[1, 3, 4])?))
+}
+
 // A selection of units of two plots.
 fn selection(alloc: Global) -> Result<SelectionOf, OutOfMemory> {
-    let name = Text::of(alloc, "pick")?;
-    let units = Seq::from_slice(alloc, &[1, 3, 4])?;
-    let click = names(alloc, "a", "b")?;
-    let toggle = names(alloc, "b", "a")?;
+    let drag = channels(alloc)?;
+    let (name, units) = named(alloc)?;
+    let (click, toggle) = fields(alloc)?;
     Ok(SelectionOf {
         name,
         units,
         click: Some(click),
         toggle: Some(toggle),
         clears: true,
-        drag: channels(alloc)?,
+        drag,
+    })
+}
+
+// A plot of two units, in facets.
+fn first_plot(alloc: Global) -> Result<PlotOf, OutOfMemory> {
+    let units = Seq::from_slice(alloc, &[0, 1])?;
+    Ok(PlotOf {
+        units,
+        facet: Some(names(alloc, "c", "d")?),
+    })
+}
+
+// A plot of three units.
+fn second_plot(alloc: Global) -> Result<PlotOf, OutOfMemory> {
+    Ok(PlotOf {
+        units: Seq::from_slice(alloc, &[2, 3, 4])?,
+        facet: None,
     })
 }
 
 // Plots of two and of three units, the first in facets.
 fn plots(alloc: Global) -> Result<Seq<PlotOf>, OutOfMemory> {
-    let first = Seq::from_slice(alloc, &[0, 1])?;
-    let second = Seq::from_slice(alloc, &[2, 3, 4])?;
-    let facet = names(alloc, "c", "d")?;
     let mut plots = Seq::new(alloc);
-    plots.push(PlotOf {
-        units: first,
-        facet: Some(facet),
-    })?;
-    plots.push(PlotOf {
-        units: second,
-        facet: None,
-    })?;
+    plots.push(first_plot(alloc)?)?;
+    plots.push(second_plot(alloc)?)?;
     Ok(plots)
 }
 
@@ -257,43 +292,62 @@ fn is_selection(s: &SelectionOf) -> bool {
         && drags
 }
 
-/// Least units of plots, and how many units of the selection such a plot has, and the least of them.
-const UNITS: [(Option<u32>, usize, u32); 4] = [
+/// The least unit of a plot, and how many units of the selection such a plot has, and the least of them.
+type Units = (Option<u32>, usize, u32);
+
+const UNITS: [Units; 4] = [
     (Some(0), 1, 1),
     (Some(2), 2, 3),
     (Some(5), 0, 0),
     (None, 0, 0),
 ];
 
-// Whether a plot with this least unit has so many units of a selection, of which this is the least.
-fn has_units(
-    alloc: Global,
-    plots: &[PlotOf],
-    s: &SelectionOf,
-    view: Option<u32>,
-    wanted: (usize, u32),
-) -> Result<bool, OutOfMemory> {
-    let panel = bare(alloc, (5, 5), (20, 20), view);
-    let units = units_in_panel(alloc, plots, s, &panel)?;
-    Ok(match units.as_slice() {
-        [first, ..] => units.len() == wanted.0 && *first == wanted.1,
-        [] => wanted.0 == 0,
-    })
+// Whether units are so many, of which this is the least.
+fn are_units(units: &[u32], row: &Units) -> bool {
+    match units {
+        [first, ..] => units.len() == row.1 && *first == row.2,
+        [] => row.1 == 0,
+    }
 }
 
-// Whether plots have the units that they should, where all is a copy.
-fn all_have_units(alloc: Global) -> Result<bool, OutOfMemory> {
-    let plots = copy_list(alloc, plots(alloc)?.as_slice())?;
-    let s = Copies::copied(&selection(alloc)?, alloc)?;
-    let mut right = is_selection(&s);
-    for (view, count, first) in &UNITS {
-        right = has_units(alloc, plots.as_slice(), &s, *view, (*count, *first))? && right;
+// Whether a plot with this least unit has the units of a selection that it should.
+fn has_units(alloc: Global, plots: &[PlotOf], s: &SelectionOf, row: &Units) -> bool {
+    let panel = bare(alloc, (5, 5), (20, 20), row.0);
+    match units_in_panel(alloc, plots, s, &panel) {
+        Ok(units) => are_units(units.as_slice(), row),
+        Err(_) => false,
     }
-    Ok(right)
+}
+
+// A copy of the plots.
+fn copied_plots(alloc: Global) -> Result<Seq<PlotOf>, OutOfMemory> {
+    copy_list(alloc, plots(alloc)?.as_slice())
+}
+
+// A copy of the selection.
+fn copied_selection(alloc: Global) -> Result<SelectionOf, OutOfMemory> {
+    Copies::copied(&selection(alloc)?, alloc)
+}
+
+// Whether a copy of the selection is whole, and has the units that it should.
+fn is_in(alloc: Global, plots: &[PlotOf], row: &Units) -> bool {
+    match copied_selection(alloc) {
+        Ok(s) => is_selection(&s) && has_units(alloc, plots, &s, row),
+        Err(_) => false,
+    }
+}
+
+// Whether it has them in a copy of the plots.
+fn is_in_copy(alloc: Global, row: &Units) -> bool {
+    match copied_plots(alloc) {
+        Ok(plots) => is_in(alloc, plots.as_slice(), row),
+        Err(_) => false,
+    }
 }
 
 #[test]
-fn a_selection_has_units_in_panels(rt: HostRuntime) -> Result<(), Fail> {
-    assert!(rt; all_have_units(rt.alloc())?);
-    Ok(())
+fn a_selection_has_units_in_panels(rt: HostRuntime) {
+    for row in &UNITS {
+        assert!(rt; is_in_copy(rt.alloc(), row), "{row:?}");
+    }
 }

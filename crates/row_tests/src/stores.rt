@@ -3,7 +3,7 @@ ghost use Rattle.std.specs.Prelude.{IfOk, IfSome};
 ghost use Rattle.scale_kit.specs.Scale.{IsScale};
 ghost use Rattle.selection_events.specs.Drags.{HasScale};
 
-use cell_value::{Cell, Extent, Row, StoreOf};
+use cell_value::{Cell, Extent, Held, Row, StoreOf};
 use fixed_num::Num;
 use scale_kit::Scale;
 use scene_tree::{Items, Panel};
@@ -11,7 +11,6 @@ use selection_events::{
     ChannelHere, Drag, empty_store, store_clicked, store_dragged, store_toggled,
 };
 use std::alloc::Global;
-use std::test::Fail;
 use text_kit::{OutOfMemory, Seq, Text};
 
 // So many tenths.
@@ -64,22 +63,17 @@ fn fields(alloc: Global) -> Result<Seq<Text>, OutOfMemory> {
 
 // The store after a click on the item with this id.
 fn clicked(alloc: Global, id: Option<i32>) -> Result<StoreOf, OutOfMemory> {
+    let tuple = tuple(alloc, id)?;
     let facet = facet(alloc, false)?;
-    store_clicked(alloc, "pick", &facet, 1, tuple(alloc, id)?)
+    store_clicked(alloc, "pick", &facet, 1, tuple)
 }
 
 // The store after one with the shift key.
 fn toggled(alloc: Global, store: &StoreOf, id: Option<i32>) -> Result<StoreOf, OutOfMemory> {
+    let tuple = tuple(alloc, id)?;
     let facet = facet(alloc, true)?;
     let fields = fields(alloc)?;
-    store_toggled(
-        alloc,
-        fields.as_slice(),
-        &facet,
-        2,
-        store,
-        tuple(alloc, id)?,
-    )
+    store_toggled(alloc, fields.as_slice(), &facet, 2, store, tuple)
 }
 
 // The store after one of both.
@@ -96,9 +90,11 @@ fn after(
     }
 }
 
-/// Clicks in turn, whether with the shift key, and the id of the item that is hit; then the ids of the tuples that are left, and the unit of
-/// the last event that set them.
-const CLICKS: [(bool, Option<i32>, [Option<i32>; 2], u32); 8] = [
+/// A click, whether with the shift key, and the id of the item that is hit; then the ids of the tuples that are left, and the unit of the
+/// last event that set them.
+type ClickRow = (bool, Option<i32>, [Option<i32>; 2], u32);
+
+const CLICKS: [ClickRow; 8] = [
     (false, Some(3), [Some(3), None], 1),
     (true, Some(1), [Some(3), Some(1)], 2),
     (true, None, [Some(3), Some(1)], 2),
@@ -109,63 +105,87 @@ const CLICKS: [(bool, Option<i32>, [Option<i32>; 2], u32); 8] = [
     (true, Some(1), [None, None], 0),
 ];
 
+// Whether a tuple has this id.
+fn is_tuple(tuple: &Row, id: i32) -> bool {
+    match tuple.get("_vgsid_") {
+        Some(held) => held.number() == Some(whole(id)),
+        None => false,
+    }
+}
+
 // Whether the tuple at a place of a store has this id; where there is none, whether none stands there.
 fn has_id(store: &StoreOf, place: usize, id: Option<i32>) -> bool {
     match (store.tuples.get(place), id) {
-        (Some(tuple), Some(id)) => tuple
-            .get("_vgsid_")
-            .is_some_and(|held| held.number() == Some(whole(id))),
+        (Some(tuple), Some(id)) => is_tuple(tuple, id),
         (None, None) => true,
         _ => false,
     }
 }
 
-// Whether the facet row is the one of an event in this unit; an empty store has none.
-fn is_facet(facet: &Option<Row>, unit: u32) -> Result<bool, OutOfMemory> {
-    let Some(row) = facet else {
-        return Ok(unit == 0);
-    };
-    let Some(held) = row.get("c") else {
-        return Ok(false);
-    };
-    Ok(match held.cell()? {
-        Cell::Text(text) => unit != 0 && text.as_str() == facet_name(unit == 2),
+// Whether a cell that is held is the name of the facet of this unit.
+fn is_facet_name(held: &Held, unit: u32) -> bool {
+    match held.cell() {
+        Ok(Cell::Text(text)) => text.as_str() == facet_name(unit == 2),
         _ => false,
-    })
+    }
+}
+
+// Whether the facet row is the one of an event in this unit; an empty store has none.
+fn is_facet(facet: &Option<Row>, unit: u32) -> bool {
+    let Some(row) = facet else {
+        return unit == 0;
+    };
+    match row.get("c") {
+        Some(held) => unit != 0 && is_facet_name(held, unit),
+        None => false,
+    }
 }
 
 // Whether a store has this name, and is of an event in this unit, 0 where it is empty.
-fn is_of(store: &StoreOf, unit: u32) -> Result<bool, OutOfMemory> {
-    Ok(is_facet(&store.panel, unit)? && store.name.as_str() == "pick" && store.unit == unit)
+fn is_of(store: &StoreOf, unit: u32) -> bool {
+    is_facet(&store.panel, unit) && store.name.as_str() == "pick" && store.unit == unit
 }
 
 // Whether a store holds tuples with these ids and nothing else.
-fn holds(store: &StoreOf, ids: [Option<i32>; 2], unit: u32) -> Result<bool, OutOfMemory> {
+fn holds(store: &StoreOf, ids: [Option<i32>; 2], unit: u32) -> bool {
     let [first, second] = ids;
-    Ok(
-        is_of(store, unit)?
-            && has_id(store, 0, first)
-            && has_id(store, 1, second)
-            && store.tuples.len() <= 2
-            && store.extents.is_empty(),
-    )
+    is_of(store, unit)
+        && has_id(store, 0, first)
+        && has_id(store, 1, second)
+        && store.tuples.len() <= 2
+        && store.extents.is_empty()
 }
 
-// Whether clicks leave what they should, the first of them in an empty store.
-fn all_clicked(alloc: Global) -> Result<bool, OutOfMemory> {
-    let mut store = empty_store(alloc, "pick")?;
-    let mut right = holds(&store, [None, None], 0)?;
-    for (shift, id, ids, unit) in &CLICKS {
-        store = after(alloc, &store, *shift, *id)?;
-        right = holds(&store, *ids, *unit)? && right;
+// How many clicks leave what they should, up to the first that doesn't; the first of them is in an empty store.
+fn right_clicks(alloc: Global, empty: StoreOf) -> usize {
+    let mut store = empty;
+    for (place, row) in CLICKS.iter().enumerate() {
+        store = match after(alloc, &store, row.0, row.1) {
+            Ok(store) => store,
+            Err(_) => return place,
+        };
+        if !holds(&store, row.2, row.3) {
+            return place;
+        }
     }
-    Ok(right)
+    CLICKS.len()
+}
+
+// The same, where the empty store holds nothing.
+fn right_from_empty(alloc: Global) -> Option<usize> {
+    match empty_store(alloc, "pick") {
+        Ok(empty) if holds(&empty, [None, None], 0) => Some(right_clicks(alloc, empty)),
+        _ => None,
+    }
 }
 
 #[test]
-fn clicks_leave_tuples(rt: HostRuntime) -> Result<(), Fail> {
-    assert!(rt; all_clicked(rt.alloc())?);
-    Ok(())
+fn clicks_leave_tuples(rt: HostRuntime) {
+    assert_eq!(rt;
+        right_from_empty(rt.alloc()),
+        Some(CLICKS.len()),
+        "the first that is wrong"
+    );
 }
 
 // A plot in facets, 100 by 20 pixels at (5, 20).
@@ -211,27 +231,37 @@ fn channel(alloc: Global, across: bool) -> Result<ChannelHere, OutOfMemory>
     })
 }
 
-/// Drags from one point to another, and the extents in tenths of what goes to the right, and of what goes up; none where the store is left
+/// A drag from one point to another, and the extents in tenths of what goes to the right, and of what goes up; none where the store is left
 /// empty.
-const DRAGS: [([i32; 4], Option<[i32; 4]>); 4] = [
+type DragRow = ([i32; 4], Option<[i32; 4]>);
+
+const DRAGS: [DragRow; 4] = [
     ([55, 30, 0, 40], Some([0, 50, 0, 20])),
     ([30, 20, 80, 35], Some([25, 75, 10, 40])),
     ([5, 20, 300, 300], Some([0, 100, 0, 40])),
     ([55, 30, 55, 40], None),
 ];
 
-// The store after a drag over both channels.
-fn dragged(alloc: Global, ends: [i32; 4]) -> Result<StoreOf, OutOfMemory> {
+fn drag(ends: [i32; 4]) -> Drag {
     let [x1, y1, x2, y2] = ends;
-    let drag = Drag {
+    Drag {
         x1: whole(x1),
         y1: whole(y1),
         x2: whole(x2),
         y2: whole(y2),
-    };
-    let panel = panel(alloc)?;
-    let channels = [channel(alloc, true)?, channel(alloc, false)?];
-    store_dragged(alloc, "pick", &panel, 1, drag, &channels)
+    }
+}
+
+// The store after a drag over both channels in a plot.
+fn dragged_in(alloc: Global, panel: &Panel, ends: [i32; 4]) -> Result<StoreOf, OutOfMemory> {
+    let across = channel(alloc, true)?;
+    let up = channel(alloc, false)?;
+    store_dragged(alloc, "pick", panel, 1, drag(ends), &[across, up])
+}
+
+// The store after a drag over both channels.
+fn dragged(alloc: Global, ends: [i32; 4]) -> Result<StoreOf, OutOfMemory> {
+    dragged_in(alloc, &panel(alloc)?, ends)
 }
 
 // Whether an extent is that of a channel between these tenths.
@@ -260,31 +290,25 @@ fn spans(store: &StoreOf, ends: [i32; 4]) -> bool {
 }
 
 // Whether a store holds what a drag should leave.
-fn is_left(store: &StoreOf, wanted: Option<[i32; 4]>) -> Result<bool, OutOfMemory> {
-    let (unit, right) = match wanted {
-        Some(ends) => (1, spans(store, ends)),
-        None => (0, store.extents.is_empty()),
+fn is_left(store: &StoreOf, wanted: Option<[i32; 4]>) -> bool {
+    let right = match wanted {
+        Some(ends) => is_of(store, 1) && spans(store, ends),
+        None => is_of(store, 0) && store.extents.is_empty(),
     };
-    Ok(is_of(store, unit)? && right && store.tuples.is_empty())
+    right && store.tuples.is_empty()
 }
 
 // Whether a drag leaves what it should.
-fn leaves(alloc: Global, ends: [i32; 4], wanted: Option<[i32; 4]>) -> Result<bool, OutOfMemory> {
-    let store = dragged(alloc, ends)?;
-    is_left(&store, wanted)
-}
-
-// Whether all drags leave what they should.
-fn all_dragged(alloc: Global) -> Result<bool, OutOfMemory> {
-    let mut right = true;
-    for (ends, wanted) in &DRAGS {
-        right = leaves(alloc, *ends, *wanted)? && right;
+fn leaves(alloc: Global, row: &DragRow) -> bool {
+    match dragged(alloc, row.0) {
+        Ok(store) => is_left(&store, row.1),
+        Err(_) => false,
     }
-    Ok(right)
 }
 
 #[test]
-fn drags_leave_extents(rt: HostRuntime) -> Result<(), Fail> {
-    assert!(rt; all_dragged(rt.alloc())?);
-    Ok(())
+fn drags_leave_extents(rt: HostRuntime) {
+    for row in &DRAGS {
+        assert!(rt; leaves(rt.alloc(), row), "{row:?}");
+    }
 }

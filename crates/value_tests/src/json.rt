@@ -1,16 +1,11 @@
 use json_exact::{Json, JsonError, ValueReader, at_path, read, write};
 use std::alloc::Global;
-use std::test::*;
 use text_kit::{OutOfMemory, Text};
 
-/// What is written of a copy of what bytes say.
-fn written(alloc: Global, text: &str) -> Result<Text, Fail> {
-    let tree = read(alloc, text.as_bytes())?;
-    Ok(write(alloc, &tree.copy(alloc)?)?)
-}
-
 /// Bytes, and what is written of what they say.
-const READ: [(&str, &str); 36] = [
+type Row = (&'static str, &'static str);
+
+const READ: [Row; 36] = [
     ("null", "null"),
     (" true ", "true"),
     ("false", "false"),
@@ -73,16 +68,49 @@ const READ: [(&str, &str); 36] = [
     ),
 ];
 
-#[test]
-fn what_is_read(rt: HostRuntime) -> Result<(), Fail> {
-    for (text, want) in &READ {
-        assert_eq!(rt; written(rt.alloc(), text)?.as_str(), *want, "at {text}");
+// Whether a tree is written as this text.
+fn is_written(alloc: Global, tree: &Json, text: &str) -> bool {
+    match write(alloc, tree) {
+        Ok(written) => written.as_str() == text,
+        Err(_) => false,
     }
-    Ok(())
+}
+
+// Whether a copy of a tree is.
+fn is_copied(alloc: Global, tree: &Json, text: &str) -> bool {
+    match tree.copy(alloc) {
+        Ok(copy) => {
+            let written = is_written(alloc, &copy, text);
+            drop(copy);
+            written
+        }
+        Err(_) => false,
+    }
+}
+
+// Whether a copy of the tree that bytes say is written as it should be.
+fn says(alloc: Global, row: &Row) -> bool {
+    match read(alloc, row.0.as_bytes()) {
+        Ok(tree) => {
+            let copied = is_copied(alloc, &tree, row.1);
+            drop(tree);
+            copied
+        }
+        Err(_) => false,
+    }
+}
+
+#[test]
+fn what_is_read(rt: HostRuntime) {
+    for row in &READ {
+        assert!(rt; says(rt.alloc(), row), "{row:?}");
+    }
 }
 
 /// Bytes, what is written of the values that they list, each with a semicolon behind it, and the fault behind those.
-const LISTED: [(&str, &str, Option<JsonError>); 12] = [
+type Listed = (&'static str, &'static str, Option<JsonError>);
+
+const LISTED: [Listed; 12] = [
     (" [1, [2,3] ,{\"a\":[4]}] ", "1;[2,3];{\"a\":[4]};", None),
     (" [ ] ", "", None),
     (" 7 ", "7;", None),
@@ -97,47 +125,62 @@ const LISTED: [(&str, &str, Option<JsonError>); 12] = [
     ("", "", Some(JsonError::Fault { at: 0 })),
 ];
 
-/// What is written of the values that bytes list, and the fault behind them.
-fn listed(alloc: Global, text: &str) -> Result<(String, Option<JsonError>), Fail> {
-    let mut out = String::new(alloc);
-    let mut left = ValueReader::of(text.as_bytes());
+// Adds what is written of a tree, and a semicolon.
+fn push_tree(alloc: Global, out: &mut Text, tree: &Json) -> Result<(), OutOfMemory> {
+    out.push_str(write(alloc, tree)?.as_str())?;
+    out.push_str(";")
+}
+
+// The same of a value that is let go.
+fn push_value(alloc: Global, out: &mut Text, value: Json) -> Result<(), OutOfMemory> {
+    let pushed = push_tree(alloc, out, &value);
+    drop(value);
+    pushed
+}
+
+// Adds what is written of the values that bytes list, a hundred at most. The fault behind them.
+fn list(alloc: Global, bytes: &[u8], out: &mut Text) -> Result<Option<JsonError>, OutOfMemory> {
+    let mut left = ValueReader::of(bytes);
     for _ in 0..100 {
         match left.next_value(alloc) {
             Ok(Some((value, others))) => {
-                out.push_str(write(alloc, &value)?.as_str())?;
-                out.push_str(";")?;
+                push_value(alloc, out, value)?;
                 left = others;
             }
-            Ok(None) => return Ok((out, None)),
-            Err(error) => return Ok((out, Some(error))),
+            Ok(None) => return Ok(None),
+            Err(error) => return Ok(Some(error)),
         }
     }
-    Ok((out, None))
+    Ok(None)
+}
+
+// Whether bytes list such values, with such a fault behind them.
+fn lists(alloc: Global, row: &Listed) -> Result<bool, OutOfMemory> {
+    let mut out = Text::new(alloc);
+    let fault = list(alloc, row.0.as_bytes(), &mut out)?;
+    Ok(fault == row.2 && out.as_str() == row.1)
 }
 
 #[test]
-fn values_are_read_one_after_the_other(rt: HostRuntime) -> Result<(), Fail> {
-    for (text, want, fault) in &LISTED {
-        let (values, found) = listed(rt.alloc(), text)?;
-        assert_eq!(rt; values.as_str(), *want, "at {text}");
-        assert_eq!(rt; found, *fault, "at {text}");
+fn values_are_read_one_after_the_other(rt: HostRuntime) {
+    for row in &LISTED {
+        assert!(rt; lists(rt.alloc(), row) == Ok(true), "{row:?}");
     }
-    Ok(())
 }
 
-/// The text of what stands at a path.
-fn found(alloc: Global, tree: &Json, path: &str) -> Result<Text, OutOfMemory> {
-    match at_path(tree, path) {
-        Some(value) => write(alloc, value),
-        None => Text::of(alloc, "nothing"),
+// Whether a path leads to what is written so, or to nothing.
+fn leads_to(alloc: Global, tree: &Json, row: &Row) -> bool {
+    match at_path(tree, row.0) {
+        Some(value) => is_written(alloc, value, row.1),
+        None => row.1 == "nothing",
     }
 }
 
 const TREE: &str = "{\"foo\":[\"bar\",\"baz\"],\"\":0,\"a/b\":1,\"c%d\":2,\"e^f\":3,\"g|h\":4,
     \"i\\\\j\":5,\"k\\\"l\":6,\" \":7,\"m~n\":8,\"~1\":{\"a\":[[],[9]]}}";
 
-/// Paths, and what stands there.
-const PATHS: [(&str, &str); 37] = [
+/// Paths, and what is written of what stands there.
+const PATHS: [Row; 37] = [
     ("/foo", "[\"bar\",\"baz\"]"),
     ("/foo/0", "\"bar\""),
     ("/foo/1", "\"baz\""),
@@ -177,15 +220,21 @@ const PATHS: [(&str, &str); 37] = [
     ("~1foo", "nothing"),
 ];
 
-#[test]
-fn where_paths_lead(rt: HostRuntime) -> Result<(), Fail> {
-    let tree = read(rt.alloc(), TREE.as_bytes())?;
-    for (path, want) in &PATHS {
-        assert_eq!(rt;
-            found(rt.alloc(), &tree, path)?.as_str(),
-            *want,
-            "at {path}"
-        );
+// Whether it does in the tree.
+fn leads(alloc: Global, row: &Row) -> bool {
+    match read(alloc, TREE.as_bytes()) {
+        Ok(tree) => {
+            let leads = leads_to(alloc, &tree, row);
+            drop(tree);
+            leads
+        }
+        Err(_) => false,
     }
-    Ok(())
+}
+
+#[test]
+fn where_paths_lead(rt: HostRuntime) {
+    for row in &PATHS {
+        assert!(rt; leads(rt.alloc(), row), "{row:?}");
+    }
 }

@@ -7,7 +7,6 @@ use crate::signals::{TestStop, bare, sets_of, signals_of, word_of};
 use cell_value::{Cell, Keyed, Rows};
 use expr_eval::{NoParams, ParamReader};
 use std::alloc::Global;
-use std::test::Fail;
 use text_kit::{OutOfMemory, Seq, Text};
 use vega_lists::ListReader;
 use vega_signals::{Inside, own_values};
@@ -114,39 +113,76 @@ fn values_of<P: ParamReader>(
     )?)
 }
 
+// Adds a value behind a blank and its name.
+fn push_value(
+    alloc: Global,
+    out: &mut Text,
+    name: &str,
+    cell: &Option<Cell>,
+) -> Result<(), OutOfMemory> {
+    out.push_str(" ")?;
+    out.push_str(name)?;
+    out.push_str("=")?;
+    match cell {
+        Some(cell) => out.push_str(cell.display(alloc)?.as_str()),
+        None => out.push_str("none"),
+    }
+}
+
 // The values, each behind a blank.
 fn settled(alloc: Global, values: &[(Text, Option<Cell>)]) -> Result<Text, OutOfMemory> {
     let mut out = Text::new(alloc);
     for value in values {
-        out.push_str(" ")?;
-        out.push_str(value.0.as_str())?;
-        out.push_str("=")?;
-        match &value.1 {
-            Some(cell) => out.push_str(cell.display(alloc)?.as_str())?,
-            None => out.push_str("none")?,
-        }
+        push_value(alloc, &mut out, value.0.as_str(), &value.1)?;
     }
     Ok(out)
 }
 
-fn answered(alloc: Global, line: &str) -> Result<Text, TestStop> {
-    let rows = three_rows(alloc)?;
-    let (round, line) = line.split_once("& ").ok_or(TestStop::Shape)?;
-    let outer = values_of(alloc, rows.as_slice(), &NoParams, round.trim_end())?;
+// The values of the signals of a line, in an object with these values round it.
+fn answered_in(
+    alloc: Global,
+    rows: &[Keyed],
+    round: &[(Text, Option<Cell>)],
+    line: &str,
+) -> Result<Text, TestStop>
+    requires { IsListed rows.now }
+{
     let round = Inside {
-        own: outer.as_slice(),
+        own: round,
         outer: &NoParams,
     };
-    let values = values_of(alloc, rows.as_slice(), &round, line)?;
+    let values = values_of(alloc, rows, &round, line)?;
     Ok(settled(alloc, values.as_slice())?)
 }
 
-#[test]
-fn inner_signals_settle(rt: HostRuntime) -> Result<(), Fail> {
-    for line in LINES.lines() {
-        let (given, wanted) = line.split_once(" ->").ok_or("a line without an answer")?;
-        let word = word_of(rt.alloc(), answered(rt.alloc(), given))?;
-        assert_eq!(rt; word.as_str(), wanted, "{line}");
+// The same, with the signals round the object.
+fn answered_over(alloc: Global, rows: &[Keyed], line: &str) -> Result<Text, TestStop>
+    requires { IsListed rows.now }
+{
+    let (round, line) = line.split_once("& ").ok_or(TestStop::Shape)?;
+    let outer = values_of(alloc, rows, &NoParams, round.trim_end())?;
+    answered_in(alloc, rows, outer.as_slice(), line)
+}
+
+fn answered(alloc: Global, line: &str) -> Result<Text, TestStop> {
+    let rows = three_rows(alloc)?;
+    answered_over(alloc, rows.as_slice(), line)
+}
+
+// Whether the signals of a line have the values that they should.
+fn settle(alloc: Global, line: &str) -> bool {
+    let Some((given, wanted)) = line.split_once(" ->") else {
+        return false;
+    };
+    match word_of(alloc, answered(alloc, given)) {
+        Ok(word) => word.as_str() == wanted,
+        Err(_) => false,
     }
-    Ok(())
+}
+
+#[test]
+fn inner_signals_settle(rt: HostRuntime) {
+    for line in LINES.lines() {
+        assert!(rt; settle(rt.alloc(), line), "{line}");
+    }
 }
