@@ -42,16 +42,32 @@ fn drawn(
     }
 }
 
+// How many panels are too many, in words.
+fn said_of_panels(alloc: Global, count: u64) -> Result<Text, OutOfMemory> {
+    Text::of(alloc, format!(in alloc; "panels {count}")?.as_str())
+}
+
 // What is drawn, in words, or why nothing is.
 fn said(alloc: Global, drawn: Result<Drawing, DrawError>) -> Result<Text, OutOfMemory> {
     match drawn {
-        Ok(drawing) => said_of_drawing(alloc, &drawing),
-        Err(DrawError::Overflow) => Text::of(alloc, "overflow"),
-        Err(DrawError::Panels(count)) => {
-            Text::of(alloc, format!(in alloc; "panels {count}")?.as_str())
+        Ok(drawing) => {
+            let said = said_of_drawing(alloc, &drawing);
+            drop(drawing);
+            said
         }
+        Err(DrawError::Overflow) => Text::of(alloc, "overflow"),
+        Err(DrawError::Panels(count)) => said_of_panels(alloc, count),
         Err(DrawError::Memory) => Err(OutOfMemory),
     }
+}
+
+// What is found for a specification that keeps the rules over these sources, in words.
+fn found_over(alloc: Global, g: &VgSpec, sources: &[Named]) -> Result<Text, OutOfMemory>
+    requires rules { keeps_rules g.now ≡ true }
+    requires sources { AreSources sources.now }
+{
+    let params = params_of(alloc, g)?;
+    said(alloc, drawn(alloc, g, sources, params.as_slice()))
 }
 
 // What is found for a specification that keeps the rules, in words.
@@ -59,11 +75,7 @@ fn found_of_chart(alloc: Global, g: &VgSpec) -> Result<Text, OutOfMemory>
     requires { keeps_rules g.now ≡ true }
 {
     let sources = sources_of(alloc, g)?;
-    let params = params_of(alloc, g)?;
-    said(
-        alloc,
-        drawn(alloc, g, sources.as_slice(), params.as_slice()),
-    )
+    found_over(alloc, g, sources.as_slice())
 }
 
 // What is found for a specification, in words.
@@ -95,7 +107,11 @@ fn found_of_tree(alloc: Global, tree: &Json) -> Result<Text, OutOfMemory> {
 // What is found for a text, in words.
 fn found(alloc: Global, spec: &str) -> Result<Text, OutOfMemory> {
     match json_exact::read(alloc, spec.as_bytes()) {
-        Ok(tree) => found_of_tree(alloc, &tree),
+        Ok(tree) => {
+            let found = found_of_tree(alloc, &tree);
+            drop(tree);
+            found
+        }
         Err(_) => Text::of(alloc, "no JSON"),
     }
 }
@@ -105,18 +121,37 @@ fn is_expected(answer: &str, expected: &str) -> bool {
     answer == expected || expected == "drawn" && answer.ends_with("</svg>||")
 }
 
+// What is found for a line, where it isn't what the line expects.
+fn failed(alloc: Global, line: &str) -> Result<Option<Text>, OutOfMemory> {
+    let Some((expected, spec)) = line.split_once('\t') else {
+        return Ok(None);
+    };
+    let answer = found(alloc, spec)?;
+    if is_expected(answer.as_str(), expected) {
+        Ok(None)
+    } else {
+        Ok(Some(answer))
+    }
+}
+
+// What is written of that.
+fn word_of(failed: &Result<Option<Text>, OutOfMemory>) -> Option<&str> {
+    match failed {
+        Ok(Some(answer)) => Some(answer.as_str()),
+        Ok(None) => None,
+        Err(_) => Some("no memory"),
+    }
+}
+
 fn main(rt: HostRuntime) -> io::Result<()> {
     let alloc = rt.alloc();
     let mut count: u64 = 0;
     for line in rt.lines(alloc) {
         let line = line?;
         count = count.saturating_add(1);
-        if let Some((expected, spec)) = line.as_str().split_once('\t') {
-            match found(alloc, spec) {
-                Ok(answer) if is_expected(answer.as_str(), expected) => {}
-                Ok(answer) => println!(rt; "{} at {line}", answer.as_str())?,
-                Err(_) => println!(rt; "no memory at {line}")?,
-            }
+        let found = failed(alloc, line.as_str());
+        if let Some(word) = word_of(&found) {
+            println!(rt; "{word} at {line}")?;
         }
     }
     println!(rt; "{count} lines")

@@ -60,6 +60,16 @@ fn push_source(sources: &mut Seq<Named>, name: Text, rows: Rows) -> Result<(), O
     sources.push(Named { name, rows })
 }
 
+// Adds the source of a data set.
+fn add_source(alloc: Global, set: &DataSet, sources: &mut Seq<Named>) -> Result<(), OutOfMemory>
+    requires { AreAllCounted sources.old }
+    ensures { OnOk result (AreAllCounted sources.new) }
+{
+    let name = set.name.copy()?;
+    let rows = keyed(alloc, written(alloc, set)?)?;
+    push_source(sources, name, rows)
+}
+
 // Adds a data set, where it is a source.
 fn add_set(alloc: Global, set: &DataSet, sources: &mut Seq<Named>) -> Result<(), OutOfMemory>
     requires { AreAllCounted sources.old }
@@ -68,8 +78,7 @@ fn add_set(alloc: Global, set: &DataSet, sources: &mut Seq<Named>) -> Result<(),
     if set.source.is_some() {
         return Ok(());
     }
-    let rows = keyed(alloc, written(alloc, set)?)?;
-    push_source(sources, set.name.copy()?, rows)
+    add_source(alloc, set, sources)
 }
 
 // Adds the sources among some data sets.

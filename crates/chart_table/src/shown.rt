@@ -20,25 +20,28 @@ fn say_count(alloc: Global, out: &mut Text, count: u64) -> Result<(), OutOfMemor
     out.push_str(format!(in alloc; "{count}")?.as_str())
 }
 
+// Adds a letter and a text.
+fn say_text(out: &mut Text, letter: &str, text: &str) -> Result<(), OutOfMemory> {
+    out.push_str(letter)?;
+    out.push_str(text)
+}
+
+// Adds a pair.
+fn say_pair(out: &mut Text, first: Num, second: Num) -> Result<(), OutOfMemory> {
+    out.push_str("p")?;
+    say_number(out, first, "~")?;
+    say_number(out, second, "")
+}
+
 // Adds a cell.
 fn say_cell(out: &mut Text, cell: &Cell) -> Result<(), OutOfMemory> {
     match cell {
         Cell::Null => out.push_str("_"),
         Cell::Flag(true) => out.push_str("t"),
         Cell::Flag(false) => out.push_str("f"),
-        Cell::Number(number) => {
-            out.push_str("n")?;
-            say_number(out, *number, "")
-        }
-        Cell::Text(text) => {
-            out.push_str("s")?;
-            out.push_str(text.as_str())
-        }
-        Cell::Pair(first, second) => {
-            out.push_str("p")?;
-            say_number(out, *first, "~")?;
-            say_number(out, *second, "")
-        }
+        Cell::Number(number) => say_text(out, "n", number.decimal().as_str()),
+        Cell::Text(text) => say_text(out, "s", text.as_str()),
+        Cell::Pair(first, second) => say_pair(out, *first, *second),
     }
 }
 
@@ -51,13 +54,17 @@ fn say_cells(out: &mut Text, cells: &[Cell]) -> Result<(), OutOfMemory> {
     out.push_str(":")
 }
 
+// Adds a cell of a facet by its field.
+fn say_entry(out: &mut Text, field: &str, cell: &Cell) -> Result<(), OutOfMemory> {
+    say_text(out, " ", field)?;
+    out.push_str("=")?;
+    say_cell(out, cell)
+}
+
 // Adds the cells of a facet by their fields.
 fn say_facet(out: &mut Text, row: &Row) -> Result<(), OutOfMemory> {
     for entry in row.entries() {
-        out.push_str(" ")?;
-        out.push_str(entry.0.as_str())?;
-        out.push_str("=")?;
-        say_cell(out, &entry.1.cell()?)?;
+        say_entry(out, entry.0.as_str(), &entry.1.cell()?)?;
     }
     Ok(())
 }
@@ -70,12 +77,17 @@ fn say_view(alloc: Global, out: &mut Text, view: Option<u32>) -> Result<(), OutO
     }
 }
 
-// Adds the place and the size of a panel, its view and its facet.
-fn say_panel(alloc: Global, out: &mut Text, panel: &Panel) -> Result<(), OutOfMemory> {
+// Adds the place and the size of a panel.
+fn say_place(out: &mut Text, panel: &Panel) -> Result<(), OutOfMemory> {
     say_number(out, panel.x, " ")?;
     say_number(out, panel.y, " ")?;
     say_number(out, panel.width, " ")?;
-    say_number(out, panel.height, " ")?;
+    say_number(out, panel.height, " ")
+}
+
+// Adds the place and the size of a panel, its view and its facet.
+fn say_panel(alloc: Global, out: &mut Text, panel: &Panel) -> Result<(), OutOfMemory> {
+    say_place(out, panel)?;
     say_view(alloc, out, panel.view)?;
     match &panel.facet {
         Some(row) => say_facet(out, row)?,
@@ -159,15 +171,23 @@ fn say_scale(out: &mut Text, scale: &Scale) -> Result<(), OutOfMemory> {
     }
 }
 
+// Adds a scale with its panel and its name.
+fn say_in_panel(
+    alloc: Global,
+    out: &mut Text,
+    panel: usize,
+    scale: &ScaleIn,
+) -> Result<(), OutOfMemory> {
+    say_count(alloc, out, panel as u64)?;
+    say_text(out, " ", scale.name.as_str())?;
+    say_scale(out, &scale.scale)
+}
+
 // Adds a scale with its panel and its name; of one of the whole chart its name alone.
 fn say_kept(alloc: Global, out: &mut Text, scale: &ScaleIn) -> Result<(), OutOfMemory> {
-    if let Some(panel) = scale.panel {
-        say_count(alloc, out, panel as u64)?;
-        out.push_str(" ")?;
-        out.push_str(scale.name.as_str())?;
-        say_scale(out, &scale.scale)?;
-    } else {
-        out.push_str(scale.name.as_str())?;
+    match scale.panel {
+        Some(panel) => say_in_panel(alloc, out, panel, scale)?,
+        None => out.push_str(scale.name.as_str())?,
     }
     out.push_str(";")
 }
@@ -197,22 +217,33 @@ fn say_bytes(out: &mut Text, bytes: &[u8]) -> Result<(), OutOfMemory> {
     }
 }
 
+// Whether a picture is printed to a sink.
+fn is_printed(scene: &Scene, sink: &mut ListSink) -> bool {
+    print(scene, sink).is_ok()
+}
+
 // Adds a picture.
 fn say_picture(alloc: Global, out: &mut Text, scene: &Scene) -> Result<(), OutOfMemory> {
     let mut sink = ListSink::of(alloc, 65_536, Vec::new(alloc))?;
-    match print(scene, &mut sink) {
-        Ok(()) => say_bytes(out, sink.bytes()),
-        Err(_) => out.push_str("unprinted"),
+    if is_printed(scene, &mut sink) {
+        say_bytes(out, sink.bytes())
+    } else {
+        out.push_str("unprinted")
     }
+}
+
+// Adds what is drawn.
+fn say_drawing(alloc: Global, out: &mut Text, drawing: &Drawing) -> Result<(), OutOfMemory> {
+    say_panels(alloc, out, drawing.scene.panels.as_slice())?;
+    out.push_str("#")?;
+    say_scales(alloc, out, drawing.scales.scales.as_slice())?;
+    out.push_str("#")?;
+    say_picture(alloc, out, &drawing.scene)
 }
 
 /// What is drawn, in words: the panels, the scales that are kept, and the picture.
 pub(crate) fn said_of_drawing(alloc: Global, drawing: &Drawing) -> Result<Text, OutOfMemory> {
     let mut out = Text::new(alloc);
-    say_panels(alloc, &mut out, drawing.scene.panels.as_slice())?;
-    out.push_str("#")?;
-    say_scales(alloc, &mut out, drawing.scales.scales.as_slice())?;
-    out.push_str("#")?;
-    say_picture(alloc, &mut out, &drawing.scene)?;
+    say_drawing(alloc, &mut out, drawing)?;
     Ok(out)
 }

@@ -98,18 +98,39 @@ fn reply(alloc: Global, engine: &mut PlainEngine, command: &Command) -> Result<R
     applied::<Brand>(alloc, engine, command, Blank::new(1))
 }
 
+// Whether a command is refused.
+fn is_refused(alloc: Global, engine: &mut PlainEngine, command: &Command) -> Result<bool, Fail>
+    requires { command.now ≢ Print }
+{
+    Ok(matches!(reply(alloc, engine, command)?, Reply::Refused(_)))
+}
+
 // Whether a parameter that isn't there can't be set, and nothing is counted.
 fn counts_nothing(alloc: Global, engine: &mut PlainEngine) -> Result<bool, Fail> {
     let name = Text::of(alloc, "k")?;
     let value = Cell::Null;
-    let answer = reply(alloc, engine, &Command::Set { name, value })?;
-    Ok(matches!(answer, Reply::Refused(_)) && engine.last_reads() == 0)
+    let command = Command::Set { name, value };
+    let refused = is_refused(alloc, engine, &command);
+    drop(command);
+    Ok(refused? && engine.last_reads() == 0)
+}
+
+// Whether each change is replied to so, and nothing is counted.
+fn is_all_kept(alloc: Global, engine: &mut PlainEngine) -> Result<bool, Fail> {
+    is_kept(alloc, engine)?;
+    counts_nothing(alloc, engine)
+}
+
+// Whether both hold of the chart without ids.
+fn all_stays(alloc: Global) -> Result<bool, Fail> {
+    let mut engine = opened_without_ids(alloc, THREE_VALUES, "a", "b")?;
+    let stays = is_all_kept(alloc, &mut engine);
+    drop(engine);
+    stays
 }
 
 #[test]
 fn without_ids_the_first_cause_is_told_and_all_stays(rt: HostRuntime) -> Result<(), Fail> {
-    let mut engine = opened_without_ids(rt.alloc(), THREE_VALUES, "a", "b")?;
-    is_kept(rt.alloc(), &mut engine)?;
-    assert!(rt; counts_nothing(rt.alloc(), &mut engine)?);
+    assert!(rt; all_stays(rt.alloc())?);
     Ok(())
 }
