@@ -105,6 +105,11 @@ pub fn chart_main<F: Folder, S: Source, K: Sink, N: Sink>(
     ensures taken { (taken : List ℕ) × HasTaken (S.left script.old) (S.left script.new) taken }
     ensures script { (AsksScript (asked_in words.now.items) → ⊥) → script.new ≡ script.old }
 
+    // Status 7 comes only where the count of the folder or of the script rose, and 8 only where that of the output did: over objects
+    // that never fail there is neither.
+    ensures read_fault { result ≡ 7 → Rose (F.faults folder.old) (F.faults folder.new) ⊎ Rose (S.faults script.old) (S.faults script.new) }
+    ensures write_fault { result ≡ 8 → Rose (K.faults out.old) (K.faults out.new) }
+
     // The folder tells what it told, wrong words leave it alone, and no count falls.
     ensures stays { Kept (F.files folder.old) (F.files folder.new) }
     ensures folder { asked_in words.now.items ≡ None → folder.new ≡ folder.old }
@@ -116,6 +121,3 @@ pub fn chart_main<F: Folder, S: Source, K: Sink, N: Sink>(
     let done = run(alloc, words, folder, script, out, notes);
     ended(alloc, done, notes)
 }
-
-#[cfg(test)]
-mod tests;

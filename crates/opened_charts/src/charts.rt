@@ -3,7 +3,7 @@ ghost use Rattle.std.specs.Prelude.{◌≡◌, IfOk, IfSome};
 ghost use Rattle.first_form.specs.Drawable.{IsDrawable};
 
 use cell_value::Steps;
-use chart_io::{ListSink, ListSource};
+use chart_io::{ListSink, ListSource, Sink, Source};
 use first_form::{FirstForm, bars_of, first_form, opening_of};
 use plain_engine::PlainEngine;
 use play_script::{PlayError, play};
@@ -75,12 +75,12 @@ pub fn opened_without_ids(
     Ok(opened_late(alloc, &form)?)
 }
 
-fn played_under<L: Ledger>(
+fn played_under<S: Source, K: Sink, L: Ledger>(
     alloc: Global,
     blank: Blank,
     engine: &mut PlainEngine,
-    source: &mut ListSource,
-    out: &mut ListSink,
+    source: &mut S,
+    out: &mut K,
 ) -> Result<Result<(), PlayError>, Fail>
     requires name { blank.name ≡ L.name }
     requires parts { blank.parts ≡ L.parts }
@@ -91,13 +91,13 @@ fn played_under<L: Ledger>(
 }
 
 /// Plays a script on an engine.
-pub fn played_on(
+pub fn played_on<S: Source, K: Sink>(
     alloc: Global,
     engine: &mut PlainEngine,
-    source: &mut ListSource,
-    out: &mut ListSink,
+    source: &mut S,
+    out: &mut K,
 ) -> Result<Result<(), PlayError>, Fail> {
-    played_under::<Brand>(alloc, Blank::new(1), engine, source, out)
+    played_under::<S, K, Brand>(alloc, Blank::new(1), engine, source, out)
 }
 
 /// Whether this is written where a script is played on an engine.

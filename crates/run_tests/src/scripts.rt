@@ -1,9 +1,10 @@
 //! Scripts that are read in pieces of any size, and reads and writes that fail while a script is played, on a chart without rows.
-use chart_io::{ListSink, ListSource};
+use chart_io::{CountSink, ListSink, ListSource, Sink, Source, SureSource};
 use opened_charts::{opened, played_on};
 use play_script::PlayError;
-use std::alloc::Global;
+use std::alloc::{AllocError, Global};
 use std::test::Fail;
+use text_kit::OutOfMemory;
 
 // The picture of a chart without rows.
 const PICTURE: &str = concat!(
@@ -11,7 +12,31 @@ const PICTURE: &str = concat!(
     "<g transform=\"translate(5,5)\">\n</g>\n</svg>\n",
 );
 
-// Plays a script, of which a read gives at most so many bytes and at least one. The reads of these numbers fail.
+// Plays what a source gives on a chart.
+fn played_from<S: Source, K: Sink>(
+    alloc: Global,
+    source: &mut S,
+    out: &mut K,
+) -> Result<Result<(), PlayError>, Fail> {
+    let mut engine = opened(alloc, "", "a", "b")?;
+    let end = played_on(alloc, &mut engine, source, out);
+    drop(engine);
+    end
+}
+
+// A script, of which a read gives at most so many bytes and at least one. The reads of these numbers fail.
+fn source_of(
+    alloc: Global,
+    script: &[u8],
+    most: usize,
+    fails: &[u64],
+) -> Result<ListSource, AllocError> {
+    let most = most.max(1);
+    let fails = fails.to_vec(alloc)?;
+    Ok(ListSource::of(script.to_vec(alloc)?, most, fails))
+}
+
+// Plays such a script.
 fn played(
     alloc: Global,
     script: &[u8],
@@ -19,10 +44,16 @@ fn played(
     fails: &[u64],
     out: &mut ListSink,
 ) -> Result<Result<(), PlayError>, Fail> {
-    let most = most.max(1);
-    let mut source = ListSource::of(script.to_vec(alloc)?, most, fails.to_vec(alloc)?);
-    let mut engine = opened(alloc, "", "a", "b")?;
-    played_on(alloc, &mut engine, &mut source, out)
+    let mut source = source_of(alloc, script, most, fails)?;
+    let end = played_from(alloc, &mut source, out);
+    drop(source);
+    end
+}
+
+// A sink that takes five bytes at once, and of which the writes of these numbers fail.
+fn sink_by_fives(alloc: Global, fails: &[u64]) -> Result<ListSink, OutOfMemory> {
+    let fails = fails.to_vec(alloc)?;
+    ListSink::of(alloc, 5, fails)
 }
 
 // Whether a script is played so: with this end, and with these replies.
@@ -34,13 +65,15 @@ fn is_played(
     end: Result<(), PlayError>,
     replies: &[u8],
 ) -> Result<bool, Fail> {
-    let mut out = ListSink::of(alloc, 5, Vec::new(alloc))?;
+    let mut out = sink_by_fives(alloc, &[])?;
     let answer = played(alloc, script, most, fails, &mut out)?;
     Ok(answer == end && out.bytes() == replies)
 }
 
-// Scripts, and their replies.
-const SCRIPTS: [(&str, &str); 7] = [
+/// A script, and the replies to it.
+type Script = (&'static str, &'static str);
+
+const SCRIPTS: [Script; 7] = [
     ("", ""),
     ("\n\r\n#[]\n# a\r\n", ""),
     ("[]\n", "refused line\n"),
@@ -50,26 +83,30 @@ const SCRIPTS: [(&str, &str); 7] = [
     ("# first\r\n[\"print\"]\r\n", PICTURE),
 ];
 
+// Whether a script is replied to so, where a read gives at most so many bytes.
+fn is_replied_to(alloc: Global, row: &Script, most: usize) -> Result<bool, Fail> {
+    let (script, replies) = (row.0.as_bytes(), row.1.as_bytes());
+    is_played(alloc, script, most, &[], Ok(()), replies)
+}
+
 #[test]
 fn lines_are_replied_to_in_pieces_of_any_size(rt: HostRuntime) -> Result<(), Fail> {
     for most in [1, 2, 3, 4_096] {
-        for (script, replies) in SCRIPTS {
-            let is_so = is_played(
-                rt.alloc(),
-                script.as_bytes(),
-                most,
-                &[],
-                Ok(()),
-                replies.as_bytes(),
-            )?;
-            assert!(rt; is_so, "{script} by {most}");
+        for row in &SCRIPTS {
+            assert!(rt;
+                is_replied_to(rt.alloc(), row, most)?,
+                "{} by {most}",
+                row.0
+            );
         }
     }
     Ok(())
 }
 
-// Scripts that are read byte by byte, the number of the read that fails, and the replies to the lines that ended before it.
-const FAILED_READS: [(&str, u64, &str); 8] = [
+/// A script that is read byte by byte, the number of the read that fails, and the replies to the lines that ended before it.
+type FailedRead = (&'static str, u64, &'static str);
+
+const FAILED_READS: [FailedRead; 8] = [
     ("[]\n{\n{", 1, ""),
     ("[]\n{\n{", 3, ""),
     ("[]\n{\n{", 4, "refused line\n"),
@@ -80,38 +117,62 @@ const FAILED_READS: [(&str, u64, &str); 8] = [
     ("[\"print\"]\n[]\n", 13, PICTURE),
 ];
 
+// Whether a read that fails ends a script so.
+fn ends(alloc: Global, row: &FailedRead) -> Result<bool, Fail> {
+    let (script, replies) = (row.0.as_bytes(), row.2.as_bytes());
+    is_played(alloc, script, 1, &[row.1], Err(PlayError::Read), replies)
+}
+
 #[test]
 fn a_read_that_fails_leaves_the_replies_before_it(rt: HostRuntime) -> Result<(), Fail> {
-    for (script, number, replies) in FAILED_READS {
-        let is_so = is_played(
-            rt.alloc(),
-            script.as_bytes(),
-            1,
-            &[number],
-            Err(PlayError::Read),
-            replies.as_bytes(),
-        )?;
-        assert!(rt; is_so, "{script} at {number}");
+    for row in &FAILED_READS {
+        assert!(rt; ends(rt.alloc(), row)?, "{} at {}", row.0, row.1);
     }
     Ok(())
 }
 
+// A sink that takes 40 bytes at once, and of which the write of this number fails.
+fn sink_by_forties(alloc: Global, failing: u64) -> Result<ListSink, OutOfMemory> {
+    let fails = [failing].to_vec(alloc)?;
+    ListSink::of(alloc, 40, fails)
+}
+
 // Whether a write of at most 40 bytes that fails, by its number, ends the script of a print, and leaves a beginning of the picture.
 fn begins_to_print(alloc: Global, failing: u64) -> Result<bool, Fail> {
-    let mut out = ListSink::of(alloc, 40, [failing].to_vec(alloc)?)?;
+    let mut out = sink_by_forties(alloc, failing)?;
     let end = played(alloc, b"[\"print\"]\n[]\n", 4_096, &[], &mut out)?;
     Ok(end == Err(PlayError::Write) && PICTURE.as_bytes().starts_with(out.bytes()))
 }
 
+// Whether the second write of at most five bytes that fails ends a script, and leaves the beginning of a reply.
+fn begins_to_reply(alloc: Global) -> Result<bool, Fail> {
+    let mut out = sink_by_fives(alloc, &[2])?;
+    let end = played(alloc, b"[]\n[]\n", 4_096, &[], &mut out)?;
+    Ok(end == Err(PlayError::Write) && out.bytes() == b"refus".as_slice())
+}
+
 #[test]
 fn a_write_that_fails_ends_the_script(rt: HostRuntime) -> Result<(), Fail> {
-    let alloc = rt.alloc();
-    let mut out = ListSink::of(alloc, 5, [2].to_vec(alloc)?)?;
-    let end = played(alloc, b"[]\n[]\n", 4_096, &[], &mut out)?;
-    assert_eq!(rt; end, Err(PlayError::Write));
-    assert_eq!(rt; out.bytes(), b"refus".as_slice());
+    assert!(rt; begins_to_reply(rt.alloc())?);
     for failing in 1..5u64 {
-        assert!(rt; begins_to_print(alloc, failing)?, "{failing}");
+        assert!(rt; begins_to_print(rt.alloc(), failing)?, "{failing}");
+    }
+    Ok(())
+}
+
+// Whether a script over objects that never fail is played to its end, and a sink that counts counts the replies.
+fn is_counted(alloc: Global, row: &Script) -> Result<bool, Fail> {
+    let mut source = SureSource::of(row.0.as_bytes().to_vec(alloc)?);
+    let mut out = CountSink::new();
+    let end = played_from(alloc, &mut source, &mut out);
+    drop(source);
+    Ok(end? == Ok(()) && out.total() == row.1.len() as u64)
+}
+
+#[test]
+fn a_sink_that_counts_counts_the_replies(rt: HostRuntime) -> Result<(), Fail> {
+    for row in &SCRIPTS {
+        assert!(rt; is_counted(rt.alloc(), row)?, "{}", row.0);
     }
     Ok(())
 }
