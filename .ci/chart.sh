@@ -100,7 +100,7 @@ a_newer_source() {
 # Whether no definition of the crates that know no Vega specification cites a crate about those.
 definitions_without_vega() {
     told=0
-    for crate in mark_shapes domain_kit plot_scenes scale_infer unit_plan chart_plan chart_meaning "$top"/crates/vl_*; do
+    for crate in mark_shapes domain_kit plot_scenes scale_infer plan_kit unit_plan guide_infer chart_plan chart_meaning "$top"/crates/vl_*; do
         specs=$top/crates/${crate##*/}/specs
         if [ -d "$specs" ] && grep -rn 'Rattle\.vega_' "$specs" >&2; then
             told=1

@@ -81,7 +81,7 @@ def map_told(lines, uses):
 
 def definitions_of_vega_lite(crate):
     """Whether a crate holds definitions of Vega-Lite."""
-    return crate.startswith("vl_") or crate in ("scale_infer", "unit_plan", "guide_infer", "chart_plan", "chart_meaning")
+    return crate.startswith("vl_") or crate in ("scale_infer", "plan_kit", "unit_plan", "guide_infer", "chart_plan", "chart_meaning")
 
 
 def vega_told(lines):

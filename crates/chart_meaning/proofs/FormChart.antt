@@ -34,11 +34,11 @@ use Rattle.plot_scenes.specs.Scenes.{drawing_with}
 use Rattle.plot_scenes.specs.Views.{placed_plot}
 use Rattle.plot_scenes.proofs.OnePlotLaw.{alone, bare}
 use Rattle.param_flow.specs.Semantics.{text_of}
-use Rattle.unit_plan.specs.declared.cells.CellOf.TheVariants.{Field}
-use Rattle.chart_plan.specs.declared.plan.Plan.{Plan}
-use Rattle.chart_plan.specs.declared.views.ViewPlan.{fold-ViewPlan, fold-roll-ViewPlan}
-use Rattle.chart_plan.specs.declared.views.ViewPlan.TheOpen as level
-use Rattle.chart_plan.specs.declared.views.ViewPlan.TheVariants as view
+use Rattle.plan_kit.specs.declared.cells.CellOf.TheVariants.{Field}
+use Rattle.plan_kit.specs.declared.plan.Plan.{Plan}
+use Rattle.plan_kit.specs.declared.views.ViewPlan.{fold-ViewPlan, fold-roll-ViewPlan}
+use Rattle.plan_kit.specs.declared.views.ViewPlan.TheOpen as level
+use Rattle.plan_kit.specs.declared.views.ViewPlan.TheVariants as view
 use Rattle.first_form.specs.declared.form.FirstForm.{FirstForm}
 use Rattle.first_form.specs.declared.form.Value.{Value}
 use Rattle.first_form.specs.Bars.{with_ids, Reading, readings_of, categories_of, x_scale, y_scale, scene_of}

@@ -8,7 +8,7 @@ use Rattle.svg_text.specs.SceneText.{svg_of}
 use Rattle.plot_scenes.specs.declared.scenes.Drawing.{Drawing}
 use Rattle.param_flow.specs.Semantics.{text_of}
 use Rattle.vl_spec.specs.declared.params.ParamOf.{ParamOf}
-use Rattle.chart_plan.specs.declared.plan.Plan.{Plan}
+use Rattle.plan_kit.specs.declared.plan.Plan.{Plan}
 use Rattle.chart_meaning.specs.Charts.{drawn, brushed, picture_over, with_panels}
 use Rattle.chart_meaning.specs.Parameters.{Settled, settled, values_in}
 use Rattle.chart_meaning.specs.Parts.{Copy, whole_copy}

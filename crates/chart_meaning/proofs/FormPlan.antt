@@ -17,17 +17,17 @@ use Rattle.vl_spec.specs.declared.views.ViewKind.TheOpen as level
 use Rattle.vl_normalize.specs.declared.codes.TheConstants.{X, Y, X2, Y2}
 use Rattle.vl_compose.specs.Units.{UnitAt}
 use Rattle.scale_infer.specs.Types.{type_of, is_aggregated}
-use Rattle.unit_plan.specs.declared.cells.CellOf.TheVariants.{Field}
-use Rattle.unit_plan.specs.declared.marks.Look.TheVariants as look
-use Rattle.unit_plan.specs.declared.marks.LookWay.{LookWay}
-use Rattle.unit_plan.specs.declared.marks.MarkPlan.{MarkPlan}
-use Rattle.unit_plan.specs.declared.marks.MarkShape.TheVariants as shape
-use Rattle.unit_plan.specs.declared.marks.Spot.TheVariants.{Place, EndOfBand, Base}
-use Rattle.unit_plan.specs.declared.plans.UnitPlan.{UnitPlan}
+use Rattle.plan_kit.specs.declared.cells.CellOf.TheVariants.{Field}
+use Rattle.plan_kit.specs.declared.marks.Look.TheVariants as look
+use Rattle.plan_kit.specs.declared.marks.LookWay.{LookWay}
+use Rattle.plan_kit.specs.declared.marks.MarkPlan.{MarkPlan}
+use Rattle.plan_kit.specs.declared.marks.MarkShape.TheVariants as shape
+use Rattle.plan_kit.specs.declared.marks.Spot.TheVariants.{Place, EndOfBand, Base}
+use Rattle.plan_kit.specs.declared.plans.UnitPlan.{UnitPlan}
 use Rattle.unit_plan.specs.declared.seen.ScaleSeen.{ScaleSeen}
 use Rattle.unit_plan.specs.declared.stacks.Stacked.{Stacked}
-use Rattle.unit_plan.specs.declared.steps.Step.{Step}
-use Rattle.unit_plan.specs.declared.steps.Step.TheVariants as step
+use Rattle.plan_kit.specs.declared.steps.Step.{Step}
+use Rattle.plan_kit.specs.declared.steps.Step.TheVariants as step
 use Rattle.unit_plan.specs.Bars.{bar_along}
 use Rattle.unit_plan.specs.Bins.{bin_cuts, bin_steps, unit_cuts, unit_steps}
 use Rattle.unit_plan.specs.Branches.{Branch}
@@ -42,10 +42,10 @@ use Rattle.unit_plan.specs.Seen.{seen_at}
 use Rattle.unit_plan.specs.Selections.{is_selection}
 use Rattle.unit_plan.specs.Shows.{ShownAt, facet_shows, shows_of}
 use Rattle.unit_plan.specs.Stacks.{stack_step}
-use Rattle.chart_plan.specs.declared.plan.Plan.{Plan}
-use Rattle.chart_plan.specs.declared.plots.PlotPlan.{PlotPlan}
-use Rattle.chart_plan.specs.declared.sizes.SizePlan.TheVariants as size
-use Rattle.chart_plan.specs.declared.views.ViewPlan.TheVariants as view
+use Rattle.plan_kit.specs.declared.plan.Plan.{Plan}
+use Rattle.plan_kit.specs.declared.plots.PlotPlan.{PlotPlan}
+use Rattle.plan_kit.specs.declared.sizes.SizePlan.TheVariants as size
+use Rattle.plan_kit.specs.declared.views.ViewPlan.TheVariants as view
 use Rattle.chart_plan.specs.Plan.{plan_among, plan_over, plan_with, normal_plan, plan_of, unit_by}
 use Rattle.chart_plan.specs.Plots.{plots_of}
 use Rattle.chart_plan.specs.Scales.{seen_by}

@@ -16,13 +16,13 @@ use Rattle.scale_infer.specs.declared.sharers.Sharer.{Sharer}
 use Rattle.scale_infer.specs.Measures.{x_is_measure}
 use Rattle.scale_infer.specs.Said.{said_of}
 use Rattle.scale_infer.specs.Scales.{scale_over, scale_of as scale_inferred, scales_of as inferred}
-use Rattle.unit_plan.specs.declared.cells.CellOf.TheVariants.{Field}
-use Rattle.chart_plan.specs.declared.domains.DomainPlan.{DomainPlan}
-use Rattle.chart_plan.specs.declared.domains.DomainPlan.TheVariants as domain
-use Rattle.chart_plan.specs.declared.orders.CellOrder.{CellOrder}
-use Rattle.chart_plan.specs.declared.orders.CellOrder.TheVariants as order
-use Rattle.chart_plan.specs.declared.ranges.RangePlan.TheVariants.{Across}
-use Rattle.chart_plan.specs.declared.scales.ScalePlan.{ScalePlan}
+use Rattle.plan_kit.specs.declared.cells.CellOf.TheVariants.{Field}
+use Rattle.plan_kit.specs.declared.domains.DomainPlan.{DomainPlan}
+use Rattle.plan_kit.specs.declared.domains.DomainPlan.TheVariants as domain
+use Rattle.plan_kit.specs.declared.orders.CellOrder.{CellOrder}
+use Rattle.plan_kit.specs.declared.orders.CellOrder.TheVariants as order
+use Rattle.plan_kit.specs.declared.ranges.RangePlan.TheVariants.{Across}
+use Rattle.plan_kit.specs.declared.scales.ScalePlan.{ScalePlan}
 use Rattle.chart_plan.specs.Columns.{column, columns_of, of_channel, own_cells, second_cells}
 use Rattle.chart_plan.specs.Orders.{order_in, order_of, unit_order}
 use Rattle.chart_plan.specs.Plan.{all_scales}

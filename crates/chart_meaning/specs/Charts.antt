@@ -19,9 +19,9 @@ use Rattle.selection_events.specs.declared.selection.PlotOf.{PlotOf}
 use Rattle.selection_events.specs.Brushes.{with_brushes}
 use Rattle.selection_events.specs.Events.{Inverts}
 use Rattle.param_flow.specs.Semantics.{Picture, text_of}
-use Rattle.chart_plan.specs.declared.grids.GridPlan.{GridPlan}
-use Rattle.chart_plan.specs.declared.plan.Plan.{Plan}
-use Rattle.chart_plan.specs.declared.plots.PlotPlan.{PlotPlan}
+use Rattle.plan_kit.specs.declared.grids.GridPlan.{GridPlan}
+use Rattle.plan_kit.specs.declared.plan.Plan.{Plan}
+use Rattle.plan_kit.specs.declared.plots.PlotPlan.{PlotPlan}
 use Rattle.chart_plan.specs.Plan.{plan_of}
 use Rattle.chart_meaning.specs.Parameters.{settled, values_in}
 use Rattle.chart_meaning.specs.Parts.{whole_copy, names_of, by_a}

@@ -21,15 +21,15 @@ use Rattle.domain_kit.specs.declared.counting.Counting.{Counting}
 use Rattle.domain_kit.specs.declared.counting.Counting.TheVariants.{Numbers, ListedInstants}
 use Rattle.domain_kit.specs.Counting.{extent_among, numbers_or_instants, pair_in, widened_as_asked}
 use Rattle.scale_infer.specs.declared.codes.TheConstants.{LINEAR, POINT}
-use Rattle.unit_plan.specs.declared.cells.CellOf.{CellOf}
-use Rattle.unit_plan.specs.declared.cells.CellOf.TheVariants as shows
-use Rattle.chart_plan.specs.declared.columns.Column.{Column}
-use Rattle.chart_plan.specs.declared.domains.DomainPlan.{DomainPlan}
-use Rattle.chart_plan.specs.declared.domains.DomainPlan.TheVariants as domain
-use Rattle.chart_plan.specs.declared.orders.CellOrder.TheVariants as order
-use Rattle.chart_plan.specs.declared.orders.RowsOrder.{RowsOrder}
-use Rattle.chart_plan.specs.declared.ranges.RangePlan.TheVariants.{Across}
-use Rattle.chart_plan.specs.declared.scales.ScalePlan.{ScalePlan}
+use Rattle.plan_kit.specs.declared.cells.CellOf.{CellOf}
+use Rattle.plan_kit.specs.declared.cells.CellOf.TheVariants as shows
+use Rattle.plan_kit.specs.declared.columns.Column.{Column}
+use Rattle.plan_kit.specs.declared.domains.DomainPlan.{DomainPlan}
+use Rattle.plan_kit.specs.declared.domains.DomainPlan.TheVariants as domain
+use Rattle.plan_kit.specs.declared.orders.CellOrder.TheVariants as order
+use Rattle.plan_kit.specs.declared.orders.RowsOrder.{RowsOrder}
+use Rattle.plan_kit.specs.declared.ranges.RangePlan.TheVariants.{Across}
+use Rattle.plan_kit.specs.declared.scales.ScalePlan.{ScalePlan}
 use Rattle.guide_infer.specs.Axes.{is_continuous}
 use Rattle.chart_meaning.specs.Parts.{Copy, Domain, OfCells, OfNumbers, cells_in_order, rank_over, a_copy}
 

@@ -55,20 +55,20 @@ use Rattle.mark_shapes.specs.Shown.{shown}
 use Rattle.mark_shapes.specs.Spans.{span_of}
 use Rattle.mark_shapes.specs.Symbols.{symbol_of, symbol_with, side_shown}
 use Rattle.mark_shapes.specs.Texts.{text_with, whole_size, middle_below, words_of_cell, words_or_none}
-use Rattle.unit_plan.specs.declared.cells.CellOf.TheVariants as shows
-use Rattle.unit_plan.specs.declared.marks.Along.{Along}
-use Rattle.unit_plan.specs.declared.marks.Look.{Look as LookPlan}
-use Rattle.unit_plan.specs.declared.marks.Look.TheVariants as look
-use Rattle.unit_plan.specs.declared.marks.LookWay.{LookWay}
-use Rattle.unit_plan.specs.declared.marks.MarkPlan.{MarkPlan}
-use Rattle.unit_plan.specs.declared.marks.MarkShape.{MarkShape}
-use Rattle.unit_plan.specs.declared.marks.MarkShape.TheVariants as shape
-use Rattle.unit_plan.specs.declared.marks.Spot.{Spot}
-use Rattle.unit_plan.specs.declared.marks.Spot.TheVariants as spot
-use Rattle.unit_plan.specs.declared.marks.SpotWay.{SpotWay}
-use Rattle.unit_plan.specs.declared.marks.TextLook.{TextLook}
-use Rattle.unit_plan.specs.declared.marks.WordsWay.{WordsWay}
-use Rattle.unit_plan.specs.declared.plans.UnitPlan.{UnitPlan}
+use Rattle.plan_kit.specs.declared.cells.CellOf.TheVariants as shows
+use Rattle.plan_kit.specs.declared.marks.Along.{Along}
+use Rattle.plan_kit.specs.declared.marks.Look.{Look as LookPlan}
+use Rattle.plan_kit.specs.declared.marks.Look.TheVariants as look
+use Rattle.plan_kit.specs.declared.marks.LookWay.{LookWay}
+use Rattle.plan_kit.specs.declared.marks.MarkPlan.{MarkPlan}
+use Rattle.plan_kit.specs.declared.marks.MarkShape.{MarkShape}
+use Rattle.plan_kit.specs.declared.marks.MarkShape.TheVariants as shape
+use Rattle.plan_kit.specs.declared.marks.Spot.{Spot}
+use Rattle.plan_kit.specs.declared.marks.Spot.TheVariants as spot
+use Rattle.plan_kit.specs.declared.marks.SpotWay.{SpotWay}
+use Rattle.plan_kit.specs.declared.marks.TextLook.{TextLook}
+use Rattle.plan_kit.specs.declared.marks.WordsWay.{WordsWay}
+use Rattle.plan_kit.specs.declared.plans.UnitPlan.{UnitPlan}
 use Rattle.chart_meaning.specs.Domains.{cell_shown}
 
 -- A plot in which marks are drawn: its size, its scales by their numbers, and what expressions read.

@@ -22,15 +22,15 @@ use Rattle.domain_kit.specs.Cells.{in_first_order}
 use Rattle.domain_kit.specs.Orders.{in_direction, entry, by_rank}
 use Rattle.plain_facets.specs.Facets.{choices, part_of, cells_in, four_rows}
 use Rattle.plot_scenes.specs.declared.headers.Header.{Header}
-use Rattle.chart_plan.specs.declared.grids.FacetField.{FacetField}
-use Rattle.chart_plan.specs.declared.grids.FacetPlan.{FacetPlan}
-use Rattle.chart_plan.specs.declared.grids.GridColumns.{GridColumns}
-use Rattle.chart_plan.specs.declared.grids.GridColumns.TheVariants as columns
-use Rattle.chart_plan.specs.declared.grids.GridPlan.{GridPlan}
-use Rattle.chart_plan.specs.declared.orders.CellOrder.{CellOrder}
-use Rattle.chart_plan.specs.declared.orders.CellOrder.TheVariants as order
-use Rattle.chart_plan.specs.declared.orders.RowsOrder.{RowsOrder}
-use Rattle.chart_plan.specs.declared.plan.Plan.{Plan}
+use Rattle.plan_kit.specs.declared.grids.FacetField.{FacetField}
+use Rattle.plan_kit.specs.declared.grids.FacetPlan.{FacetPlan}
+use Rattle.plan_kit.specs.declared.grids.GridColumns.{GridColumns}
+use Rattle.plan_kit.specs.declared.grids.GridColumns.TheVariants as columns
+use Rattle.plan_kit.specs.declared.grids.GridPlan.{GridPlan}
+use Rattle.plan_kit.specs.declared.orders.CellOrder.{CellOrder}
+use Rattle.plan_kit.specs.declared.orders.CellOrder.TheVariants as order
+use Rattle.plan_kit.specs.declared.orders.RowsOrder.{RowsOrder}
+use Rattle.plan_kit.specs.declared.plan.Plan.{Plan}
 use Rattle.chart_meaning.specs.Rows.{unit_rows, rows_begun}
 
 -- ---- copies

@@ -14,13 +14,13 @@ use Rattle.plot_scenes.specs.declared.axes.Axes.{Axes}
 use Rattle.plot_scenes.specs.declared.axes.AxisShown.{AxisShown}
 use Rattle.plot_scenes.specs.declared.views.Plot.{Plot}
 use Rattle.plot_scenes.specs.Axes.{axes_at}
-use Rattle.unit_plan.specs.declared.plans.UnitPlan.{UnitPlan}
-use Rattle.chart_plan.specs.declared.plan.Plan.{Plan}
-use Rattle.chart_plan.specs.declared.plots.AxisPlan.{AxisPlan}
-use Rattle.chart_plan.specs.declared.plots.PlotPlan.{PlotPlan}
-use Rattle.chart_plan.specs.declared.scales.ScalePlan.{ScalePlan}
-use Rattle.chart_plan.specs.declared.selections.DragPlan.{DragPlan}
-use Rattle.chart_plan.specs.declared.selections.SelectionPlan.{SelectionPlan}
+use Rattle.plan_kit.specs.declared.plans.UnitPlan.{UnitPlan}
+use Rattle.plan_kit.specs.declared.plan.Plan.{Plan}
+use Rattle.plan_kit.specs.declared.plots.AxisPlan.{AxisPlan}
+use Rattle.plan_kit.specs.declared.plots.PlotPlan.{PlotPlan}
+use Rattle.plan_kit.specs.declared.scales.ScalePlan.{ScalePlan}
+use Rattle.plan_kit.specs.declared.selections.DragPlan.{DragPlan}
+use Rattle.plan_kit.specs.declared.selections.SelectionPlan.{SelectionPlan}
 use Rattle.chart_plan.specs.Selections.{place_word}
 use Rattle.chart_meaning.specs.Items.{InPlot, unit_items}
 use Rattle.chart_meaning.specs.Parts.{Copy, GridSpot, spot_at}

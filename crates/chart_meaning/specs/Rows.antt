@@ -21,9 +21,9 @@ use Rattle.plain_groups.specs.GroupRows.{data_aggregated, data_join_aggregated, 
 use Rattle.plain_bins.specs.Binned.{data_binned}
 use Rattle.plain_stacks.specs.Stacks.{data_stacked}
 use Rattle.plain_windows.specs.Windows.{data_windowed}
-use Rattle.unit_plan.specs.declared.plans.UnitPlan.{UnitPlan}
-use Rattle.unit_plan.specs.declared.steps.Step.{Step}
-use Rattle.unit_plan.specs.declared.steps.Step.TheVariants as step
+use Rattle.plan_kit.specs.declared.plans.UnitPlan.{UnitPlan}
+use Rattle.plan_kit.specs.declared.steps.Step.{Step}
+use Rattle.plan_kit.specs.declared.steps.Step.TheVariants as step
 use Rattle.chart_meaning.specs.Parameters.{is_lost}
 
 -- the present rows of a source; none where no source has the name

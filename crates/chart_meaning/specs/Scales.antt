@@ -16,12 +16,12 @@ use Rattle.scale_kit.specs.declared.scale.Scale.TheVariants.{Linear, Time, Band,
 use Rattle.domain_kit.specs.Entries.{category_colors, symbol_shapes, ramp_entries, entries_turned, color_from, color_to}
 use Rattle.vl_normalize.specs.declared.codes.TheConstants.{Y}
 use Rattle.scale_infer.specs.declared.codes.TheConstants.{LINEAR, TIME, BAND, POINT, RAMP}
-use Rattle.chart_plan.specs.declared.domains.DomainPlan.TheVariants as domain
-use Rattle.chart_plan.specs.declared.ranges.RangePlan.{RangePlan}
-use Rattle.chart_plan.specs.declared.ranges.RangePlan.TheVariants as range
-use Rattle.chart_plan.specs.declared.scales.ScalePlan.{ScalePlan}
-use Rattle.chart_plan.specs.declared.sizes.SizePlan.{SizePlan}
-use Rattle.chart_plan.specs.declared.sizes.SizePlan.TheVariants as size
+use Rattle.plan_kit.specs.declared.domains.DomainPlan.TheVariants as domain
+use Rattle.plan_kit.specs.declared.ranges.RangePlan.{RangePlan}
+use Rattle.plan_kit.specs.declared.ranges.RangePlan.TheVariants as range
+use Rattle.plan_kit.specs.declared.scales.ScalePlan.{ScalePlan}
+use Rattle.plan_kit.specs.declared.sizes.SizePlan.{SizePlan}
+use Rattle.plan_kit.specs.declared.sizes.SizePlan.TheVariants as size
 use Rattle.guide_infer.specs.Axes.{is_continuous}
 use Rattle.chart_meaning.specs.Domains.{a_scale_over}
 use Rattle.chart_meaning.specs.Parts.{Copy, Domain, OfCells, OfNumbers, a_copy}

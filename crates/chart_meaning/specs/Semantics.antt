@@ -25,12 +25,12 @@ use Rattle.param_flow.specs.Script.{IsOutputOf}
 use Rattle.param_flow.specs.Semantics.{Semantics, ParamKind as MeantKind, ParamOf as MeantParam}
 use Rattle.param_flow.specs.Semantics as meant
 use Rattle.param_flow.specs.States.{IsStateFor}
-use Rattle.unit_plan.specs.declared.plans.UnitPlan.{UnitPlan}
-use Rattle.chart_plan.specs.declared.plan.Plan.{Plan}
-use Rattle.chart_plan.specs.declared.plots.PlotPlan.{PlotPlan}
-use Rattle.chart_plan.specs.declared.scales.ScalePlan.{ScalePlan}
-use Rattle.chart_plan.specs.declared.selections.DragPlan.{DragPlan}
-use Rattle.chart_plan.specs.declared.selections.SelectionPlan.{SelectionPlan}
+use Rattle.plan_kit.specs.declared.plans.UnitPlan.{UnitPlan}
+use Rattle.plan_kit.specs.declared.plan.Plan.{Plan}
+use Rattle.plan_kit.specs.declared.plots.PlotPlan.{PlotPlan}
+use Rattle.plan_kit.specs.declared.scales.ScalePlan.{ScalePlan}
+use Rattle.plan_kit.specs.declared.selections.DragPlan.{DragPlan}
+use Rattle.plan_kit.specs.declared.selections.SelectionPlan.{SelectionPlan}
 use Rattle.chart_plan.specs.Plan.{plan_of}
 use Rattle.chart_plan.specs.Selections.{place_word}
 use Rattle.chart_meaning.specs.Charts.{picture_over, plots_of}

@@ -19,13 +19,13 @@ use Rattle.plot_scenes.specs.declared.views.GridShown.{GridShown}
 use Rattle.plot_scenes.specs.declared.views.Placed.{Placed}
 use Rattle.plot_scenes.specs.Scenes.{drawing_with}
 use Rattle.plot_scenes.specs.Views.{placed_plot, placed_grid}
-use Rattle.chart_plan.specs.declared.grids.GridPlan.{GridPlan}
-use Rattle.chart_plan.specs.declared.plan.Plan.{Plan}
-use Rattle.chart_plan.specs.declared.plots.PlotPlan.{PlotPlan}
-use Rattle.chart_plan.specs.declared.scales.ScalePlan.{ScalePlan}
-use Rattle.chart_plan.specs.declared.sizes.SizePlan.TheVariants.{Pixels}
-use Rattle.chart_plan.specs.declared.views.ViewPlan.{ViewPlan-F, fold-ViewPlan}
-use Rattle.chart_plan.specs.declared.views.ViewPlan.TheOpen as level
+use Rattle.plan_kit.specs.declared.grids.GridPlan.{GridPlan}
+use Rattle.plan_kit.specs.declared.plan.Plan.{Plan}
+use Rattle.plan_kit.specs.declared.plots.PlotPlan.{PlotPlan}
+use Rattle.plan_kit.specs.declared.scales.ScalePlan.{ScalePlan}
+use Rattle.plan_kit.specs.declared.sizes.SizePlan.TheVariants.{Pixels}
+use Rattle.plan_kit.specs.declared.views.ViewPlan.{ViewPlan-F, fold-ViewPlan}
+use Rattle.plan_kit.specs.declared.views.ViewPlan.TheOpen as level
 use Rattle.chart_meaning.specs.Domains.{with_domains, scales_held}
 use Rattle.chart_meaning.specs.Parameters.{keeps_all, Settled}
 use Rattle.chart_meaning.specs.Parts.{Copy, copies_in, columns_of, a_copy, by_a}

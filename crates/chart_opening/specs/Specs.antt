@@ -8,7 +8,7 @@ use Rattle.vega_spec.specs.declared.spec.VgSpec.{VgSpec}
 use Rattle.vega_model.specs.Reading.{Refused, read_of}
 use Rattle.vl_spec.specs.declared.spec.VlSpec.{VlSpec}
 use Rattle.vl_model.specs.Reading as vl
-use Rattle.vega_assemble.specs.Assembled.{assembled}
+use Rattle.vega_compile.specs.Compiled.{assembled}
 use Rattle.vega_copies.specs.Tested.{keeps_rules}
 use Rattle.selection_rules.specs.Tested.{keeps_selections}
 use Rattle.first_form.specs.declared.form.FirstForm.{FirstForm}

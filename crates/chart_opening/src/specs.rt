@@ -19,7 +19,7 @@ use selection_rules::keeps_selections;
 use spec_schema::{SpecError, SpecKind};
 use std::alloc::Global;
 use text_kit::{OutOfMemory, Text};
-use vega_assemble::assemble;
+use vega_compile::assemble;
 use vega_copies::keeps_rules;
 use vega_spec::VgSpec;
 use vl_spec::VlSpec;

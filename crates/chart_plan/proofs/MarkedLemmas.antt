@@ -15,8 +15,8 @@ use Rattle.vl_compose.specs.declared.here.UnitHere.{UnitHere}
 use Rattle.vl_compose.specs.Rounds.{ViewAt}
 use Rattle.vl_compose.specs.Shown.{unit_shown}
 use Rattle.vl_compose.specs.Units.{UnitAt}
-use Rattle.chart_plan.specs.declared.plots.PlotPlan.{PlotPlan}
-use Rattle.chart_plan.specs.declared.scales.ScalePlan.{ScalePlan}
+use Rattle.plan_kit.specs.declared.plots.PlotPlan.{PlotPlan}
+use Rattle.plan_kit.specs.declared.scales.ScalePlan.{ScalePlan}
 use Rattle.guide_infer.specs.First.{first_given}
 use Rattle.chart_plan.specs.Plots.{is_in, number_in}
 use Rattle.chart_plan.specs.Selections.{concerns, drag_channels, first_concerned, has_param, is_concerned_in, is_named, kept_with, plan_by, plan_if, plot_drags}

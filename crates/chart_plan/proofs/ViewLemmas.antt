@@ -11,8 +11,8 @@ use Rattle.vl_spec.specs.declared.views.ViewKind.TheVariants as kind
 use Rattle.vl_spec.specs.declared.views.ViewKind.TheVariants.{rolls-Unit, rolls-Layer, rolls-Facet, rolls-Joined}
 use Rattle.vl_spec.specs.declared.views.ViewKind.TheOpen as level
 use Rattle.chart_plan.specs.declared.views.Counted.{Counted}
-use Rattle.chart_plan.specs.declared.views.ViewPlan.{ViewPlan}
-use Rattle.chart_plan.specs.declared.views.ViewPlan.TheVariants as view
+use Rattle.plan_kit.specs.declared.views.ViewPlan.{ViewPlan}
+use Rattle.plan_kit.specs.declared.views.ViewPlan.TheVariants as view
 use Rattle.chart_plan.specs.Views.{Tree, and_grid, before_others, in_row, plot_tree, grid_of, grid_tree, kind_here}
 use Rattle.chart_plan.specs.Views.{faceted_here, joined_here, layer_here, view_here, tree_of, kind_tree, faceted_tree, joined_tree, layer_tree}
 

@@ -11,15 +11,15 @@ use Rattle.vl_spec.specs.declared.definitions.Definition.{Definition}
 use Rattle.vl_compose.specs.Definitions.{definitions_at, definitions_of}
 use Rattle.vl_compose.specs.Units.{UnitAt}
 use Rattle.scale_infer.specs.Types.{is_binned}
-use Rattle.unit_plan.specs.declared.cells.CellOf.{CellOf}
-use Rattle.unit_plan.specs.declared.cells.CellOf.TheVariants.{Field}
+use Rattle.plan_kit.specs.declared.cells.CellOf.{CellOf}
+use Rattle.plan_kit.specs.declared.cells.CellOf.TheVariants.{Field}
 use Rattle.unit_plan.specs.declared.stacks.Stacked.{Stacked}
 use Rattle.unit_plan.specs.Cells.{cell_of, end_of}
 use Rattle.unit_plan.specs.Ends.{shows_stack}
 use Rattle.unit_plan.specs.Stacks.{stack_of}
-use Rattle.chart_plan.specs.declared.columns.Column.{Column}
+use Rattle.plan_kit.specs.declared.columns.Column.{Column}
 use Rattle.guide_infer.specs.Axes.{is_continuous}
-use Rattle.chart_plan.specs.Shown.{is_among}
+use Rattle.plan_kit.specs.Among.{is_among}
 
 -- the cell of a definition; on a continuous scale the end of its bin too
 abbrev pub bin_end : ℕ → Definition → Option (List ℕ)

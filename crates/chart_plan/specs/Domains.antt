@@ -18,10 +18,10 @@ use Rattle.vl_spec.specs.declared.scales.Domain.TheVariants as domain
 use Rattle.vl_spec.specs.declared.scales.ParamDomain.{ParamDomain}
 use Rattle.vl_spec.specs.declared.scales.Scale.{Scale}
 use Rattle.vl_compose.specs.Units.{UnitAt}
-use Rattle.chart_plan.specs.declared.domains.DomainPlan.{DomainPlan}
-use Rattle.chart_plan.specs.declared.domains.DomainPlan.TheVariants.{Cells, Columns}
-use Rattle.chart_plan.specs.declared.orders.CellOrder.{CellOrder}
-use Rattle.chart_plan.specs.declared.orders.CellOrder.TheVariants.{Up}
+use Rattle.plan_kit.specs.declared.domains.DomainPlan.{DomainPlan}
+use Rattle.plan_kit.specs.declared.domains.DomainPlan.TheVariants.{Cells, Columns}
+use Rattle.plan_kit.specs.declared.orders.CellOrder.{CellOrder}
+use Rattle.plan_kit.specs.declared.orders.CellOrder.TheVariants.{Up}
 use Rattle.guide_infer.specs.Axes.{is_continuous}
 use Rattle.chart_plan.specs.Columns.{columns_of}
 use Rattle.guide_infer.specs.First.{first_given}

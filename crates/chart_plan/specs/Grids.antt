@@ -21,13 +21,13 @@ use Rattle.vl_spec.specs.declared.views.Joining.{Joining}
 use Rattle.vl_spec.specs.declared.views.Joining.TheVariants as joining
 use Rattle.vl_compose.specs.Rounds.{KindAt, AUnit, ALayer, AFacet, AJoined, FacetAt, JoinedAt, ViewAt}
 use Rattle.vl_compose.specs.Units.{UnitAt}
-use Rattle.chart_plan.specs.declared.grids.FacetField.{FacetField}
-use Rattle.chart_plan.specs.declared.grids.FacetPlan.{FacetPlan}
-use Rattle.chart_plan.specs.declared.grids.GridColumns.{GridColumns}
-use Rattle.chart_plan.specs.declared.grids.GridColumns.TheVariants.{OneRow, Count, Crossed}
-use Rattle.chart_plan.specs.declared.grids.GridPlan.{GridPlan}
-use Rattle.chart_plan.specs.declared.orders.CellOrder.{CellOrder}
-use Rattle.chart_plan.specs.declared.orders.CellOrder.TheVariants.{Up}
+use Rattle.plan_kit.specs.declared.grids.FacetField.{FacetField}
+use Rattle.plan_kit.specs.declared.grids.FacetPlan.{FacetPlan}
+use Rattle.plan_kit.specs.declared.grids.GridColumns.{GridColumns}
+use Rattle.plan_kit.specs.declared.grids.GridColumns.TheVariants.{OneRow, Count, Crossed}
+use Rattle.plan_kit.specs.declared.grids.GridPlan.{GridPlan}
+use Rattle.plan_kit.specs.declared.orders.CellOrder.{CellOrder}
+use Rattle.plan_kit.specs.declared.orders.CellOrder.TheVariants.{Up}
 use Rattle.guide_infer.specs.Axes.{count_of}
 use Rattle.chart_plan.specs.Orders.{order_in, start_in}
 

@@ -18,15 +18,15 @@ use Rattle.vl_compose.specs.Definitions.{definitions_at}
 use Rattle.vl_compose.specs.Units.{UnitAt}
 use Rattle.scale_infer.specs.Scales.{first_at}
 use Rattle.scale_infer.specs.Types.{is_aggregated}
-use Rattle.unit_plan.specs.declared.cells.CellOf.{CellOf}
-use Rattle.unit_plan.specs.declared.cells.CellOf.TheVariants as cell_of_row
+use Rattle.plan_kit.specs.declared.cells.CellOf.{CellOf}
+use Rattle.plan_kit.specs.declared.cells.CellOf.TheVariants as cell_of_row
 use Rattle.unit_plan.specs.Cells.{cell_of}
 use Rattle.unit_plan.specs.Stacks.{stack_of}
-use Rattle.chart_plan.specs.declared.orders.CellOrder.{CellOrder}
-use Rattle.chart_plan.specs.declared.orders.CellOrder.TheVariants.{First, Up, Down, Listed, ByRows}
+use Rattle.plan_kit.specs.declared.orders.CellOrder.{CellOrder}
+use Rattle.plan_kit.specs.declared.orders.CellOrder.TheVariants.{First, Up, Down, Listed, ByRows}
 use Rattle.chart_plan.specs.Columns.{stack_in}
 use Rattle.guide_infer.specs.First.{first_given}
-use Rattle.chart_plan.specs.Shown.{is_among}
+use Rattle.plan_kit.specs.Among.{is_among}
 
 -- the codes of `sum` and `min`
 abbrev pub sum_code : ℕ

@@ -8,11 +8,11 @@ use Rattle.vl_spec.specs.declared.spec.VlSpec.{VlSpec}
 use Rattle.vl_normalize.specs.Normal.{normal_form}
 use Rattle.vl_compose.specs.Units.{UnitAt, units_of}
 use Rattle.scale_infer.specs.Scales.{scales_of as inferred}
-use Rattle.unit_plan.specs.declared.plans.UnitPlan.{UnitPlan}
+use Rattle.plan_kit.specs.declared.plans.UnitPlan.{UnitPlan}
 use Rattle.unit_plan.specs.Plans.{unit_plan_of}
-use Rattle.chart_plan.specs.declared.plan.Plan.{Plan}
-use Rattle.chart_plan.specs.declared.plots.PlotPlan.{PlotPlan}
-use Rattle.chart_plan.specs.declared.scales.ScalePlan.{ScalePlan}
+use Rattle.plan_kit.specs.declared.plan.Plan.{Plan}
+use Rattle.plan_kit.specs.declared.plots.PlotPlan.{PlotPlan}
+use Rattle.plan_kit.specs.declared.scales.ScalePlan.{ScalePlan}
 use Rattle.chart_plan.specs.Grids.{grids_of}
 use Rattle.chart_plan.specs.Plots.{plots_of}
 use Rattle.chart_plan.specs.Scales.{scale_of, seen_by}

@@ -16,10 +16,10 @@ use Rattle.vl_compose.specs.Units.{UnitAt}
 use Rattle.vl_compose.specs.Views.{facets_of, plot_of}
 use Rattle.unit_plan.specs.declared.seen.ScaleSeen.{ScaleSeen}
 use Rattle.unit_plan.specs.Seen.{seen_at}
-use Rattle.chart_plan.specs.declared.plots.AxisPlan.{AxisPlan}
-use Rattle.chart_plan.specs.declared.plots.PlotPlan.{PlotPlan}
-use Rattle.chart_plan.specs.declared.scales.ScalePlan.{ScalePlan}
-use Rattle.chart_plan.specs.declared.sizes.SizePlan.{SizePlan}
+use Rattle.plan_kit.specs.declared.plots.AxisPlan.{AxisPlan}
+use Rattle.plan_kit.specs.declared.plots.PlotPlan.{PlotPlan}
+use Rattle.plan_kit.specs.declared.scales.ScalePlan.{ScalePlan}
+use Rattle.plan_kit.specs.declared.sizes.SizePlan.{SizePlan}
 use Rattle.guide_infer.specs.Axes.{axis_by, is_continuous}
 use Rattle.guide_infer.specs.First.{first_given}
 use Rattle.guide_infer.specs.Said.{is_bare, with_axes}

@@ -14,8 +14,8 @@ use Rattle.vl_spec.specs.declared.scales.Scale.{Scale}
 use Rattle.vl_spec.specs.declared.scales.Scheme.{Scheme}
 use Rattle.vl_spec.specs.declared.scales.Scheme.TheVariants as scheme
 use Rattle.scale_infer.specs.declared.codes.TheConstants.{LINEAR, TIME, BAND, POINT, ORDINAL, RAMP}
-use Rattle.chart_plan.specs.declared.ranges.RangePlan.{RangePlan}
-use Rattle.chart_plan.specs.declared.ranges.RangePlan.TheVariants.{Across, Between, Entries, Colors, Blues, Signs}
+use Rattle.plan_kit.specs.declared.ranges.RangePlan.{RangePlan}
+use Rattle.plan_kit.specs.declared.ranges.RangePlan.TheVariants.{Across, Between, Entries, Colors, Blues, Signs}
 use Rattle.guide_infer.specs.Axes.{is_continuous}
 use Rattle.guide_infer.specs.First.{first_given}
 

@@ -16,13 +16,14 @@ use Rattle.scale_infer.specs.declared.codes.TheConstants.{TIME, RAMP}
 use Rattle.scale_infer.specs.Types.{is_temporal, scale_in, type_of}
 use Rattle.scale_infer.specs.declared.scales.ScaleOf.{ScaleOf}
 use Rattle.unit_plan.specs.declared.seen.ScaleSeen.{ScaleSeen}
-use Rattle.chart_plan.specs.declared.domains.DomainPlan.{DomainPlan}
-use Rattle.chart_plan.specs.declared.scales.ScalePlan.{ScalePlan}
+use Rattle.plan_kit.specs.declared.domains.DomainPlan.{DomainPlan}
+use Rattle.plan_kit.specs.declared.scales.ScalePlan.{ScalePlan}
 use Rattle.chart_plan.specs.Domains.{alone_domain, raw_of, shared_domain}
 use Rattle.guide_infer.specs.Legends.{legend_of}
 use Rattle.chart_plan.specs.Ranges.{range_of, reverse_of, rises}
 use Rattle.guide_infer.specs.Said.{is_bare}
-use Rattle.chart_plan.specs.Shown.{all_shown, is_among}
+use Rattle.plan_kit.specs.Among.{is_among}
+use Rattle.chart_plan.specs.Shown.{all_shown}
 
 -- whether a view says that the views in it have a scale of their own for a channel
 abbrev pub says_independent : ℕ → ViewAt → Bool

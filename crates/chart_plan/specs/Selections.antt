@@ -37,10 +37,10 @@ use Rattle.unit_plan.specs.declared.seen.ScaleSeen.{ScaleSeen}
 use Rattle.unit_plan.specs.Cells.{cell_of}
 use Rattle.unit_plan.specs.Groups.{group_names}
 use Rattle.unit_plan.specs.Seen.{seen_at}
-use Rattle.chart_plan.specs.declared.plots.PlotPlan.{PlotPlan}
-use Rattle.chart_plan.specs.declared.scales.ScalePlan.{ScalePlan}
-use Rattle.chart_plan.specs.declared.selections.DragPlan.{DragPlan}
-use Rattle.chart_plan.specs.declared.selections.SelectionPlan.{SelectionPlan}
+use Rattle.plan_kit.specs.declared.plots.PlotPlan.{PlotPlan}
+use Rattle.plan_kit.specs.declared.scales.ScalePlan.{ScalePlan}
+use Rattle.plan_kit.specs.declared.selections.DragPlan.{DragPlan}
+use Rattle.plan_kit.specs.declared.selections.SelectionPlan.{SelectionPlan}
 use Rattle.chart_plan.specs.Grids.{shown_by}
 use Rattle.guide_infer.specs.Once.{each_once}
 use Rattle.chart_plan.specs.Orders.{field_in, name_of}

@@ -2,18 +2,14 @@
 -- have one for each unit alone that has none there, since it shows nothing or pixels alone; so each unit has one scale of x and one of y. The scales
 -- stand by the codes of their channels, then by their first units; behind them those of units alone, first of x and then of y. A scale's number is its
 -- place, counted from 0.
-use Rattle.std.specs.Prelude.{ℕ, ◌==◌, Bool, not, List, [], ◌∷◌, ◌++◌, filter, flat_map, map, if◌then◌else◌}
-use Rattle.std.specs.List.{list_any}
+use Rattle.std.specs.Prelude.{ℕ, not, List, [], ◌∷◌, ◌++◌, filter, flat_map, map, if◌then◌else◌}
 use Rattle.vl_spec.specs.declared.definitions.Definition.{Definition}
 use Rattle.vl_normalize.specs.declared.codes.TheConstants.{X, Y}
 use Rattle.vl_compose.specs.declared.views.SharedScale.{SharedScale}
 use Rattle.vl_compose.specs.Definitions.{definitions_at}
 use Rattle.vl_compose.specs.Sharing.{has_scale, shared_scales}
 use Rattle.vl_compose.specs.Units.{UnitAt}
-
--- whether a number is one of some
-abbrev pub is_among : List ℕ → ℕ → Bool
-is_among numbers n = list_any (λ m. m == n) numbers
+use Rattle.plan_kit.specs.Among.{is_among}
 
 -- what a unit shows in a channel on a scale of these units: the channel's own definition and those of its conditions, if it is one of them
 abbrev pub shown_in : ℕ → List ℕ → UnitAt → List Definition

@@ -10,8 +10,8 @@ use Rattle.vl_normalize.specs.declared.codes.TheConstants.{X}
 use Rattle.vl_spec.specs.declared.sizes.ConfigView.{ConfigView}
 use Rattle.vl_spec.specs.declared.sizes.Size.{Size}
 use Rattle.vl_spec.specs.declared.sizes.Size.TheVariants as size
-use Rattle.chart_plan.specs.declared.sizes.SizePlan.{SizePlan}
-use Rattle.chart_plan.specs.declared.sizes.SizePlan.TheVariants.{Pixels, Steps}
+use Rattle.plan_kit.specs.declared.sizes.SizePlan.{SizePlan}
+use Rattle.plan_kit.specs.declared.sizes.SizePlan.TheVariants.{Pixels, Steps}
 use Rattle.guide_infer.specs.First.{first_given}
 
 -- ---- what is said

@@ -9,8 +9,8 @@ use Rattle.vl_spec.specs.declared.views.View.{View, View-F, fold-View}
 use Rattle.vl_spec.specs.declared.views.ViewKind.{ViewKind, ViewKind-F, fold-ViewKind}
 use Rattle.vl_spec.specs.declared.views.ViewKind.TheOpen as level
 use Rattle.chart_plan.specs.declared.views.Counted.{Counted}
-use Rattle.chart_plan.specs.declared.views.ViewPlan.{ViewPlan}
-use Rattle.chart_plan.specs.declared.views.ViewPlan.TheVariants.{Plot, Grid}
+use Rattle.plan_kit.specs.declared.views.ViewPlan.{ViewPlan}
+use Rattle.plan_kit.specs.declared.views.ViewPlan.TheVariants.{Plot, Grid}
 
 -- a view as a tree, once it is known how many plots and grids stand before it; and how many there are then
 abbrev pub Tree : Type 0

@@ -7,30 +7,15 @@ ghost use Rattle.chart_plan.specs.Columns.{bin_end, field_cells, end_cells, cell
 ghost use Rattle.chart_plan.specs.Columns.{second_of, cells_at, second_cells, unit_cells, column, columns_in, columns_of};
 
 use crate::seconds::seconds_at;
-use crate::shown::is_among;
 use guide_infer::is_continuous;
+use plan_kit::{CellOf, Column, is_among};
 use scale_infer::is_binned;
 use std::alloc::Global;
 use text_kit::{OutOfMemory, Seq, Text};
-use unit_plan::{CellOf, Stacked, end_of, shows_stack, stack_of};
+use unit_plan::{Stacked, end_of, shows_stack, stack_of};
 use vl_compose::UnitHere;
 use vl_normalize::{X, X2, Y, Y2};
 use vl_spec::{ChannelOf, Definition};
-
-/// Cells that count for a domain: those of each row of a unit.
-pub struct Column {
-    /// The number of the unit, counted from 0.
-    pub unit: usize,
-    /// Which cell of its rows.
-    pub cell: CellOf,
-}
-
-impl Drop for Column {
-    fn drop(self) {
-        let Column { unit: _, cell } = self;
-        drop(cell);
-    }
-}
 
 // The name of the end of a definition's bin.
 fn bin_end(

@@ -6,49 +6,17 @@ ghost use Rattle.guide_infer.specs.First.{first_given};
 ghost use Rattle.chart_plan.specs.Domains.{domain_said, first_named, first_kept, kept_first, member, ends_kept, channel_meant, ends_of, raw_by, raw_of};
 ghost use Rattle.chart_plan.specs.Domains.{named_kind, listed, order_for, of_rows, shared_domain, alone_domain};
 
-use crate::columns::{Column, columns_of};
-use crate::orders::{CellOrder, order_of};
+use crate::columns::columns_of;
+use crate::orders::order_of;
 use cell_value::Cell;
 use expr_syntax::Expr;
 use guide_infer::is_continuous;
+use plan_kit::{CellOrder, Column, DomainPlan, RowCells};
 use std::alloc::Global;
 use text_kit::{Copies, OutOfMemory, Seq, Text};
 use vl_compose::UnitHere;
 use vl_normalize::{X, Y};
 use vl_spec::{Domain, ParamDomain, ParamKind, ParamOf, Scale, Select};
-
-/// Cells of rows as a domain.
-pub struct RowCells {
-    /// Which cells count, view after view.
-    pub columns: Seq<Column>,
-    /// In which order they stand; on a continuous scale it means nothing.
-    pub order: CellOrder,
-}
-
-/// The domain of a scale.
-pub enum DomainPlan {
-    /// These cells.
-    Cells(Seq<Cell>),
-    /// Cells of rows.
-    Columns(RowCells),
-}
-
-impl Drop for RowCells {
-    fn drop(self) {
-        let RowCells { columns, order } = self;
-        drop(columns);
-        drop(order);
-    }
-}
-
-impl Drop for DomainPlan {
-    fn drop(self) {
-        match self {
-            DomainPlan::Cells(_) => {}
-            DomainPlan::Columns(of) => drop(of),
-        }
-    }
-}
 
 // The first domain that is given.
 fn domain_said<'s>(said: &[&'s Scale]) -> Option<&'s Domain>

@@ -22,14 +22,5 @@ mod shown;
 mod sizes;
 mod views;
 
-pub use columns::Column;
-pub use domains::{DomainPlan, RowCells};
-pub use grids::{FacetField, FacetPlan, GridColumns, GridPlan};
-pub use orders::{CellOrder, RowsOrder};
-pub use plan::{Plan, plan_of};
-pub use plots::{AxisPlan, PlotPlan};
-pub use ranges::RangePlan;
-pub use scales::ScalePlan;
-pub use selections::{DragPlan, SelectionPlan};
-pub use sizes::{SizePlan, size_of};
-pub use views::ViewPlan;
+pub use plan::plan_of;
+pub use sizes::size_of;

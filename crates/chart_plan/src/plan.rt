@@ -3,58 +3,21 @@ ghost use Rattle.std.specs.Prelude.{◌≡◌, map, unwrap_or, IfOk};
 ghost use Rattle.vl_compose.specs.Shown.{unit_shown};
 ghost use Rattle.chart_plan.specs.Plan.{all_scales, unit_by, usual_padding, plan_with, plan_over, plan_among, normal_plan, plan_of};
 
-use crate::grids::{GridPlan, grids_of};
-use crate::plots::{PlotPlan, plots_of};
-use crate::scales::{ScalePlan, scales_of, seen_by};
-use crate::selections::{SelectionPlan, selections_of};
+use crate::grids::grids_of;
+use crate::plots::plots_of;
+use crate::scales::{scales_of, seen_by};
+use crate::selections::selections_of;
 use crate::shown::scales_among;
-use crate::views::{ViewPlan, view_of};
+use crate::views::view_of;
 use fixed_num::Num;
+use plan_kit::{GridPlan, Plan, PlotPlan, ScalePlan, SelectionPlan, UnitPlan, ViewPlan};
 use scale_infer::infer;
 use std::alloc::Global;
 use text_kit::{OutOfMemory, Seq};
-use unit_plan::{SelectionNames, UnitPlan, selection_names, unit_plan_of};
+use unit_plan::{SelectionNames, selection_names, unit_plan_of};
 use vl_compose::{UnitHere, units_of, views_of};
 use vl_normalize::normalize;
 use vl_spec::{ParamOf, VlSpec};
-
-/// The plan of a chart. Its sources and its parameters stay in the specification.
-pub struct Plan {
-    /// The units, in the order of the text.
-    pub units: Seq<UnitPlan>,
-    /// The scales, by their numbers.
-    pub scales: Seq<ScalePlan>,
-    /// The plots, in the order of the text.
-    pub plots: Seq<PlotPlan>,
-    /// The grids, an outer one before those in it, and else in the order of the text.
-    pub grids: Seq<GridPlan>,
-    /// How plots and grids stand in each other.
-    pub view: ViewPlan,
-    /// The space round the picture, in pixels.
-    pub padding: Num,
-    /// The selections, in the order of the text.
-    pub selections: Seq<SelectionPlan>,
-}
-
-impl Drop for Plan {
-    fn drop(self) {
-        let Plan {
-            units,
-            scales,
-            plots,
-            grids,
-            view,
-            padding: _,
-            selections,
-        } = self;
-        drop(units);
-        drop(scales);
-        drop(plots);
-        drop(grids);
-        drop(view);
-        drop(selections);
-    }
-}
 
 // The scales of a specification in normal form.
 fn all_scales(alloc: Global, s: &VlSpec, units: &[UnitHere]) -> Result<Seq<ScalePlan>, OutOfMemory>

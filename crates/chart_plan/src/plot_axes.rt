@@ -4,10 +4,10 @@ ghost use Rattle.vl_compose.specs.Shown.{unit_shown};
 ghost use Rattle.chart_plan.specs.Plots.{is_in, unit_shows, all_shows, axis_definitions, is_behind, edges_of, axis_plan, and_axis};
 ghost use Rattle.chart_plan.specs.Plots.{with_axis, axes_along, axes_of};
 
-use crate::plots::{AxisPlan, is_in};
-use crate::scales::ScalePlan;
+use crate::plots::is_in;
 use crate::shown::push_shown;
 use guide_infer::{axis_by, is_bare, with_axes};
+use plan_kit::{AxisPlan, ScalePlan};
 use std::alloc::Global;
 use text_kit::{OutOfMemory, Seq};
 use vl_compose::UnitHere;

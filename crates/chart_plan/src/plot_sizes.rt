@@ -8,9 +8,10 @@ ghost use Rattle.chart_plan.specs.Plots.{is_in, size_said, size_at, unit_sizes, 
 ghost use Rattle.chart_plan.specs.Plots.{shown_in_plot, scale_of_plot, size_on, plot_size};
 
 use crate::plots::is_in;
-use crate::scales::{ScalePlan, seen_by};
-use crate::sizes::{SizePlan, size_of};
+use crate::scales::seen_by;
+use crate::sizes::size_of;
 use guide_infer::is_continuous;
+use plan_kit::{ScalePlan, SizePlan};
 use std::alloc::Global;
 use text_kit::{OutOfMemory, Seq};
 use unit_plan::{ScaleSeen, seen_at};

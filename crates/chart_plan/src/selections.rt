@@ -13,50 +13,16 @@ ghost use Rattle.chart_plan.specs.inner.Marked.{plan_at, plan_marked, param_mark
 use crate::drags::{drag_channels, dragged};
 use crate::kept::names_of_channels;
 use crate::marked::{marks_of, places_of};
-use crate::plots::{PlotPlan, number_in};
-use crate::scales::ScalePlan;
+use crate::plots::number_in;
 use crate::shown::small;
 use guide_infer::each_once;
+use plan_kit::{DragPlan, PlotPlan, ScalePlan, SelectionPlan};
 use selection_events::SelectionOf;
 use std::alloc::Global;
 use text_kit::{Copies, OutOfMemory, Seq, Text};
 use unit_plan::{ScaleSeen, group_names, seen_at};
 use vl_compose::UnitHere;
 use vl_spec::{ParamKind, ParamOf, Select, SelectType, Selection};
-
-/// A drag of a selection in a plot, along a channel.
-pub struct DragPlan {
-    /// The number of the plot's view.
-    pub plot: usize,
-    /// The code of the channel: x or y.
-    pub channel: u16,
-    /// The number of the scale that is inverted.
-    pub scale: usize,
-}
-
-/// A selection.
-pub struct SelectionPlan {
-    /// What it keeps, and of which units.
-    pub kept: SelectionOf,
-    /// What a drag of it inverts, plot after plot; none of a point.
-    pub drags: Seq<DragPlan>,
-}
-
-impl Drop for DragPlan {
-    fn drop(self) {
-        let DragPlan {
-            plot: _,
-            channel: _,
-            scale: _,
-        } = self;
-    }
-}
-
-impl Drop for SelectionPlan {
-    fn drop(self) {
-        let SelectionPlan { kept: _, drags: _ } = self;
-    }
-}
 
 // The type of a selection.
 pub(crate) fn type_in(select: &Select) -> SelectType

@@ -2,8 +2,10 @@
 ghost use Rattle.std.specs.Prelude.{◌≡◌, ◌++◌, ◌∷◌, [], map, not, IfOk, OnOk, if◌then◌else◌};
 ghost use Rattle.vl_compose.specs.Sharing.{has_scale};
 ghost use Rattle.vl_compose.specs.Shown.{unit_shown};
-ghost use Rattle.chart_plan.specs.Shown.{is_among, shown_in, all_shown, alone_in, alone_for, scales_among};
+ghost use Rattle.plan_kit.specs.Among.{is_among};
+ghost use Rattle.chart_plan.specs.Shown.{shown_in, all_shown, alone_in, alone_for, scales_among};
 
+use plan_kit::is_among;
 use std::alloc::Global;
 use text_kit::{OutOfMemory, Seq};
 use vl_compose::{SharedScale, UnitHere, definitions_at, shared_scales};
@@ -18,18 +20,6 @@ pub(crate) fn small(number: usize) -> Result<u32, OutOfMemory>
         Ok(n) => Ok(n),
         Err(_) => Err(OutOfMemory),
     }
-}
-
-/// Whether a number is one of some.
-pub(crate) fn is_among(numbers: &[u32], number: usize) -> bool
-    ensures { result ≡ is_among numbers.now number }
-{
-    for one in numbers {
-        if *one as usize == number {
-            return true;
-        }
-    }
-    false
 }
 
 // Adds definitions.

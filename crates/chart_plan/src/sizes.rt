@@ -5,17 +5,9 @@ ghost use Rattle.chart_plan.specs.Sizes.{size_by, said_size, continuous_member, 
 ghost use Rattle.chart_plan.specs.Sizes.{continuous_size, step_of, discrete_by, steps, discrete_size, default_size, size_of};
 
 use fixed_num::Num;
+use plan_kit::SizePlan;
 use vl_normalize::X;
 use vl_spec::{ConfigView, Size};
-
-/// The width or the height of a plot.
-#[derive(Clone, Copy)]
-pub enum SizePlan {
-    /// So many pixels.
-    Pixels(Num),
-    /// So many pixels from one cell to the next, on the scale of a number.
-    Steps(Num, usize),
-}
 
 // So many whole pixels, fewer than 4,000.
 fn pixels(count: u16) -> Num

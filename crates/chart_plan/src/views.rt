@@ -2,19 +2,10 @@
 ghost use Rattle.std.specs.Prelude.{◌≡◌, ◌+◌, map, IfOk, OnOk};
 ghost use Rattle.chart_plan.specs.Views.{and_plot, and_grid, in_row, plot_tree, tree_of, kind_tree, faceted_tree, joined_tree, layer_tree, view_of};
 
+use plan_kit::ViewPlan;
 use std::alloc::Global;
 use text_kit::{OutOfMemory, Seq};
 use vl_spec::{Faceted, Joined, Layer, View, ViewKind, VlSpec};
-
-/// A view.
-#[cycle(views)]
-#[derive(Drop)]
-pub enum ViewPlan {
-    /// The plot at a place among the plots of the plan, counted from 0.
-    Plot(usize),
-    /// The grid at a place among the grids of the plan, and the views in it, one alone in a facet.
-    Grid(usize, Seq<ViewPlan>),
-}
 
 /// How many plots and grids there are.
 #[derive(Drop)]

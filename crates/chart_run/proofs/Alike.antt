@@ -28,7 +28,7 @@ use Rattle.vega_model.specs.Faults.{first_fault_of}
 use Rattle.vega_model.specs.Reading.{read_of, unless_fault}
 use Rattle.vl_spec.specs.declared.spec.VlSpec.{VlSpec}
 use Rattle.vl_model.specs.Reading as vl
-use Rattle.vega_assemble.specs.Assembled.{assembled}
+use Rattle.vega_compile.specs.Compiled.{assembled}
 use Rattle.vega_writing.specs.Spec.{tree_of}
 use Rattle.compiled_bars.specs.Bars.{bars_over}
 use Rattle.compiled_bars.specs.Rows.{values_over, row_object, IsRow}

@@ -2,13 +2,13 @@
 use Rattle.std.proofs.Common.{◌≡◌, ℕ, Option, Some, None, List, [], ◌∷◌, map, refl, sym, ap, subst}
 use Rattle.std.specs.Prelude.{slice_get}
 use Rattle.std.specs.Option.{option_map_or}
-use Rattle.unit_plan.specs.declared.plans.UnitPlan.{UnitPlan}
-use Rattle.chart_plan.specs.declared.grids.FacetPlan.{FacetPlan}
-use Rattle.chart_plan.specs.declared.grids.GridPlan.{GridPlan}
-use Rattle.chart_plan.specs.declared.plan.Plan.{Plan}
-use Rattle.chart_plan.specs.declared.plots.PlotPlan.{PlotPlan}
-use Rattle.chart_plan.specs.declared.views.ViewPlan.{ViewPlan, ViewPlan-F, fold-roll-ViewPlan, ind-ViewPlan, map-ViewPlan, roll-ViewPlan}
-use Rattle.chart_plan.specs.declared.views.ViewPlan.TheOpen as level
+use Rattle.plan_kit.specs.declared.plans.UnitPlan.{UnitPlan}
+use Rattle.plan_kit.specs.declared.grids.FacetPlan.{FacetPlan}
+use Rattle.plan_kit.specs.declared.grids.GridPlan.{GridPlan}
+use Rattle.plan_kit.specs.declared.plan.Plan.{Plan}
+use Rattle.plan_kit.specs.declared.plots.PlotPlan.{PlotPlan}
+use Rattle.plan_kit.specs.declared.views.ViewPlan.{ViewPlan, ViewPlan-F, fold-roll-ViewPlan, ind-ViewPlan, map-ViewPlan, roll-ViewPlan}
+use Rattle.plan_kit.specs.declared.views.ViewPlan.TheOpen as level
 use Rattle.vega_assemble.specs.Made.{AGroup, AMark, Made, MadeView, NoMarks}
 use Rattle.vega_assemble.specs.Marks.{in_series, unit_before}
 use Rattle.vega_assemble.specs.Views.{View, faceted, grid_made, held_by, joined, no_view, nothing_held, plot_made, units_made, view_here, view_made}

@@ -24,8 +24,8 @@ use Rattle.plain_groups.proofs.PlaceLemmas.{same_are_equal, same_itself, alike_k
 use Rattle.compiled_rows.proofs.ChoiceLemmas.{one_cell}
 use Rattle.plain_stacks.specs.Stacks.{greatest_whole, row_span_with, span_cells, data_stacked}
 use Rattle.plain_facets.specs.Facets.{key_of, is_key}
-use Rattle.unit_plan.specs.declared.steps.Step.{Step}
-use Rattle.unit_plan.specs.declared.steps.Step.TheVariants as step
+use Rattle.plan_kit.specs.declared.steps.Step.{Step}
+use Rattle.plan_kit.specs.declared.steps.Step.TheVariants as step
 use Rattle.chart_meaning.specs.Rows.{stepped, all_stepped}
 use Rattle.compiled_rows.specs.Follows.{is_outside}
 use Rattle.compiled_rows.specs.Parts.{is_one_of, AreCovered}

@@ -31,7 +31,7 @@ use Rattle.domain_kit.specs.Orders.{in_direction}
 use Rattle.vega_spec.specs.declared.marks.Cross.{Cross}
 use Rattle.vega_lists.specs.Orders.{sort_settings}
 use Rattle.vega_copies.specs.Facets.{crosses}
-use Rattle.chart_plan.specs.declared.grids.FacetField.{FacetField}
+use Rattle.plan_kit.specs.declared.grids.FacetField.{FacetField}
 use Rattle.chart_meaning.specs.Parts.{Copy, cells_below, occurs_in}
 use Rattle.vega_assemble.specs.Facets.{crossing}
 use Rattle.compiled_rows.specs.Parts.{is_one_of, CopiesAreChoices, HaveCellsOf, FirstCellsAreThese, DirectedCellsAreThese, AreCovered, PartsAreCovered}

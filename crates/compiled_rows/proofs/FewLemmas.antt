@@ -7,9 +7,9 @@ use Rattle.vl_spec.specs.declared.spec.VlSpec.{VlSpec}
 use Rattle.vl_compose.specs.Rounds.{Round, rounds_of}
 use Rattle.vl_compose.specs.Units.{UnitAt, ends_in_unit, unit_at, units_of}
 use Rattle.vl_normalize.specs.Normal.{normal_form}
-use Rattle.unit_plan.specs.declared.plans.UnitPlan.{UnitPlan}
-use Rattle.chart_plan.specs.declared.grids.FacetPlan.{FacetPlan}
-use Rattle.chart_plan.specs.declared.grids.GridPlan.{GridPlan}
+use Rattle.plan_kit.specs.declared.plans.UnitPlan.{UnitPlan}
+use Rattle.plan_kit.specs.declared.grids.FacetPlan.{FacetPlan}
+use Rattle.plan_kit.specs.declared.grids.GridPlan.{GridPlan}
 use Rattle.chart_plan.specs.Plan.{all_scales, plan_of, unit_by}
 use Rattle.compiled_rows.specs.Lists.{FewViewsHaveFewUnits, IsSmallFacet, IsSmallGrid, PlansAreSmall, Rises}
 use Rattle.compiled_rows.specs.Names.{IsPlace}

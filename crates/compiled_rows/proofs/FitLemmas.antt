@@ -20,8 +20,8 @@ use Rattle.vl_normalize.specs.Normal.{normal_form}
 use Rattle.vl_normalize.specs.declared.codes.TheConstants.{X, Y}
 use Rattle.cell_names.specs.Names.{bin_settings, bins_in, most_bins}
 use Rattle.plain_rows.specs.declared.transforms.StackOf.{StackOf}
-use Rattle.unit_plan.specs.declared.steps.Step.{Step}
-use Rattle.unit_plan.specs.declared.steps.Step.TheVariants as step
+use Rattle.plan_kit.specs.declared.steps.Step.{Step}
+use Rattle.plan_kit.specs.declared.steps.Step.TheVariants as step
 use Rattle.unit_plan.specs.Bins.{bins_by, units_by, bins_of, units_of_time, bin_cuts, unit_cuts, bin_steps, unit_steps}
 use Rattle.unit_plan.specs.Groups.{aggregates, groups_of, group_steps}
 use Rattle.unit_plan.specs.Measures.{first_type}

@@ -16,7 +16,7 @@ use Rattle.vl_compose.specs.Rounds.{AFacet, AJoined, ALayer, AUnit, Inside, Kind
 use Rattle.vl_compose.specs.Rounds.{faceted_here, joined_here, kind_here, layer_here}
 use Rattle.vl_compose.specs.Units.{UnitAt, ends_in_unit, unit_at, units_of}
 use Rattle.vl_normalize.specs.Normal.{normal_form}
-use Rattle.chart_plan.specs.declared.grids.GridPlan.{GridPlan}
+use Rattle.plan_kit.specs.declared.grids.GridPlan.{GridPlan}
 use Rattle.chart_plan.specs.Grids.{grid_by, grid_in, grids_of, is_there, with_grid, with_grids}
 use Rattle.compiled_rows.specs.Lists.{GridNumbersRise, Rises}
 use Rattle.plain_groups.proofs.PlaceLemmas.{equal_itself}

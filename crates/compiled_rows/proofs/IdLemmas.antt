@@ -24,8 +24,8 @@ use Rattle.plain_bins.specs.Bins.{bin_of}
 use Rattle.plain_bins.specs.Extents.{extent_of, numbers_of}
 use Rattle.plain_groups.specs.GroupRows.{op_cells, data_aggregated, data_join_aggregated}
 use Rattle.plain_groups.specs.Groups.{group_of}
-use Rattle.unit_plan.specs.declared.steps.Step.{Step}
-use Rattle.unit_plan.specs.declared.steps.Step.TheVariants as step
+use Rattle.plan_kit.specs.declared.steps.Step.{Step}
+use Rattle.plan_kit.specs.declared.steps.Step.TheVariants as step
 use Rattle.chart_meaning.specs.Rows.{rows_named, stepped, all_stepped}
 use Rattle.compiled_rows.specs.Begun.{StepsReadIds, RowsLeftReadIds}
 use Rattle.compiled_rows.specs.Follows.{is_outside}

@@ -23,8 +23,8 @@ use Rattle.vega_signals.specs.Settling.{as_given}
 use Rattle.vl_spec.specs.declared.params.ParamKind.{ParamKind}
 use Rattle.vl_spec.specs.declared.params.ParamKind.TheVariants as kind
 use Rattle.vl_spec.specs.declared.params.ParamOf.{ParamOf}
-use Rattle.chart_plan.specs.declared.scales.ScalePlan.{ScalePlan}
-use Rattle.chart_plan.specs.declared.selections.SelectionPlan.{SelectionPlan}
+use Rattle.plan_kit.specs.declared.scales.ScalePlan.{ScalePlan}
+use Rattle.plan_kit.specs.declared.selections.SelectionPlan.{SelectionPlan}
 use Rattle.chart_meaning.specs.Parameters.{has_name, value_under, values_over, expression_in, computed_here, all_computed, count_computed}
 use Rattle.chart_meaning.specs.Parameters.{settled_after, settled, has_value, keeps_all}
 use Rattle.vega_assemble.specs.Names.{none_name}

@@ -8,8 +8,8 @@ use Rattle.vega_spec.specs.Names.{parameter_of}
 use Rattle.vl_spec.specs.declared.params.ParamKind.{ParamKind}
 use Rattle.vl_spec.specs.declared.params.ParamKind.TheVariants as kind
 use Rattle.vl_spec.specs.declared.params.ParamOf.{ParamOf}
-use Rattle.chart_plan.specs.declared.scales.ScalePlan.{ScalePlan}
-use Rattle.chart_plan.specs.declared.selections.SelectionPlan.{SelectionPlan}
+use Rattle.plan_kit.specs.declared.scales.ScalePlan.{ScalePlan}
+use Rattle.plan_kit.specs.declared.selections.SelectionPlan.{SelectionPlan}
 use Rattle.vega_assemble.specs.Assembled.{made}
 use Rattle.vega_assemble.specs.Made.{parts_of, rolled}
 use Rattle.vega_assemble.specs.Signals.{kind_at, place_behind, signals_from, signals_of}

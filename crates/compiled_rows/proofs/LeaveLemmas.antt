@@ -13,16 +13,16 @@ use Rattle.vega_spec.specs.declared.data.DataSet.{DataSet}
 use Rattle.vega_spec.specs.declared.transforms.Transform.{Transform}
 use Rattle.vega_spec.specs.declared.transforms.Transform.TheVariants as vega
 use Rattle.vega_lists.specs.Transforms.{transforms_of}
-use Rattle.unit_plan.specs.declared.cells.CellOf.{CellOf}
-use Rattle.unit_plan.specs.declared.cells.CellOf.TheVariants as shows
-use Rattle.chart_plan.specs.declared.columns.Column.{Column}
-use Rattle.chart_plan.specs.declared.domains.DomainPlan.{DomainPlan}
-use Rattle.chart_plan.specs.declared.domains.DomainPlan.TheVariants as plan
-use Rattle.chart_plan.specs.declared.grids.FacetField.{FacetField}
-use Rattle.chart_plan.specs.declared.grids.GridPlan.{GridPlan}
-use Rattle.chart_plan.specs.declared.orders.CellOrder.{CellOrder}
-use Rattle.chart_plan.specs.declared.orders.CellOrder.TheVariants as stands
-use Rattle.chart_plan.specs.declared.orders.RowsOrder.{RowsOrder}
+use Rattle.plan_kit.specs.declared.cells.CellOf.{CellOf}
+use Rattle.plan_kit.specs.declared.cells.CellOf.TheVariants as shows
+use Rattle.plan_kit.specs.declared.columns.Column.{Column}
+use Rattle.plan_kit.specs.declared.domains.DomainPlan.{DomainPlan}
+use Rattle.plan_kit.specs.declared.domains.DomainPlan.TheVariants as plan
+use Rattle.plan_kit.specs.declared.grids.FacetField.{FacetField}
+use Rattle.plan_kit.specs.declared.grids.GridPlan.{GridPlan}
+use Rattle.plan_kit.specs.declared.orders.CellOrder.{CellOrder}
+use Rattle.plan_kit.specs.declared.orders.CellOrder.TheVariants as stands
+use Rattle.plan_kit.specs.declared.orders.RowsOrder.{RowsOrder}
 use Rattle.vega_assemble.specs.Cells.{field_expr}
 use Rattle.vega_assemble.specs.Drags.{is_copied, references_of, outer_list}
 use Rattle.vega_assemble.specs.Keys.{field_keys, steps_for, keys_list, placed}

@@ -4,8 +4,8 @@ use Rattle.fixed_num.specs.Ranges.{all_found}
 use Rattle.cell_value.specs.Datum.{Datum}
 use Rattle.cell_value.specs.State.{Dataset}
 use Rattle.expr_eval.specs.Values.{Values}
-use Rattle.unit_plan.specs.declared.steps.Step.{Step}
-use Rattle.chart_plan.specs.declared.plan.Plan.{Plan}
+use Rattle.plan_kit.specs.declared.steps.Step.{Step}
+use Rattle.plan_kit.specs.declared.plan.Plan.{Plan}
 use Rattle.chart_plan.specs.Plan.{plan_of}
 use Rattle.vega_assemble.specs.Names.{unit_name, begun_name}
 use Rattle.chart_meaning.specs.Parts.{Copy, copy_over, grid_cells, list_at, whole_copy}

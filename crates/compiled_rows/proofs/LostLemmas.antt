@@ -14,8 +14,8 @@ use Rattle.vega_spec.specs.declared.transforms.Transform.{Transform}
 use Rattle.vega_signals.specs.Lacking.{lacks, transform_lacks}
 use Rattle.vega_signals.specs.Needs.{extent_reads}
 use Rattle.vl_spec.specs.declared.params.ParamOf.{ParamOf}
-use Rattle.unit_plan.specs.declared.steps.Step.{Step}
-use Rattle.unit_plan.specs.declared.steps.Step.TheVariants as step
+use Rattle.plan_kit.specs.declared.steps.Step.{Step}
+use Rattle.plan_kit.specs.declared.steps.Step.TheVariants as step
 use Rattle.chart_meaning.specs.Parameters.{value_under, all_computed, expression_in, is_lost}
 use Rattle.chart_meaning.specs.Rows.{mentioned, mention_lost}
 use Rattle.vega_assemble.specs.Names.{none_name}

@@ -7,8 +7,8 @@ use Rattle.std.specs.Str.{bytes_eq}
 use Rattle.std.proofs.lemmas.List.Elements.{All-head, All-tail}
 use Rattle.std.proofs.lemmas.Slice.Eq.{bytes_eq-Decides}
 use Rattle.vl_spec.specs.declared.sources.SourceOf.{SourceOf}
-use Rattle.chart_plan.specs.declared.grids.FacetField.{FacetField}
-use Rattle.chart_plan.specs.declared.grids.GridPlan.{GridPlan}
+use Rattle.plan_kit.specs.declared.grids.FacetField.{FacetField}
+use Rattle.plan_kit.specs.declared.grids.GridPlan.{GridPlan}
 use Rattle.vega_assemble.specs.Mentioned.{in_facet, in_field, in_grid, in_order, in_param, in_plan, in_scale, in_selection, in_unit, mentioned}
 use Rattle.vega_assemble.specs.Names.{stem_for}
 use Rattle.chart_meaning.specs.Parts.{names_of}

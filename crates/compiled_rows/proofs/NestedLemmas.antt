@@ -7,9 +7,9 @@ use Rattle.cell_value.specs.declared.cell.Cell.{Cell}
 use Rattle.cell_value.specs.Datum.{Datum}
 use Rattle.plain_facets.specs.Facets.{key_of, is_key, part_of}
 use Rattle.vega_lists.specs.Scopes.{Scope}
-use Rattle.chart_plan.specs.declared.grids.FacetPlan.{FacetPlan}
-use Rattle.chart_plan.specs.declared.grids.GridPlan.{GridPlan}
-use Rattle.chart_plan.specs.declared.plan.Plan.{Plan}
+use Rattle.plan_kit.specs.declared.grids.FacetPlan.{FacetPlan}
+use Rattle.plan_kit.specs.declared.grids.GridPlan.{GridPlan}
+use Rattle.plan_kit.specs.declared.plan.Plan.{Plan}
 use Rattle.chart_meaning.specs.Parts.{names_of}
 use Rattle.vega_assemble.specs.Views.{facet_of}
 use Rattle.compiled_rows.specs.Panels.{names_behind}

@@ -7,7 +7,7 @@ use Rattle.vega_spec.specs.declared.spec.Group.{fold-roll-Group, roll-Group}
 use Rattle.vega_spec.specs.declared.spec.VgMark.{VgMark, fold-roll-VgMark}
 use Rattle.vega_spec.specs.Names.{mark_sources, mark_sources_here, own_source, own_sources, sources_here, sources_in}
 use Rattle.vl_spec.specs.declared.sources.SourceOf.{SourceOf}
-use Rattle.chart_plan.specs.declared.plan.Plan.{Plan}
+use Rattle.plan_kit.specs.declared.plan.Plan.{Plan}
 use Rattle.vega_assemble.specs.Assembled.{begun_list, begun_lists, held_at_top, is_begun, lists_made, made, none_list, unit_list}
 use Rattle.vega_assemble.specs.Made.{AGroup, AMark, Made, MadeMark, MadeObject, NoMarks, group_of, group_parts, mark_parts, mark_rolled, no_parts}
 use Rattle.vega_assemble.specs.Made.{parts_of}

@@ -20,12 +20,12 @@ use Rattle.vega_lists.specs.Orders.{is_descending, sort_by, sort_settings}
 use Rattle.vega_lists.specs.Scopes.{Scope}
 use Rattle.vega_copies.specs.Facets.{copies_by, only_copy, rows_divided}
 use Rattle.vega_copies.specs.Facets as vega
-use Rattle.chart_plan.specs.declared.grids.FacetField.{FacetField}
-use Rattle.chart_plan.specs.declared.grids.FacetPlan.{FacetPlan}
-use Rattle.chart_plan.specs.declared.grids.GridPlan.{GridPlan}
-use Rattle.chart_plan.specs.declared.orders.CellOrder.{CellOrder}
-use Rattle.chart_plan.specs.declared.orders.CellOrder.TheVariants as stands
-use Rattle.chart_plan.specs.declared.plan.Plan.{Plan}
+use Rattle.plan_kit.specs.declared.grids.FacetField.{FacetField}
+use Rattle.plan_kit.specs.declared.grids.FacetPlan.{FacetPlan}
+use Rattle.plan_kit.specs.declared.grids.GridPlan.{GridPlan}
+use Rattle.plan_kit.specs.declared.orders.CellOrder.{CellOrder}
+use Rattle.plan_kit.specs.declared.orders.CellOrder.TheVariants as stands
+use Rattle.plan_kit.specs.declared.plan.Plan.{Plan}
 use Rattle.chart_meaning.specs.Parts.{Copy, cells_below, facet_rank, cells_in_order, field_cells, names_of}
 use Rattle.vega_assemble.specs.Drags.{outer_names}
 use Rattle.vega_assemble.specs.Facets.{scale_names, keys_inside, deeper, grids_inside}

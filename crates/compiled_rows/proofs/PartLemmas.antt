@@ -19,11 +19,11 @@ use Rattle.plain_facets.specs.Facets.{part_of}
 use Rattle.vega_spec.specs.declared.data.DataSet.{DataSet}
 use Rattle.vega_lists.specs.Scopes.{Scope}
 use Rattle.vega_copies.specs.Facets.{with_parts, part_named}
-use Rattle.chart_plan.specs.declared.grids.FacetPlan.{FacetPlan}
-use Rattle.chart_plan.specs.declared.grids.GridPlan.{GridPlan}
-use Rattle.chart_plan.specs.declared.plan.Plan.{Plan}
-use Rattle.chart_plan.specs.declared.scales.ScalePlan.{ScalePlan}
-use Rattle.chart_plan.specs.Shown.{is_among}
+use Rattle.plan_kit.specs.declared.grids.FacetPlan.{FacetPlan}
+use Rattle.plan_kit.specs.declared.grids.GridPlan.{GridPlan}
+use Rattle.plan_kit.specs.declared.plan.Plan.{Plan}
+use Rattle.plan_kit.specs.declared.scales.ScalePlan.{ScalePlan}
+use Rattle.plan_kit.specs.Among.{is_among}
 use Rattle.chart_meaning.specs.Parts.{names_of}
 use Rattle.vega_assemble.specs.Drags.{outer_lists, outer_names, name_of_set}
 use Rattle.vega_assemble.specs.Facets.{facet_over, names_of_keys, first_of, is_inside, is_grid_inside, grids_inside, is_number, holds, is_held}

@@ -11,20 +11,20 @@ use Rattle.vega_spec.specs.declared.groupings.Lookup.{Lookup}
 use Rattle.vega_spec.specs.declared.transforms.Transform.{Transform}
 use Rattle.vega_spec.specs.declared.transforms.Transform.TheVariants as vega
 use Rattle.expr_syntax.specs.declared.expr.Expr.TheVariants as expr
-use Rattle.unit_plan.specs.declared.cells.CellOf.{CellOf}
-use Rattle.unit_plan.specs.declared.cells.CellOf.TheVariants as shows
-use Rattle.chart_plan.specs.declared.columns.Column.{Column}
-use Rattle.chart_plan.specs.declared.domains.DomainPlan.{DomainPlan}
-use Rattle.chart_plan.specs.declared.domains.DomainPlan.TheVariants as plan
-use Rattle.chart_plan.specs.declared.grids.FacetField.{FacetField}
-use Rattle.chart_plan.specs.declared.grids.FacetPlan.{FacetPlan}
-use Rattle.chart_plan.specs.declared.grids.GridPlan.{GridPlan}
-use Rattle.chart_plan.specs.declared.orders.CellOrder.{CellOrder}
-use Rattle.chart_plan.specs.declared.orders.CellOrder.TheVariants as stands
-use Rattle.chart_plan.specs.declared.orders.RowsOrder.{RowsOrder}
-use Rattle.chart_plan.specs.declared.plan.Plan.{Plan}
-use Rattle.chart_plan.specs.declared.scales.ScalePlan.{ScalePlan}
-use Rattle.chart_plan.specs.declared.selections.SelectionPlan.{SelectionPlan}
+use Rattle.plan_kit.specs.declared.cells.CellOf.{CellOf}
+use Rattle.plan_kit.specs.declared.cells.CellOf.TheVariants as shows
+use Rattle.plan_kit.specs.declared.columns.Column.{Column}
+use Rattle.plan_kit.specs.declared.domains.DomainPlan.{DomainPlan}
+use Rattle.plan_kit.specs.declared.domains.DomainPlan.TheVariants as plan
+use Rattle.plan_kit.specs.declared.grids.FacetField.{FacetField}
+use Rattle.plan_kit.specs.declared.grids.FacetPlan.{FacetPlan}
+use Rattle.plan_kit.specs.declared.grids.GridPlan.{GridPlan}
+use Rattle.plan_kit.specs.declared.orders.CellOrder.{CellOrder}
+use Rattle.plan_kit.specs.declared.orders.CellOrder.TheVariants as stands
+use Rattle.plan_kit.specs.declared.orders.RowsOrder.{RowsOrder}
+use Rattle.plan_kit.specs.declared.plan.Plan.{Plan}
+use Rattle.plan_kit.specs.declared.scales.ScalePlan.{ScalePlan}
+use Rattle.plan_kit.specs.declared.selections.SelectionPlan.{SelectionPlan}
 use Rattle.vega_assemble.specs.Cells.{field_expr}
 use Rattle.vega_assemble.specs.Domains.{all_own, column_referred, own_referred, plainly_referred, ranks_referred, referred}
 use Rattle.vega_assemble.specs.Drags.{is_copied, references_of, outer_list, outer_lists}

@@ -3,7 +3,7 @@ use Rattle.std.proofs.Common.{◌≡◌, refl, sym, ap, ◌∙◌, ℕ, ◌==◌
 use Rattle.std.specs.Option.{option_map_or}
 use Rattle.std.specs.Str.Parse.{digits_value}
 use Rattle.case_table.specs.Names.{index_of}
-use Rattle.chart_plan.specs.declared.scales.ScalePlan.{ScalePlan}
+use Rattle.plan_kit.specs.declared.scales.ScalePlan.{ScalePlan}
 use Rattle.vega_assemble.specs.Names.{channel_word, numbered}
 use Rattle.compiled_rows.specs.Names.{IsPlace}
 use Rattle.compiled_rows.specs.ScaleNames.{Bearer, OnX, OnY, OnColor, OnOpacity, OnSize, OnShape, Direction, Across, Down, direction_code, MadeScale, PlanScale}

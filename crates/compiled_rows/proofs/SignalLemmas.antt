@@ -24,7 +24,7 @@ use Rattle.vega_copies.specs.Outlines.{Object, object_here}
 use Rattle.vega_copies.specs.Scopes.{Names, names_at_top, written_here}
 use Rattle.vega_copies.proofs.OutlineLemmas.{opened_object}
 use Rattle.vl_spec.specs.declared.spec.VlSpec.{VlSpec}
-use Rattle.chart_plan.specs.declared.plan.Plan.{Plan}
+use Rattle.plan_kit.specs.declared.plan.Plan.{Plan}
 use Rattle.chart_meaning.specs.Parameters.{has_name, value_under}
 use Rattle.chart_meaning.specs.Parameters.{settled, values_in, has_value, keeps_all, told}
 use Rattle.vega_assemble.specs.Assembled.{sets_of, made}

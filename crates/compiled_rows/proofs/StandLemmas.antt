@@ -16,20 +16,20 @@ use Rattle.vl_spec.specs.declared.spec.VlSpec.{VlSpec}
 use Rattle.vl_compose.specs.Rounds.{rounds_of}
 use Rattle.vl_compose.specs.Units.{UnitAt, unit_at, ends_in_unit, units_of}
 use Rattle.vl_normalize.specs.Normal.{normal_form}
-use Rattle.unit_plan.specs.declared.cells.CellOf.{CellOf}
-use Rattle.unit_plan.specs.declared.cells.CellOf.TheVariants as shows
-use Rattle.unit_plan.specs.declared.plans.UnitPlan.{UnitPlan}
-use Rattle.unit_plan.specs.declared.steps.Step.{Step}
-use Rattle.chart_plan.specs.declared.columns.Column.{Column}
-use Rattle.chart_plan.specs.declared.domains.DomainPlan.{DomainPlan}
-use Rattle.chart_plan.specs.declared.domains.DomainPlan.TheVariants as plan
-use Rattle.chart_plan.specs.declared.grids.FacetField.{FacetField}
-use Rattle.chart_plan.specs.declared.grids.FacetPlan.{FacetPlan}
-use Rattle.chart_plan.specs.declared.grids.GridPlan.{GridPlan}
-use Rattle.chart_plan.specs.declared.orders.CellOrder.{CellOrder}
-use Rattle.chart_plan.specs.declared.orders.CellOrder.TheVariants as stands
-use Rattle.chart_plan.specs.declared.orders.RowsOrder.{RowsOrder}
-use Rattle.chart_plan.specs.declared.plan.Plan.{Plan}
+use Rattle.plan_kit.specs.declared.cells.CellOf.{CellOf}
+use Rattle.plan_kit.specs.declared.cells.CellOf.TheVariants as shows
+use Rattle.plan_kit.specs.declared.plans.UnitPlan.{UnitPlan}
+use Rattle.plan_kit.specs.declared.steps.Step.{Step}
+use Rattle.plan_kit.specs.declared.columns.Column.{Column}
+use Rattle.plan_kit.specs.declared.domains.DomainPlan.{DomainPlan}
+use Rattle.plan_kit.specs.declared.domains.DomainPlan.TheVariants as plan
+use Rattle.plan_kit.specs.declared.grids.FacetField.{FacetField}
+use Rattle.plan_kit.specs.declared.grids.FacetPlan.{FacetPlan}
+use Rattle.plan_kit.specs.declared.grids.GridPlan.{GridPlan}
+use Rattle.plan_kit.specs.declared.orders.CellOrder.{CellOrder}
+use Rattle.plan_kit.specs.declared.orders.CellOrder.TheVariants as stands
+use Rattle.plan_kit.specs.declared.orders.RowsOrder.{RowsOrder}
+use Rattle.plan_kit.specs.declared.plan.Plan.{Plan}
 use Rattle.chart_plan.specs.Plan.{plan_of, all_scales, unit_by}
 use Rattle.vega_lists.specs.Lists.{list_of, lists_of}
 use Rattle.vega_lists.specs.Scopes.{Scope, with_list, list_named}

@@ -11,9 +11,9 @@ use Rattle.selection_events.specs.declared.selection.PlotOf.{PlotOf}
 use Rattle.selection_events.specs.declared.selection.SelectionOf.{SelectionOf}
 use Rattle.selection_events.specs.Kept.{Temporal, IsStoreOf}
 use Rattle.param_flow.specs.Semantics.{ParamOf as MeantParam, is_settable}
-use Rattle.chart_plan.specs.declared.plots.PlotPlan.{PlotPlan}
-use Rattle.chart_plan.specs.declared.scales.ScalePlan.{ScalePlan}
-use Rattle.chart_plan.specs.declared.selections.SelectionPlan.{SelectionPlan}
+use Rattle.plan_kit.specs.declared.plots.PlotPlan.{PlotPlan}
+use Rattle.plan_kit.specs.declared.scales.ScalePlan.{ScalePlan}
+use Rattle.plan_kit.specs.declared.selections.SelectionPlan.{SelectionPlan}
 use Rattle.chart_plan.specs.Selections.{plan_by, plan_if}
 use Rattle.chart_plan.specs.Plan.{all_scales}
 use Rattle.chart_plan.specs.Plots.{plots_of}

@@ -23,7 +23,7 @@ use Rattle.plain_rows.specs.Lookups.{data_looked_up}
 use Rattle.plain_stacks.specs.Stacks.{data_stacked}
 use Rattle.plain_windows.specs.Windows.{data_windowed}
 use Rattle.vega_spec.specs.declared.orders.Orders.TheVariants as orders
-use Rattle.unit_plan.specs.declared.steps.Step.TheVariants as step
+use Rattle.plan_kit.specs.declared.steps.Step.TheVariants as step
 use Rattle.vega_lists.specs.Operations.{op_at, op_settings, ops_settings, group_settings, count_in, offset_in, param_for, window_settings}
 use Rattle.vega_lists.specs.Orders.{sort_by, sort_or_empty, is_descending}
 use Rattle.vega_lists.specs.Settings.{bin_settings, extent_in, offset_of, pair_in, stack_settings}

@@ -20,7 +20,7 @@ use Rattle.vega_signals.specs.Lacking.{lacks, set_lacks}
 use Rattle.vega_copies.specs.Scopes.{Names}
 use Rattle.vl_spec.specs.declared.sources.SourceOf.{SourceOf}
 use Rattle.vl_spec.specs.declared.spec.VlSpec.{VlSpec}
-use Rattle.unit_plan.specs.declared.plans.UnitPlan.{UnitPlan}
+use Rattle.plan_kit.specs.declared.plans.UnitPlan.{UnitPlan}
 use Rattle.chart_plan.specs.Plan.{plan_of}
 use Rattle.chart_meaning.specs.Parameters.{values_in}
 use Rattle.chart_meaning.specs.Rows.{mention_lost}

@@ -12,10 +12,10 @@ use Rattle.expr_eval.specs.Values.{Values}
 use Rattle.vega_spec.specs.declared.transforms.Transform.{Transform}
 use Rattle.vl_spec.specs.declared.sources.SourceOf.{SourceOf}
 use Rattle.vl_spec.specs.declared.spec.VlSpec.{VlSpec}
-use Rattle.unit_plan.specs.declared.plans.UnitPlan.{UnitPlan}
-use Rattle.unit_plan.specs.declared.steps.Step.{Step}
-use Rattle.unit_plan.specs.declared.steps.Step.TheVariants as step
-use Rattle.chart_plan.specs.declared.plan.Plan.{Plan}
+use Rattle.plan_kit.specs.declared.plans.UnitPlan.{UnitPlan}
+use Rattle.plan_kit.specs.declared.steps.Step.{Step}
+use Rattle.plan_kit.specs.declared.steps.Step.TheVariants as step
+use Rattle.plan_kit.specs.declared.plan.Plan.{Plan}
 use Rattle.chart_plan.specs.Plan.{plan_of}
 use Rattle.vega_lists.specs.Lists.{list_of, lists_of}
 use Rattle.vega_lists.specs.Scopes.{Scope, no_lists, with_list, list_named}

@@ -7,8 +7,8 @@ use Rattle.cell_value.specs.State.{Dataset, State, IsState, ReadsItsId}
 use Rattle.expr_eval.specs.Values.{Values}
 use Rattle.plain_rows.specs.declared.transforms.GroupOf.{GroupOf}
 use Rattle.plain_rows.specs.declared.transforms.OpOf.{OpOf}
-use Rattle.unit_plan.specs.declared.steps.Step.{Step}
-use Rattle.unit_plan.specs.declared.steps.Step.TheVariants as step
+use Rattle.plan_kit.specs.declared.steps.Step.{Step}
+use Rattle.plan_kit.specs.declared.steps.Step.TheVariants as step
 use Rattle.chart_meaning.specs.Rows.{all_stepped}
 use Rattle.compiled_rows.specs.Follows.{is_outside}
 use Rattle.compiled_rows.specs.Lists.{rows_left}

@@ -8,7 +8,7 @@ use Rattle.vl_spec.specs.declared.params.ParamKind.{ParamKind}
 use Rattle.vl_spec.specs.declared.params.ParamKind.TheVariants as kind
 use Rattle.vl_spec.specs.declared.params.ParamOf.{ParamOf}
 use Rattle.vl_spec.specs.declared.spec.VlSpec.{VlSpec}
-use Rattle.chart_plan.specs.declared.plan.Plan.{Plan}
+use Rattle.plan_kit.specs.declared.plan.Plan.{Plan}
 use Rattle.vega_assemble.specs.Assembled.{written_with}
 
 abbrev pub kind_written : ParamKind → ParameterKind

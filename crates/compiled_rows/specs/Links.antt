@@ -3,7 +3,7 @@ use Rattle.std.specs.Prelude.{◌≡◌, ℕ, true, Some, List, slice_get}
 use Rattle.cell_value.specs.State.{Dataset}
 use Rattle.expr_eval.specs.Values.{Values}
 use Rattle.vl_spec.specs.declared.spec.VlSpec.{VlSpec}
-use Rattle.unit_plan.specs.declared.plans.UnitPlan.{UnitPlan}
+use Rattle.plan_kit.specs.declared.plans.UnitPlan.{UnitPlan}
 use Rattle.chart_plan.specs.Plan.{plan_of}
 use Rattle.vega_lists.specs.Scopes.{Scope}
 use Rattle.vega_assemble.specs.Assembled.{is_begun}

@@ -11,17 +11,17 @@ use Rattle.vl_spec.specs.declared.sources.SourceOf.{SourceOf}
 use Rattle.vl_spec.specs.declared.spec.VlSpec.{VlSpec}
 use Rattle.vl_normalize.specs.Normal.{normal_form}
 use Rattle.vl_compose.specs.Rounds.{rounds_of}
-use Rattle.unit_plan.specs.declared.plans.UnitPlan.{UnitPlan}
-use Rattle.unit_plan.specs.declared.steps.Step.{Step}
-use Rattle.chart_plan.specs.declared.domains.DomainPlan.{DomainPlan}
-use Rattle.chart_plan.specs.declared.domains.DomainPlan.TheVariants as domain
-use Rattle.chart_plan.specs.declared.domains.RowCells.{RowCells}
-use Rattle.chart_plan.specs.declared.grids.FacetPlan.{FacetPlan}
-use Rattle.chart_plan.specs.declared.grids.GridPlan.{GridPlan}
-use Rattle.chart_plan.specs.declared.orders.CellOrder.{CellOrder}
-use Rattle.chart_plan.specs.declared.orders.CellOrder.TheVariants as stands
-use Rattle.chart_plan.specs.declared.scales.ScalePlan.{ScalePlan}
-use Rattle.chart_plan.specs.declared.plan.Plan.{Plan}
+use Rattle.plan_kit.specs.declared.plans.UnitPlan.{UnitPlan}
+use Rattle.plan_kit.specs.declared.steps.Step.{Step}
+use Rattle.plan_kit.specs.declared.domains.DomainPlan.{DomainPlan}
+use Rattle.plan_kit.specs.declared.domains.DomainPlan.TheVariants as domain
+use Rattle.plan_kit.specs.declared.domains.RowCells.{RowCells}
+use Rattle.plan_kit.specs.declared.grids.FacetPlan.{FacetPlan}
+use Rattle.plan_kit.specs.declared.grids.GridPlan.{GridPlan}
+use Rattle.plan_kit.specs.declared.orders.CellOrder.{CellOrder}
+use Rattle.plan_kit.specs.declared.orders.CellOrder.TheVariants as stands
+use Rattle.plan_kit.specs.declared.scales.ScalePlan.{ScalePlan}
+use Rattle.plan_kit.specs.declared.plan.Plan.{Plan}
 use Rattle.chart_plan.specs.Plan.{plan_of}
 use Rattle.vega_lists.specs.Lists.{list_of, lists_of}
 use Rattle.vega_lists.specs.Scopes.{Scope, no_lists, with_list, list_named}

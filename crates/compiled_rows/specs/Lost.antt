@@ -9,9 +9,9 @@ use Rattle.expr_syntax.specs.declared.expr.Expr.{Expr}
 use Rattle.expr_reading.specs.Mentions.{selections_in}
 use Rattle.vega_signals.specs.Lacking.{set_lacks}
 use Rattle.vl_spec.specs.declared.params.ParamOf.{ParamOf}
-use Rattle.unit_plan.specs.declared.plans.UnitPlan.{UnitPlan}
-use Rattle.unit_plan.specs.declared.steps.Step.{Step}
-use Rattle.unit_plan.specs.declared.steps.Step.TheVariants as step
+use Rattle.plan_kit.specs.declared.plans.UnitPlan.{UnitPlan}
+use Rattle.plan_kit.specs.declared.steps.Step.{Step}
+use Rattle.plan_kit.specs.declared.steps.Step.TheVariants as step
 use Rattle.chart_meaning.specs.Parameters.{is_lost, values_in}
 use Rattle.chart_meaning.specs.Rows.{mention_lost}
 use Rattle.vega_assemble.specs.Assembled.{unit_list, begun_list}

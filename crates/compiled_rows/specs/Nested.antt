@@ -2,10 +2,10 @@
 use Rattle.std.specs.Prelude.{◌≡◌, ℕ, true, Some, List, ◌++◌, All, flat_map, slice_get}
 use Rattle.cell_value.specs.declared.cell.Cell.{Cell}
 use Rattle.vega_lists.specs.Scopes.{Scope}
-use Rattle.chart_plan.specs.declared.grids.FacetPlan.{FacetPlan}
-use Rattle.chart_plan.specs.declared.grids.GridPlan.{GridPlan}
-use Rattle.chart_plan.specs.declared.plan.Plan.{Plan}
-use Rattle.chart_plan.specs.Shown.{is_among}
+use Rattle.plan_kit.specs.declared.grids.FacetPlan.{FacetPlan}
+use Rattle.plan_kit.specs.declared.grids.GridPlan.{GridPlan}
+use Rattle.plan_kit.specs.declared.plan.Plan.{Plan}
+use Rattle.plan_kit.specs.Among.{is_among}
 use Rattle.chart_meaning.specs.Parts.{Copy, GridSpot, copy_with, names_of}
 use Rattle.vega_assemble.specs.Facets.{is_inside, is_deeper}
 use Rattle.vega_assemble.specs.Views.{facet_of}

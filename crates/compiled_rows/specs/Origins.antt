@@ -3,7 +3,7 @@ use Rattle.std.specs.Prelude.{◌≡◌, ℕ, List, map}
 use Rattle.vega_spec.specs.Names.{sources_of}
 use Rattle.vl_spec.specs.declared.sources.SourceOf.{SourceOf}
 use Rattle.vl_spec.specs.declared.spec.VlSpec.{VlSpec}
-use Rattle.chart_plan.specs.declared.plan.Plan.{Plan}
+use Rattle.plan_kit.specs.declared.plan.Plan.{Plan}
 use Rattle.vega_assemble.specs.Assembled.{written_with}
 
 abbrev pub SourcesAreWritten : Type 0

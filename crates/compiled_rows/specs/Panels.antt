@@ -8,9 +8,9 @@ use Rattle.vega_lists.specs.Scopes.{Scope}
 use Rattle.vega_copies.specs.Facets.{divided_by, rows_divided, copies_of}
 use Rattle.vega_copies.specs.Facets as vega
 use Rattle.vega_copies.specs.Outlines.{Object}
-use Rattle.chart_plan.specs.declared.grids.FacetPlan.{FacetPlan}
-use Rattle.chart_plan.specs.declared.grids.GridPlan.{GridPlan}
-use Rattle.chart_plan.specs.declared.plan.Plan.{Plan}
+use Rattle.plan_kit.specs.declared.grids.FacetPlan.{FacetPlan}
+use Rattle.plan_kit.specs.declared.grids.GridPlan.{GridPlan}
+use Rattle.plan_kit.specs.declared.plan.Plan.{Plan}
 use Rattle.chart_meaning.specs.Parts.{Copy, cells_of_facet, names_of}
 use Rattle.vega_assemble.specs.Drags.{outer_names}
 use Rattle.vega_assemble.specs.Facets.{facet_over, grids_inside, scale_names, keys_inside, deeper}

@@ -16,11 +16,11 @@ use Rattle.vega_spec.specs.declared.orders.Sort.{Sort}
 use Rattle.vega_lists.specs.Scopes.{Scope}
 use Rattle.vega_copies.specs.Facets.{with_parts, divided_by}
 use Rattle.vega_copies.specs.Facets as vega
-use Rattle.chart_plan.specs.declared.grids.FacetPlan.{FacetPlan}
-use Rattle.chart_plan.specs.declared.grids.GridPlan.{GridPlan}
-use Rattle.chart_plan.specs.declared.plan.Plan.{Plan}
-use Rattle.chart_plan.specs.declared.scales.ScalePlan.{ScalePlan}
-use Rattle.chart_plan.specs.Shown.{is_among}
+use Rattle.plan_kit.specs.declared.grids.FacetPlan.{FacetPlan}
+use Rattle.plan_kit.specs.declared.grids.GridPlan.{GridPlan}
+use Rattle.plan_kit.specs.declared.plan.Plan.{Plan}
+use Rattle.plan_kit.specs.declared.scales.ScalePlan.{ScalePlan}
+use Rattle.plan_kit.specs.Among.{is_among}
 use Rattle.chart_meaning.specs.Parts.{Copy, GridSpot, copy_with, names_of, cells_below, occurs_in}
 use Rattle.vega_assemble.specs.Facets.{facet_over, grids_inside, is_inside, is_deeper, scales_inside}
 use Rattle.vega_assemble.specs.Keys.{by_name}

@@ -2,7 +2,7 @@
 -- a plot or at its foot, and of those that drags invert.
 use Rattle.std.specs.Prelude.{◌≡◌, ℕ, ◌++◌, Some, List, slice_get}
 use Rattle.vl_normalize.specs.declared.codes.TheConstants.{X, Y, COLOR, OPACITY, SIZE, SHAPE}
-use Rattle.chart_plan.specs.declared.scales.ScalePlan.{ScalePlan}
+use Rattle.plan_kit.specs.declared.scales.ScalePlan.{ScalePlan}
 use Rattle.vega_assemble.specs.Names.{channel_word, drag_name, foot_name, middle_name, numbered, scale_name}
 use Rattle.compiled_rows.specs.Names.{IsPlace}
 

@@ -10,7 +10,7 @@ use Rattle.vega_spec.specs.declared.transforms.Transform.TheVariants as vega
 use Rattle.vega_lists.specs.Lists.{list_of, lists_of}
 use Rattle.vega_lists.specs.Scopes.{Scope}
 use Rattle.vega_lists.specs.Transforms.{transforms_of}
-use Rattle.unit_plan.specs.declared.steps.Step.{Step}
+use Rattle.plan_kit.specs.declared.steps.Step.{Step}
 use Rattle.chart_meaning.specs.Rows.{all_stepped}
 use Rattle.compiled_rows.specs.Begun.{KeepsCells}
 use Rattle.compiled_rows.specs.Leaves.{set_leaves, set_adds_none}

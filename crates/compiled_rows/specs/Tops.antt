@@ -14,7 +14,7 @@ use Rattle.vega_lists.specs.Scopes.{Scope}
 use Rattle.vega_signals.specs.Lacking.{set_lacks}
 use Rattle.vega_copies.specs.Scopes.{Names, names_at_top}
 use Rattle.vl_spec.specs.declared.spec.VlSpec.{VlSpec}
-use Rattle.unit_plan.specs.declared.plans.UnitPlan.{UnitPlan}
+use Rattle.plan_kit.specs.declared.plans.UnitPlan.{UnitPlan}
 use Rattle.chart_plan.specs.Plan.{plan_of}
 use Rattle.chart_meaning.specs.Parameters.{values_in}
 use Rattle.chart_meaning.specs.Parts.{Copy, whole_copy}

@@ -28,7 +28,7 @@ use Rattle.vl_spec.specs.declared.params.ParamKind.{ParamKind}
 use Rattle.vl_spec.specs.declared.params.ParamKind.TheVariants as kind
 use Rattle.vl_spec.specs.declared.params.ParamOf.{ParamOf}
 use Rattle.vl_spec.specs.declared.spec.VlSpec.{VlSpec}
-use Rattle.chart_plan.specs.declared.plan.Plan.{Plan}
+use Rattle.plan_kit.specs.declared.plan.Plan.{Plan}
 use Rattle.chart_meaning.specs.Parameters.{settled, values_in, values_told, keeps_all, expression_in}
 use Rattle.vega_assemble.specs.Assembled.{sets_of, written_with}
 use Rattle.vega_assemble.specs.Names.{none_name}

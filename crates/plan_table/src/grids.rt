@@ -1,7 +1,7 @@
 // Grids in words, and how plots and grids stand in each other.
 use crate::orders::say_order;
 use crate::words::{say_count, say_counts, say_flag, say_number, say_quoted, say_word};
-use chart_plan::{FacetField, FacetPlan, GridColumns, GridPlan, Plan, ViewPlan};
+use plan_kit::{FacetField, FacetPlan, GridColumns, GridPlan, Plan, ViewPlan};
 use std::alloc::Global;
 use text_kit::{OutOfMemory, Seq, Text};
 

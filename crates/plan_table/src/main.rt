@@ -10,7 +10,8 @@ mod scales;
 mod selections;
 mod words;
 
-use chart_plan::{Plan, plan_of};
+use chart_plan::plan_of;
+use plan_kit::Plan;
 use std::alloc::Global;
 use std::io;
 use text_kit::{OutOfMemory, Text};

@@ -1,6 +1,6 @@
 // Orders of cells in words.
 use crate::words::{op_name, say_cells, say_count, say_flag, say_word};
-use chart_plan::{CellOrder, RowsOrder};
+use plan_kit::{CellOrder, RowsOrder};
 use std::alloc::Global;
 use text_kit::{OutOfMemory, Text};
 

@@ -1,8 +1,8 @@
 // Plots in words.
 use crate::words::{say_cells, say_count, say_counts, say_flag, say_number, say_quoted};
 use cell_value::Cell;
-use chart_plan::{AxisPlan, Plan, PlotPlan, SizePlan};
 use guide_kit::{AxisOf, Side};
+use plan_kit::{AxisPlan, Plan, PlotPlan, SizePlan};
 use std::alloc::Global;
 use text_kit::{OutOfMemory, Seq, Text};
 

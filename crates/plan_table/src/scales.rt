@@ -4,12 +4,11 @@ use crate::words::{
     channel_name, kind_name, say_cell, say_cells, say_count, say_flag, say_number, say_quoted,
     say_word,
 };
-use chart_plan::{Column, DomainPlan, Plan, RangePlan, ScalePlan};
 use expr_syntax::Expr;
 use guide_kit::LegendOf;
+use plan_kit::{CellOf, Column, DomainPlan, Plan, RangePlan, ScalePlan};
 use std::alloc::Global;
 use text_kit::{OutOfMemory, Text};
-use unit_plan::CellOf;
 
 /// The scales of a plan: of each its number, its channel, its kind, the units that share it, its domain, what it gives, the flags that are true, of a
 /// band or point scale the paddings, the facet to which it belongs, and its legend.

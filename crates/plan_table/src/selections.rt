@@ -1,6 +1,6 @@
 // Selections in words.
 use crate::words::{channel_name, say_count, say_flag, say_texts, say_word};
-use chart_plan::{DragPlan, Plan, SelectionPlan};
+use plan_kit::{DragPlan, Plan, SelectionPlan};
 use selection_events::DragOf;
 use std::alloc::Global;
 use text_kit::{OutOfMemory, Seq, Text};

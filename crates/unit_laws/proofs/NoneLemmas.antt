@@ -21,7 +21,7 @@ use Rattle.time_calc.specs.Instants.{instant_at}
 use Rattle.time_calc.specs.Parts.{part_of, part as part_number_at}
 use Rattle.time_calc.specs.TimeUnits.{keeps}
 use Rattle.unit_plan.specs.declared.codes.TheConstants.{YEAR, QUARTER, MONTH, DATE, DAY, HOURS, MINUTES, SECONDS, DATETIME}
-use Rattle.unit_plan.specs.Literals.{whole}
+use Rattle.plan_kit.specs.Literals.{whole}
 use Rattle.unit_plan.specs.Starts.{part_call, quarter_month, weekday_date, year_kept, month_kept, date_kept, time_kept, day_parts}
 use Rattle.unit_plan.specs.Starts.{time_parts, start_expr, start_by}
 use Rattle.unit_laws.specs.StartLaws.{OthersHaveNone}

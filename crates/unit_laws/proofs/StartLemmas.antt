@@ -37,7 +37,7 @@ use Rattle.time_calc.proofs.BoundaryUnits.{IsInstant, weekday_at_most_6}
 use Rattle.time_calc.proofs.DatetimeLemmas.{years_1_to_9998}
 use Rattle.time_calc.proofs.TimeUnitLemmas.{IsDateInRange, date_in_range, month_in_range, start_is_instant}
 use Rattle.unit_plan.specs.declared.codes.TheConstants.{YEAR, QUARTER, MONTH, DATE, DAY, HOURS, MINUTES, SECONDS, DATETIME}
-use Rattle.unit_plan.specs.Literals.{whole}
+use Rattle.plan_kit.specs.Literals.{whole}
 use Rattle.unit_plan.specs.Starts.{part_call, quarter_month, weekday_date, year_kept, month_kept, date_kept, time_kept, day_parts}
 use Rattle.unit_plan.specs.Starts.{time_parts, start_expr, start_by}
 use Rattle.unit_laws.specs.StartLaws.{StartsAgree}

@@ -8,7 +8,7 @@ use Rattle.vl_spec.specs.declared.filters.Filter.TheVariants as filter
 use Rattle.vl_spec.specs.declared.filters.Filter.TheVariants.{rolls-And, rolls-Or, rolls-Not}
 use Rattle.vl_spec.specs.declared.filters.Filter.TheOpen as level
 use Rattle.unit_plan.specs.Filters.{filter_here, filter_expr}
-use Rattle.unit_plan.specs.Joins.{joined}
+use Rattle.plan_kit.specs.Joins.{joined}
 
 opens_as : (s : List ℕ → Bool) (f : Filter) (o : Filter-F Filter) → out-Filter f ≡ o →
     filter_expr s f ≡ filter_here s (map-Filter Filter Expr (filter_expr s) o)

@@ -1,4 +1,3 @@
 mod BranchLemmas
 mod FilterLemmas
-mod JoinLemmas
 mod KindLemmas

@@ -3,8 +3,8 @@
 -- of 0 where the domain holds it, else where the range begins.
 use Rattle.std.specs.Prelude.{ℕ, Bool, true, false, List, [], ◌∷◌, is_some, if◌then◌else◌}
 use Rattle.unit_plan.specs.declared.ends.End.TheVariants as end
-use Rattle.unit_plan.specs.declared.marks.Along.{Along}
-use Rattle.unit_plan.specs.declared.marks.SpotWay.{SpotWay}
+use Rattle.plan_kit.specs.declared.marks.Along.{Along}
+use Rattle.plan_kit.specs.declared.marks.SpotWay.{SpotWay}
 use Rattle.unit_plan.specs.Ends.{base, ways, seconds}
 use Rattle.unit_plan.specs.Lanes.{Lane}
 

@@ -6,8 +6,8 @@ use Rattle.plain_rows.specs.declared.transforms.TimeOf.{TimeOf}
 use Rattle.vl_spec.specs.declared.definitions.Bin.{Bin}
 use Rattle.vl_spec.specs.declared.definitions.FieldDefinition.{FieldDefinition}
 use Rattle.vl_compose.specs.Units.{UnitAt}
-use Rattle.unit_plan.specs.declared.steps.Step.{Step}
-use Rattle.unit_plan.specs.declared.steps.Step.TheVariants as step
+use Rattle.plan_kit.specs.declared.steps.Step.{Step}
+use Rattle.plan_kit.specs.declared.steps.Step.TheVariants as step
 use Rattle.cell_names.specs.Names.{most_bins, bin_settings, bin_name, unit_name, end_name, bins_in}
 use Rattle.unit_plan.specs.Shows.{ShownAt, shows_of, field_in}
 use Rattle.unit_plan.specs.Transforms.{count_in}

@@ -4,8 +4,8 @@ use Rattle.std.specs.Prelude.{ℕ, Option, Some, None, List}
 use Rattle.cell_value.specs.declared.cell.Cell.TheVariants.{Null}
 use Rattle.vl_spec.specs.declared.definitions.Definition.{Definition}
 use Rattle.vl_spec.specs.declared.definitions.Definition.TheVariants as definition
-use Rattle.unit_plan.specs.declared.cells.CellOf.{CellOf}
-use Rattle.unit_plan.specs.declared.cells.CellOf.TheVariants.{Field, Written}
+use Rattle.plan_kit.specs.declared.cells.CellOf.{CellOf}
+use Rattle.plan_kit.specs.declared.cells.CellOf.TheVariants.{Field, Written}
 use Rattle.cell_names.specs.Names.{name_of, end_of_field}
 
 abbrev pub cell_of_name : Option (List ℕ) → CellOf

@@ -15,8 +15,8 @@ use Rattle.vl_spec.specs.declared.filters.Comparison.{Comparison}
 use Rattle.vl_spec.specs.declared.filters.Comparison.TheVariants as compare
 use Rattle.vl_spec.specs.declared.filters.FieldTest.{FieldTest}
 use Rattle.unit_plan.specs.declared.codes.TheConstants.{IS_VALID, TO_DATE, IN_RANGE}
-use Rattle.unit_plan.specs.Joins.{joined, paired_times}
-use Rattle.unit_plan.specs.Literals.{number_expr, literal}
+use Rattle.plan_kit.specs.Joins.{joined, paired_times}
+use Rattle.plan_kit.specs.Literals.{number_expr, literal}
 use Rattle.unit_plan.specs.Starts.{start_by}
 
 -- what is compared: the cell of the field, or the start of its unit of time

@@ -17,20 +17,20 @@ use Rattle.vl_spec.specs.declared.definitions.Definition.{Definition}
 use Rattle.vl_spec.specs.declared.definitions.Definition.TheVariants as definition
 use Rattle.scale_infer.specs.declared.codes.TheConstants.{LINEAR, TIME, BAND}
 use Rattle.scale_infer.specs.Types.{is_binned}
-use Rattle.unit_plan.specs.declared.cells.CellOf.{CellOf}
-use Rattle.unit_plan.specs.declared.cells.CellOf.TheVariants.{Field, Written, Computed}
+use Rattle.plan_kit.specs.declared.cells.CellOf.{CellOf}
+use Rattle.plan_kit.specs.declared.cells.CellOf.TheVariants.{Field, Written, Computed}
 use Rattle.unit_plan.specs.declared.ends.End.{End}
 use Rattle.unit_plan.specs.declared.ends.End.TheVariants as end
-use Rattle.unit_plan.specs.declared.marks.Spot.{Spot}
-use Rattle.unit_plan.specs.declared.marks.Spot.TheVariants.{Pixels, Place, Centre, EndOfBand, Base, Middle, Foot, Nowhere}
-use Rattle.unit_plan.specs.declared.marks.SpotWay.{SpotWay}
+use Rattle.plan_kit.specs.declared.marks.Spot.{Spot}
+use Rattle.plan_kit.specs.declared.marks.Spot.TheVariants.{Pixels, Place, Centre, EndOfBand, Base, Middle, Foot, Nowhere}
+use Rattle.plan_kit.specs.declared.marks.SpotWay.{SpotWay}
 use Rattle.unit_plan.specs.declared.seen.ScaleSeen.{ScaleSeen}
 use Rattle.unit_plan.specs.declared.stacks.Stacked.{Stacked}
 use Rattle.unit_plan.specs.Branches.{Branch, covers, is_empty}
 use Rattle.unit_plan.specs.Cells.{cell_of, end_of}
 use Rattle.unit_plan.specs.Filters.{all_hold}
 use Rattle.unit_plan.specs.Lanes.{Lane}
-use Rattle.unit_plan.specs.Literals.{whole}
+use Rattle.plan_kit.specs.Literals.{whole}
 
 -- a way without a test
 abbrev pub always : Spot → Option ℤ → SpotWay

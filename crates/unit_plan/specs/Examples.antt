@@ -4,8 +4,8 @@ use Rattle.cell_value.specs.declared.cell.Cell.TheVariants as cell
 use Rattle.vl_normalize.specs.declared.codes.TheConstants.{X, X2}
 use Rattle.vl_spec.specs.declared.definitions.Definition.TheVariants as definition
 use Rattle.scale_infer.specs.declared.codes.TheConstants.{LINEAR, BAND, POINT}
-use Rattle.unit_plan.specs.declared.cells.CellOf.TheVariants.{Field, Written}
-use Rattle.unit_plan.specs.declared.marks.Spot.TheVariants.{Pixels, Place, Centre, EndOfBand, Base, Foot}
+use Rattle.plan_kit.specs.declared.cells.CellOf.TheVariants.{Field, Written}
+use Rattle.plan_kit.specs.declared.marks.Spot.TheVariants.{Pixels, Place, Centre, EndOfBand, Base, Foot}
 use Rattle.unit_plan.specs.declared.seen.ScaleSeen.{ScaleSeen}
 use Rattle.unit_plan.specs.declared.stacks.Stacked.{Stacked}
 use Rattle.unit_plan.specs.Bars.{bar_along}

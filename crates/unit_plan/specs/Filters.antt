@@ -11,9 +11,9 @@ use Rattle.vl_spec.specs.declared.channels.Test.TheVariants as test
 use Rattle.vl_spec.specs.declared.filters.Filter.{Filter, Filter-F, fold-Filter}
 use Rattle.vl_spec.specs.declared.filters.Filter.TheOpen as level
 use Rattle.vl_spec.specs.declared.filters.ParamTest.{ParamTest}
-use Rattle.unit_plan.specs.Joins.{joined}
+use Rattle.plan_kit.specs.Joins.{joined}
 use Rattle.unit_plan.specs.Comparisons.{field_test}
-use Rattle.unit_plan.specs.Literals.{whole}
+use Rattle.plan_kit.specs.Literals.{whole}
 
 -- that the store of a selection is empty
 abbrev pub stored_none : List ℕ → Expr

@@ -8,8 +8,8 @@ use Rattle.plain_rows.specs.declared.transforms.OpOf.{OpOf}
 use Rattle.vl_spec.specs.declared.definitions.FieldDefinition.{FieldDefinition}
 use Rattle.vl_compose.specs.Units.{UnitAt}
 use Rattle.scale_infer.specs.Types.{is_aggregated}
-use Rattle.unit_plan.specs.declared.steps.Step.{Step}
-use Rattle.unit_plan.specs.declared.steps.Step.TheVariants as step
+use Rattle.plan_kit.specs.declared.steps.Step.{Step}
+use Rattle.plan_kit.specs.declared.steps.Step.TheVariants as step
 use Rattle.cell_names.specs.Names.{name_of, end_of_field}
 use Rattle.unit_plan.specs.Shows.{ShownAt, shows_of, own_shows, field_in}
 

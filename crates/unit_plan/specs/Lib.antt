@@ -8,9 +8,7 @@ pub mod Ends
 pub mod Examples
 pub mod Filters
 pub mod Groups
-pub mod Joins
 pub mod Lanes
-pub mod Literals
 pub mod Looks
 pub mod Measures
 pub mod Paths

@@ -18,9 +18,9 @@ use Rattle.vl_spec.specs.declared.marks.MarkDefinition.{MarkDefinition}
 use Rattle.vl_spec.specs.declared.marks.MarkType.{MarkType}
 use Rattle.vl_spec.specs.declared.marks.MarkType.TheVariants as mark_type
 use Rattle.vl_compose.specs.Units.{UnitAt}
-use Rattle.unit_plan.specs.declared.marks.Look.{Look}
-use Rattle.unit_plan.specs.declared.marks.Look.TheVariants.{Written, OnScale}
-use Rattle.unit_plan.specs.declared.marks.LookWay.{LookWay}
+use Rattle.plan_kit.specs.declared.marks.Look.{Look}
+use Rattle.plan_kit.specs.declared.marks.Look.TheVariants.{Written, OnScale}
+use Rattle.plan_kit.specs.declared.marks.LookWay.{LookWay}
 use Rattle.unit_plan.specs.declared.seen.ScaleSeen.{ScaleSeen}
 use Rattle.unit_plan.specs.Branches.{Branch, covers}
 use Rattle.unit_plan.specs.Cells.{cell_of}

@@ -6,8 +6,8 @@ use Rattle.std.specs.Option.{option_and_then}
 use Rattle.vl_compose.specs.Units.{UnitAt}
 use Rattle.scale_infer.specs.Scales.{first_at}
 use Rattle.unit_plan.specs.declared.ends.End.TheVariants as end
-use Rattle.unit_plan.specs.declared.marks.Along.{Along}
-use Rattle.unit_plan.specs.declared.marks.SpotWay.{SpotWay}
+use Rattle.plan_kit.specs.declared.marks.Along.{Along}
+use Rattle.plan_kit.specs.declared.marks.SpotWay.{SpotWay}
 use Rattle.unit_plan.specs.Ends.{base, ways, seconds}
 use Rattle.unit_plan.specs.Lanes.{Lane}
 use Rattle.unit_plan.specs.Measures.{dimension_of}

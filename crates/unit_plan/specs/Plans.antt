@@ -6,12 +6,12 @@ use Rattle.vl_spec.specs.declared.marks.MarkType.TheVariants as mark_type
 use Rattle.vl_spec.specs.declared.params.ParamOf.{ParamOf}
 use Rattle.vl_compose.specs.Units.{UnitAt}
 use Rattle.vl_compose.specs.Views.{source_of}
-use Rattle.unit_plan.specs.declared.marks.Along.{Along}
-use Rattle.unit_plan.specs.declared.marks.MarkPlan.{MarkPlan}
-use Rattle.unit_plan.specs.declared.marks.MarkShape.{MarkShape}
-use Rattle.unit_plan.specs.declared.marks.MarkShape.TheVariants as shape
-use Rattle.unit_plan.specs.declared.marks.TextLook.{TextLook}
-use Rattle.unit_plan.specs.declared.plans.UnitPlan.{UnitPlan}
+use Rattle.plan_kit.specs.declared.marks.Along.{Along}
+use Rattle.plan_kit.specs.declared.marks.MarkPlan.{MarkPlan}
+use Rattle.plan_kit.specs.declared.marks.MarkShape.{MarkShape}
+use Rattle.plan_kit.specs.declared.marks.MarkShape.TheVariants as shape
+use Rattle.plan_kit.specs.declared.marks.TextLook.{TextLook}
+use Rattle.plan_kit.specs.declared.plans.UnitPlan.{UnitPlan}
 use Rattle.unit_plan.specs.declared.seen.ScaleSeen.{ScaleSeen}
 use Rattle.unit_plan.specs.Bars.{bar_along}
 use Rattle.unit_plan.specs.Lanes.{Lane, across, down}

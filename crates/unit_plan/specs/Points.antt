@@ -2,7 +2,7 @@
 -- by their type; a point is the sign that `shape` says, without it a circle.
 use Rattle.std.specs.Prelude.{ℕ, Bool, List, []}
 use Rattle.unit_plan.specs.declared.ends.End.TheVariants as end
-use Rattle.unit_plan.specs.declared.marks.Along.{Along}
+use Rattle.plan_kit.specs.declared.marks.Along.{Along}
 use Rattle.unit_plan.specs.Ends.{ways}
 use Rattle.unit_plan.specs.Lanes.{Lane}
 

@@ -11,8 +11,8 @@ use Rattle.vl_spec.specs.declared.definitions.FieldType.{FieldType}
 use Rattle.vl_compose.specs.Units.{UnitAt}
 use Rattle.scale_infer.specs.Types.{is_temporal}
 use Rattle.unit_plan.specs.declared.codes.TheConstants.{IS_STRING, TO_DATE}
-use Rattle.unit_plan.specs.declared.steps.Step.{Step}
-use Rattle.unit_plan.specs.declared.steps.Step.TheVariants as step
+use Rattle.plan_kit.specs.declared.steps.Step.{Step}
+use Rattle.plan_kit.specs.declared.steps.Step.TheVariants as step
 use Rattle.unit_plan.specs.Measures.{first_type, type_in}
 use Rattle.unit_plan.specs.Shows.{ShownAt, shows_of, field_in}
 

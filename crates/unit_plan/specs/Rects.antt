@@ -2,8 +2,8 @@
 -- the unit of time, or 5 wide about the centre.
 use Rattle.std.specs.Prelude.{ℕ, Bool, false, None, List, [], ◌∷◌, if◌then◌else◌}
 use Rattle.unit_plan.specs.declared.ends.End.TheVariants as end
-use Rattle.unit_plan.specs.declared.marks.Along.{Along}
-use Rattle.unit_plan.specs.declared.marks.Spot.TheVariants.{Nowhere}
+use Rattle.plan_kit.specs.declared.marks.Along.{Along}
+use Rattle.plan_kit.specs.declared.marks.Spot.TheVariants.{Nowhere}
 use Rattle.unit_plan.specs.Branches.{is_empty}
 use Rattle.unit_plan.specs.Ends.{always, ways, seconds}
 use Rattle.unit_plan.specs.Lanes.{Lane}

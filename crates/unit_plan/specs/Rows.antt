@@ -3,7 +3,7 @@
 use Rattle.std.specs.Prelude.{ℕ, Bool, List, ◌++◌, map}
 use Rattle.vl_compose.specs.Units.{UnitAt}
 use Rattle.vl_compose.specs.Views.{transforms_of}
-use Rattle.unit_plan.specs.declared.steps.Step.{Step}
+use Rattle.plan_kit.specs.declared.steps.Step.{Step}
 use Rattle.unit_plan.specs.Bins.{bin_steps, unit_steps}
 use Rattle.unit_plan.specs.Groups.{group_steps}
 use Rattle.unit_plan.specs.Reads.{read_steps}

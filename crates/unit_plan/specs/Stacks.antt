@@ -21,8 +21,8 @@ use Rattle.vl_compose.specs.Units.{UnitAt}
 use Rattle.scale_infer.specs.Scales.{first_at}
 use Rattle.scale_infer.specs.Types.{type_of, is_quantitative}
 use Rattle.unit_plan.specs.declared.stacks.Stacked.{Stacked}
-use Rattle.unit_plan.specs.declared.steps.Step.{Step}
-use Rattle.unit_plan.specs.declared.steps.Step.TheVariants as step
+use Rattle.plan_kit.specs.declared.steps.Step.{Step}
+use Rattle.plan_kit.specs.declared.steps.Step.TheVariants as step
 use Rattle.unit_plan.specs.Groups.{name_list}
 use Rattle.unit_plan.specs.Measures.{measure_of, dimension_of}
 use Rattle.cell_names.specs.Names.{name_of, stack_start, stack_end}

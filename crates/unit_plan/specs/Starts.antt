@@ -11,7 +11,7 @@ use Rattle.expr_syntax.specs.declared.expr.Expr.{Expr}
 use Rattle.expr_syntax.specs.declared.expr.Expr.TheVariants as expr
 use Rattle.time_calc.specs.TimeUnits.{keeps}
 use Rattle.unit_plan.specs.declared.codes.TheConstants.{YEAR, QUARTER, MONTH, DATE, DAY, HOURS, MINUTES, SECONDS, DATETIME}
-use Rattle.unit_plan.specs.Literals.{whole}
+use Rattle.plan_kit.specs.Literals.{whole}
 
 -- a part of the instant in a field, by the code of its builtin
 abbrev pub part_call : ℕ → List ℕ → Expr

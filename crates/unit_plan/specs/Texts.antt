@@ -11,10 +11,10 @@ use Rattle.vl_spec.specs.declared.marks.Align.TheVariants as align
 use Rattle.vl_spec.specs.declared.marks.Baseline.TheVariants as baseline
 use Rattle.vl_spec.specs.declared.marks.MarkDefinition.{MarkDefinition}
 use Rattle.vl_compose.specs.Units.{UnitAt}
-use Rattle.unit_plan.specs.declared.cells.CellOf.TheVariants.{Written}
-use Rattle.unit_plan.specs.declared.marks.TextLook.{TextLook}
-use Rattle.unit_plan.specs.declared.marks.Words.{Words}
-use Rattle.unit_plan.specs.declared.marks.WordsWay.{WordsWay}
+use Rattle.plan_kit.specs.declared.cells.CellOf.TheVariants.{Written}
+use Rattle.plan_kit.specs.declared.marks.TextLook.{TextLook}
+use Rattle.plan_kit.specs.declared.marks.Words.{Words}
+use Rattle.plan_kit.specs.declared.marks.WordsWay.{WordsWay}
 use Rattle.unit_plan.specs.Branches.{Branch, covers}
 use Rattle.unit_plan.specs.Cells.{cell_of}
 use Rattle.unit_plan.specs.Filters.{all_hold}

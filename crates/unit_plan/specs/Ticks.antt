@@ -7,7 +7,7 @@ use Rattle.vl_compose.specs.Units.{UnitAt}
 use Rattle.scale_infer.specs.Scales.{first_at}
 use Rattle.scale_infer.specs.Types.{type_of, is_continuous}
 use Rattle.unit_plan.specs.declared.ends.End.TheVariants as end
-use Rattle.unit_plan.specs.declared.marks.Along.{Along}
+use Rattle.plan_kit.specs.declared.marks.Along.{Along}
 use Rattle.unit_plan.specs.Ends.{ways}
 use Rattle.unit_plan.specs.Lanes.{Lane}
 

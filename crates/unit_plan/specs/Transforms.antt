@@ -41,8 +41,8 @@ use Rattle.vl_spec.specs.declared.transforms.StackTransform.{StackTransform}
 use Rattle.vl_spec.specs.declared.transforms.TimeUnitTransform.{TimeUnitTransform}
 use Rattle.vl_spec.specs.declared.transforms.Transform.{Transform}
 use Rattle.vl_spec.specs.declared.transforms.Transform.TheVariants as transform
-use Rattle.unit_plan.specs.declared.steps.Step.{Step}
-use Rattle.unit_plan.specs.declared.steps.Step.TheVariants as step
+use Rattle.plan_kit.specs.declared.steps.Step.{Step}
+use Rattle.plan_kit.specs.declared.steps.Step.TheVariants as step
 use Rattle.unit_plan.specs.Filters.{filter_expr}
 use Rattle.cell_names.specs.Names.{bin_settings, end_name}
 

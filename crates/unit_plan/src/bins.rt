@@ -3,13 +3,12 @@ ghost use Rattle.std.specs.Prelude.{◌≡◌, ◌++◌, None, flat_map, option_
 ghost use Rattle.unit_plan.specs.Bins.{bin_of, unit_of, bins_by, units_by, bins_of, units_of_time, bin_cuts, unit_cuts};
 ghost use Rattle.unit_plan.specs.inner.LentShows.{show_shown, shows_shown};
 
-use crate::numbers::number_or;
 use crate::shows::{ShownHere, field_in};
-use crate::steps::Step;
 use crate::transforms::{count_in, shared_end};
 use cell_names::{bin_name, bin_settings, bins_in, most_bins, unit_name};
 use cell_value::SharedText;
 use plain_rows::{BinOf, TimeOf};
+use plan_kit::{Step, number_or};
 use std::alloc::Global;
 use text_kit::{OutOfMemory, Seq, Text};
 use vl_spec::{Bin, FieldDefinition};

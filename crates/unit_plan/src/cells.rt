@@ -5,39 +5,10 @@ ghost use Rattle.unit_plan.specs.Cells.{cell_of_name, cell_of, end_of};
 use cell_names::{end_of_field, name_of};
 use cell_value::Cell;
 use expr_syntax::Expr;
+use plan_kit::CellOf;
 use std::alloc::Global;
 use text_kit::{Copies, OutOfMemory, Text};
 use vl_spec::Definition;
-
-/// A cell of each row of a unit.
-pub enum CellOf {
-    /// That of a field.
-    Field(Text),
-    /// This, in each row.
-    Written(Cell),
-    /// The value of an expression.
-    Computed(Expr),
-}
-
-impl Drop for CellOf {
-    fn drop(self) {
-        match self {
-            CellOf::Field(_) => {}
-            CellOf::Written(_) => {}
-            CellOf::Computed(e) => drop(e),
-        }
-    }
-}
-
-impl Copies for CellOf {
-    fn copied(&self, alloc: Global) -> Result<CellOf, OutOfMemory> {
-        match self {
-            CellOf::Field(name) => name.copy().map(CellOf::Field),
-            CellOf::Written(cell) => cell.copied(alloc).map(CellOf::Written),
-            CellOf::Computed(e) => e.copy(alloc).map(CellOf::Computed),
-        }
-    }
-}
 
 // The cell of a field that may have no name.
 fn cell_of_name(name: Option<Text>) -> CellOf

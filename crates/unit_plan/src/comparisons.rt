@@ -2,19 +2,18 @@
 ghost use Rattle.std.specs.Prelude.{◌≡◌, ◌++◌, [], ◌∷◌, true, false, map, IfOk, OnOk};
 ghost use Rattle.expr_syntax.specs.declared.expr.BinOp.TheVariants.{Or, Same};
 ghost use Rattle.expr_syntax.specs.declared.expr.Expr.TheVariants as expr;
-ghost use Rattle.unit_plan.specs.Joins.{joined};
-ghost use Rattle.unit_plan.specs.Literals.{number_expr};
+ghost use Rattle.plan_kit.specs.Joins.{joined};
+ghost use Rattle.plan_kit.specs.Literals.{number_expr};
 ghost use Rattle.unit_plan.specs.Comparisons.{subject, given, compared, between, is_there, field_test};
 
 use crate::codes::{IN_RANGE, IS_VALID, TO_DATE};
-use crate::exprs::{
-    binary, call_one, call_two, literal, number_beside, number_expr, opposite, pair,
-};
-use crate::joins::joined;
 use crate::starts::start_by;
 use cell_value::Cell;
 use expr_syntax::{BinOp, Expr};
 use fixed_num::Num;
+use plan_kit::{
+    binary, call_one, call_two, joined, literal, number_beside, number_expr, opposite, pair,
+};
 use std::alloc::Global;
 use text_kit::{OutOfMemory, Seq};
 use vl_spec::{Comparison, FieldTest};

@@ -3,8 +3,8 @@ ghost use Rattle.std.specs.Prelude.{◌≡◌, ◌++◌, [], ◌∷◌, map, fal
 ghost use Rattle.std.specs.Option.{option_map_or};
 ghost use Rattle.cell_value.specs.declared.cell.Cell.TheVariants.{Null};
 ghost use Rattle.unit_plan.specs.Filters.{all_hold};
-ghost use Rattle.unit_plan.specs.declared.cells.CellOf.TheVariants.{Written as TheWritten};
-ghost use Rattle.unit_plan.specs.declared.marks.Spot.TheVariants as TheSpots;
+ghost use Rattle.plan_kit.specs.declared.cells.CellOf.TheVariants.{Written as TheWritten};
+ghost use Rattle.plan_kit.specs.declared.marks.Spot.TheVariants as TheSpots;
 ghost use Rattle.unit_plan.specs.Branches.{is_certain, covers, is_empty};
 ghost use Rattle.unit_plan.specs.Selections.{is_selection};
 ghost use Rattle.unit_plan.specs.Ends.{always, half_width, is_band, near_on, far_on, stand_on, base_on, base, pixels_by, is_stack_start};
@@ -13,11 +13,8 @@ ghost use Rattle.unit_plan.specs.inner.Lent.{branch_shown, branches_shown};
 ghost use Rattle.unit_plan.specs.inner.LentLanes.{lane_shown};
 
 use crate::branches::BranchHere;
-use crate::cells::CellOf;
 use crate::filters::all_hold;
 use crate::lanes::LaneHere;
-use crate::marks::{Spot, SpotWay};
-use crate::numbers::turned;
 use crate::scale_ends::{
     always, base_at, centre_at, far_on, half_width, is_band, near_on, place_at, place_or_centre,
     stand_on,
@@ -27,6 +24,7 @@ use crate::selections::SelectionNames;
 use cell_value::Cell;
 use expr_syntax::Expr;
 use fixed_num::Num;
+use plan_kit::{CellOf, Spot, SpotWay, turned};
 use std::alloc::Global;
 use text_kit::{OutOfMemory, Seq};
 use vl_spec::Definition;

@@ -3,14 +3,13 @@ ghost use Rattle.std.specs.Prelude.{◌≡◌, ◌++◌, map, true, unwrap_or, I
 ghost use Rattle.expr_syntax.specs.declared.expr.BinOp.TheVariants.{Or, And};
 ghost use Rattle.expr_syntax.specs.declared.expr.Expr.TheVariants as expr;
 ghost use Rattle.unit_plan.specs.Selections.{is_selection};
-ghost use Rattle.unit_plan.specs.Joins.{joined};
+ghost use Rattle.plan_kit.specs.Joins.{joined};
 ghost use Rattle.unit_plan.specs.Filters.{stored_none, selected, param_test, filter_expr, test_expr, all_of, all_hold};
 
 use crate::comparisons::field_test;
-use crate::exprs::{binary, opposite, whole};
-use crate::joins::joined;
 use crate::selections::SelectionNames;
 use expr_syntax::{BinOp, Expr};
+use plan_kit::{binary, joined, opposite, whole};
 use std::alloc::Global;
 use text_kit::{Boxed, OutOfMemory, Seq, Text};
 use vl_spec::{Filter, ParamTest, Test};

@@ -13,7 +13,6 @@ ghost use Rattle.unit_plan.specs.Ticks.{is_upright, half_across, half_down};
 
 use crate::lanes::lane_at;
 use crate::looks::{color_in, line_width, opacity_in, sign_in, size_in, stroked, type_of_mark};
-use crate::marks::{Along, LookWay, MarkPlan, MarkShape, TextLook, WordsWay};
 use crate::rows::{after, before};
 use crate::seen::ScaleSeen;
 use crate::selections::SelectionNames;
@@ -21,39 +20,12 @@ use crate::shapes::{
     along, half_across, half_down, is_path, is_symbol, is_text, is_upright, shape_of,
 };
 use crate::stacks::{dimension_name, series_of};
-use crate::steps::Step;
 use crate::texts::{text_look, words_in};
+use plan_kit::{Along, LookWay, MarkPlan, MarkShape, Step, TextLook, UnitPlan, WordsWay};
 use std::alloc::Global;
 use text_kit::{OutOfMemory, Seq, Text};
 use vl_compose::UnitHere;
 use vl_normalize::{X, X2, Y, Y2};
-
-/// The plan of a unit.
-pub struct UnitPlan {
-    /// Its number among the units of the specification.
-    pub number: usize,
-    /// The name of the source of its rows.
-    pub source: Text,
-    /// The steps before a row stands for several.
-    pub before: Seq<Step>,
-    /// The steps from there on.
-    pub after: Seq<Step>,
-    /// Its mark.
-    pub mark: MarkPlan,
-}
-
-impl Drop for UnitPlan {
-    fn drop(self) {
-        let UnitPlan {
-            number: _,
-            source: _,
-            before: _,
-            after: _,
-            mark,
-        } = self;
-        drop(mark);
-    }
-}
 
 // The ends of the mark of a unit along x.
 fn across_of(

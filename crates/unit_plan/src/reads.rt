@@ -5,11 +5,10 @@ ghost use Rattle.unit_plan.specs.Reads.{read_expr, has_time_unit, is_read, field
 ghost use Rattle.unit_plan.specs.inner.LentShows.{show_shown, shows_shown};
 
 use crate::codes::{IS_STRING, TO_DATE};
-use crate::exprs::{call_one, choose};
 use crate::measures::type_in;
 use crate::shows::{ShownHere, field_in};
-use crate::steps::Step;
 use expr_syntax::Expr;
+use plan_kit::{Step, call_one, choose};
 use scale_infer::is_temporal;
 use std::alloc::Global;
 use text_kit::{OutOfMemory, Seq, Text};

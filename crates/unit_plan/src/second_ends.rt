@@ -7,13 +7,13 @@ ghost use Rattle.unit_plan.specs.inner.Lent.{branch_shown, branches_shown};
 ghost use Rattle.unit_plan.specs.inner.LentLanes.{lane_shown};
 
 use crate::branches::BranchHere;
-use crate::cells::{CellOf, cell_of};
+use crate::cells::cell_of;
 use crate::ends::{push_unsaid, tests_beside};
 use crate::lanes::LaneHere;
-use crate::marks::{Spot, SpotWay};
 use crate::scale_ends::always;
 use crate::seen::ScaleSeen;
 use crate::selections::SelectionNames;
+use plan_kit::{CellOf, Spot, SpotWay};
 use std::alloc::Global;
 use text_kit::{OutOfMemory, Seq};
 use vl_spec::Definition;

@@ -5,7 +5,7 @@ ghost use Rattle.vl_spec.specs.declared.definitions.Definition.{Definition as AD
 ghost use Rattle.scale_infer.specs.Types.{type_of, is_continuous};
 ghost use Rattle.vl_compose.specs.Shown.{unit_shown};
 ghost use Rattle.unit_plan.specs.declared.ends.End.TheVariants as TheEnds;
-ghost use Rattle.unit_plan.specs.declared.marks.Spot.TheVariants as TheSpots;
+ghost use Rattle.plan_kit.specs.declared.marks.Spot.TheVariants as TheSpots;
 ghost use Rattle.unit_plan.specs.Bars.{bar_far, bar_along};
 ghost use Rattle.unit_plan.specs.Ends.{always, ways, seconds};
 ghost use Rattle.unit_plan.specs.Paths.{area_far, area_along};
@@ -18,13 +18,12 @@ ghost use Rattle.unit_plan.specs.inner.LentLanes.{lane_shown};
 
 use crate::ends::{End, base, has_none, ways};
 use crate::lanes::LaneHere;
-use crate::marks::{Along, MarkShape, SpotWay};
-use crate::numbers::millionths;
 use crate::scale_ends::always_nowhere;
 use crate::second_ends::seconds;
 use crate::selections::SelectionNames;
 use crate::shows::first_at;
 use fixed_num::Num;
+use plan_kit::{Along, MarkShape, SpotWay, millionths};
 use scale_infer::{is_continuous, type_of};
 use std::alloc::Global;
 use text_kit::{OutOfMemory, Seq};

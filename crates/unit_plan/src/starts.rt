@@ -5,9 +5,9 @@ ghost use Rattle.unit_plan.specs.Starts.{part_call, quarter_month, weekday_date,
 ghost use Rattle.unit_plan.specs.Starts.{time_parts, start_expr, start_by};
 
 use crate::codes::{DATE, DATETIME, DAY, HOURS, MINUTES, MONTH, QUARTER, SECONDS, YEAR};
-use crate::exprs::{binary, call_one, whole};
 use case_table::{PartOf, unit_rule};
 use expr_syntax::{BinOp, Expr};
+use plan_kit::{binary, call_one, whole};
 use std::alloc::Global;
 use text_kit::{OutOfMemory, Seq, Text};
 

@@ -10,15 +10,14 @@ ghost use Rattle.unit_plan.specs.Texts.{format_of, words_of, words_way, no_words
 ghost use Rattle.unit_plan.specs.inner.Lent.{branch_shown, branches_shown};
 
 use crate::branches::BranchHere;
-use crate::cells::{CellOf, cell_of};
+use crate::cells::cell_of;
 use crate::ends::{covers, tests_beside};
 use crate::lanes::branches_at;
 use crate::looks::said_in;
-use crate::marks::{TextLook, Words, WordsWay};
-use crate::numbers::{millionths, number_or};
 use crate::selections::SelectionNames;
 use crate::shows::field_in;
 use cell_value::Cell;
+use plan_kit::{CellOf, TextLook, Words, WordsWay, millionths, number_or};
 use std::alloc::Global;
 use text_kit::{Copies, OutOfMemory, Seq, Text};
 use vl_compose::UnitHere;

@@ -4,7 +4,7 @@ ghost use Rattle.std.specs.Option.{option_map, option_map_or};
 ghost use Rattle.fixed_num.specs.Number.{million};
 ghost use Rattle.cell_value.specs.declared.cell.Cell.TheVariants.{Null};
 ghost use Rattle.plain_rows.specs.declared.transforms.Offset.TheVariants as TheRows;
-ghost use Rattle.unit_plan.specs.declared.steps.Step.TheVariants as TheSteps;
+ghost use Rattle.plan_kit.specs.declared.steps.Step.TheVariants as TheSteps;
 ghost use Rattle.cell_names.specs.Names.{end_name};
 ghost use Rattle.unit_plan.specs.Selections.{is_selection};
 ghost use Rattle.unit_plan.specs.Transforms.{count_in, offset_in, start_named, end_named, op_settings, group_settings, is_descending, sort_by, sort_settings};
@@ -13,13 +13,13 @@ ghost use Rattle.unit_plan.specs.Transforms.{after_of, window_settings, texts_in
 
 use crate::filters::filter_expr;
 use crate::selections::SelectionNames;
-use crate::steps::Step;
 use cell_names::{bin_settings, end_name};
 use cell_value::{Cell, SharedText};
 use fixed_num::Num;
 use plain_rows::{
     BinOf, FoldOf, GroupOf, LookupOf, Offset as RowOffset, OpOf, SortBy, StackOf, TimeOf, WindowOf,
 };
+use plan_kit::Step;
 use std::alloc::Global;
 use text_kit::{Copies, OutOfMemory, Seq, Text, copy_list};
 use vl_spec::{

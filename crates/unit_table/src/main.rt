@@ -9,11 +9,12 @@ mod seen;
 mod steps;
 mod words;
 
+use plan_kit::UnitPlan;
 use scale_infer::ScaleOf;
 use std::alloc::Global;
 use std::io;
 use text_kit::{OutOfMemory, Text};
-use unit_plan::{SelectionNames, UnitPlan, selection_names, unit_plan_of};
+use unit_plan::{SelectionNames, selection_names, unit_plan_of};
 use vl_compose::{UnitHere, units_of};
 use vl_normalize::normalize;
 use vl_spec::VlSpec;

@@ -3,11 +3,11 @@ use crate::steps::say_expr;
 use crate::words::{say_cell, say_count, say_flag, say_number, say_quoted, say_texts, say_word};
 use expr_syntax::Expr;
 use fixed_num::Num;
-use std::alloc::Global;
-use text_kit::{OutOfMemory, Text};
-use unit_plan::{
+use plan_kit::{
     Along, CellOf, Look, LookWay, MarkPlan, MarkShape, Spot, SpotWay, TextLook, WordsWay,
 };
+use std::alloc::Global;
+use text_kit::{OutOfMemory, Text};
 use vl_spec::{Align, Baseline};
 
 /// Adds the shape of a mark, and its ends along x and along y.

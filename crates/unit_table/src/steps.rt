@@ -6,9 +6,9 @@ use expr_syntax::{Expr, write};
 use plain_rows::{
     BinOf, FoldOf, GroupOf, LookupOf, Offset, OpOf, SortBy, StackOf, TimeOf, WindowOf,
 };
+use plan_kit::{Step, UnitPlan};
 use std::alloc::Global;
 use text_kit::{OutOfMemory, Text};
-use unit_plan::{Step, UnitPlan};
 
 /// Adds the source of the rows of a unit, and its steps before a row stands for several.
 pub fn say_before(alloc: Global, out: &mut Text, unit: &UnitPlan) -> Result<(), OutOfMemory> {

@@ -1,7 +1,7 @@
 -- The fields of which an order speaks.
 use Rattle.std.proofs.Common.{◌≡◌, ℕ, ◌<◌, ◌≤◌, ◌+◌, ◌-◌, true, false, List, [], ◌∷◌, ◌++◌, length, take, get_or, sym, ap, ◌∙◌, refl, if◌then◌else◌, arith}
 use Rattle.std.proofs.lemmas.List.{take_more}
-use Rattle.chart_plan.specs.declared.grids.FacetField.{FacetField}
+use Rattle.plan_kit.specs.declared.grids.FacetField.{FacetField}
 use Rattle.vega_assemble.specs.Keys.{is_first, and_before, ordered}
 
 -- one without an order behind others

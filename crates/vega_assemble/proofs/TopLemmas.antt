@@ -5,7 +5,7 @@ use Rattle.vega_spec.specs.declared.signals.Signal.{Signal}
 use Rattle.vega_spec.specs.declared.spec.Group.{roll-Group, out-roll-Group}
 use Rattle.vega_spec.specs.declared.spec.VgMark.{VgMark}
 use Rattle.vl_spec.specs.declared.spec.VlSpec.{VlSpec}
-use Rattle.chart_plan.specs.declared.plan.Plan.{Plan}
+use Rattle.plan_kit.specs.declared.plan.Plan.{Plan}
 use Rattle.vega_assemble.specs.declared.views.Opened.{Opened}
 use Rattle.vega_assemble.specs.Assembled.{held_at_top, sets_of, written_with}
 use Rattle.vega_assemble.specs.Made.{MadeObject, MadeView, group_of, parts_of, rolled}

@@ -4,14 +4,14 @@ use Rattle.std.proofs.lemmas.List.{append_assoc, drop_more}
 use Rattle.std.specs.Option.{option_map_or}
 use Rattle.std.specs.Prelude.{slice_get}
 use Rattle.vega_spec.specs.declared.spec.VgMark.{VgMark}
-use Rattle.chart_plan.specs.declared.grids.FacetPlan.{FacetPlan}
-use Rattle.chart_plan.specs.declared.grids.GridPlan.{GridPlan}
-use Rattle.chart_plan.specs.declared.plots.PlotPlan.{PlotPlan}
-use Rattle.chart_plan.specs.declared.plan.Plan.{Plan}
-use Rattle.chart_plan.specs.declared.views.ViewPlan.{ViewPlan, ViewPlan-F, out-ViewPlan, out-roll-ViewPlan, map-ViewPlan, fold_out-ViewPlan}
-use Rattle.chart_plan.specs.declared.views.ViewPlan.TheVariants as view
-use Rattle.chart_plan.specs.declared.views.ViewPlan.TheVariants.{rolls-Plot, rolls-Grid}
-use Rattle.chart_plan.specs.declared.views.ViewPlan.TheOpen as level
+use Rattle.plan_kit.specs.declared.grids.FacetPlan.{FacetPlan}
+use Rattle.plan_kit.specs.declared.grids.GridPlan.{GridPlan}
+use Rattle.plan_kit.specs.declared.plots.PlotPlan.{PlotPlan}
+use Rattle.plan_kit.specs.declared.plan.Plan.{Plan}
+use Rattle.plan_kit.specs.declared.views.ViewPlan.{ViewPlan, ViewPlan-F, out-ViewPlan, out-roll-ViewPlan, map-ViewPlan, fold_out-ViewPlan}
+use Rattle.plan_kit.specs.declared.views.ViewPlan.TheVariants as view
+use Rattle.plan_kit.specs.declared.views.ViewPlan.TheVariants.{rolls-Plot, rolls-Grid}
+use Rattle.plan_kit.specs.declared.views.ViewPlan.TheOpen as level
 use Rattle.vega_assemble.specs.declared.views.Held.{Held}
 use Rattle.vega_assemble.specs.declared.views.Opened.{Opened}
 use Rattle.vega_assemble.specs.Keys.{sort_of}

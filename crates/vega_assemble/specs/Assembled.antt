@@ -10,10 +10,9 @@ use Rattle.vega_spec.specs.declared.transforms.Transform.{Transform}
 use Rattle.vega_spec.specs.declared.transforms.Transform.TheVariants as vega
 use Rattle.vl_spec.specs.declared.sources.SourceOf.{SourceOf}
 use Rattle.vl_spec.specs.declared.spec.VlSpec.{VlSpec}
-use Rattle.unit_plan.specs.declared.plans.UnitPlan.{UnitPlan}
-use Rattle.chart_plan.specs.declared.plan.Plan.{Plan}
-use Rattle.chart_plan.specs.declared.scales.ScalePlan.{ScalePlan}
-use Rattle.chart_plan.specs.Plan.{plan_of}
+use Rattle.plan_kit.specs.declared.plans.UnitPlan.{UnitPlan}
+use Rattle.plan_kit.specs.declared.plan.Plan.{Plan}
+use Rattle.plan_kit.specs.declared.scales.ScalePlan.{ScalePlan}
 use Rattle.vega_assemble.specs.declared.views.Held.{Held}
 use Rattle.vega_assemble.specs.Drags.{all_outer}
 use Rattle.vega_assemble.specs.Keys.{grid_begins, lists_of_grid}
@@ -90,7 +89,3 @@ written_with stem s p = top_rolled p.padding (made stem s p)
 
 abbrev pub written : VlSpec → Plan → VgSpec
 written s p = written_with (stem_for (mentioned s p)) s p
-
--- The compiled specification.
-abbrev pub assembled : VlSpec → VgSpec
-assembled s = written s (plan_of s)

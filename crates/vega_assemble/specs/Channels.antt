@@ -11,16 +11,16 @@ use Rattle.expr_syntax.specs.declared.expr.Expr.TheVariants as expr
 use Rattle.vega_spec.specs.declared.encode.Channel.{Channel}
 use Rattle.vega_spec.specs.declared.encode.Channel.TheVariants.{One, Several}
 use Rattle.vega_spec.specs.declared.encode.ChannelValue.{ChannelValue}
-use Rattle.unit_plan.specs.declared.cells.CellOf.{CellOf}
-use Rattle.unit_plan.specs.declared.cells.CellOf.TheVariants as shows
-use Rattle.unit_plan.specs.declared.marks.Look.{Look}
-use Rattle.unit_plan.specs.declared.marks.Look.TheVariants as look
-use Rattle.unit_plan.specs.declared.marks.LookWay.{LookWay}
-use Rattle.unit_plan.specs.declared.marks.Spot.{Spot}
-use Rattle.unit_plan.specs.declared.marks.Spot.TheVariants as spot
-use Rattle.unit_plan.specs.declared.marks.SpotWay.{SpotWay}
-use Rattle.unit_plan.specs.declared.marks.WordsWay.{WordsWay}
-use Rattle.chart_plan.specs.declared.scales.ScalePlan.{ScalePlan}
+use Rattle.plan_kit.specs.declared.cells.CellOf.{CellOf}
+use Rattle.plan_kit.specs.declared.cells.CellOf.TheVariants as shows
+use Rattle.plan_kit.specs.declared.marks.Look.{Look}
+use Rattle.plan_kit.specs.declared.marks.Look.TheVariants as look
+use Rattle.plan_kit.specs.declared.marks.LookWay.{LookWay}
+use Rattle.plan_kit.specs.declared.marks.Spot.{Spot}
+use Rattle.plan_kit.specs.declared.marks.Spot.TheVariants as spot
+use Rattle.plan_kit.specs.declared.marks.SpotWay.{SpotWay}
+use Rattle.plan_kit.specs.declared.marks.WordsWay.{WordsWay}
+use Rattle.plan_kit.specs.declared.scales.ScalePlan.{ScalePlan}
 use Rattle.vega_assemble.specs.Names.{middle_name, foot_name, scale_name}
 
 -- ---- values

@@ -10,15 +10,15 @@ use Rattle.vega_spec.specs.declared.domains.DomainOrder.{DomainOrder}
 use Rattle.vega_spec.specs.declared.domains.DomainOrder.TheVariants as order
 use Rattle.vega_spec.specs.declared.domains.Reference.{Reference}
 use Rattle.vega_spec.specs.declared.orders.Order.TheVariants.{Ascending, Descending}
-use Rattle.unit_plan.specs.declared.cells.CellOf.{CellOf}
-use Rattle.unit_plan.specs.declared.cells.CellOf.TheVariants as shows
-use Rattle.chart_plan.specs.declared.columns.Column.{Column}
-use Rattle.chart_plan.specs.declared.domains.DomainPlan.{DomainPlan}
-use Rattle.chart_plan.specs.declared.domains.DomainPlan.TheVariants as plan
-use Rattle.chart_plan.specs.declared.domains.RowCells.{RowCells}
-use Rattle.chart_plan.specs.declared.orders.CellOrder.{CellOrder}
-use Rattle.chart_plan.specs.declared.orders.CellOrder.TheVariants as stands
-use Rattle.chart_plan.specs.declared.orders.RowsOrder.{RowsOrder}
+use Rattle.plan_kit.specs.declared.cells.CellOf.{CellOf}
+use Rattle.plan_kit.specs.declared.cells.CellOf.TheVariants as shows
+use Rattle.plan_kit.specs.declared.columns.Column.{Column}
+use Rattle.plan_kit.specs.declared.domains.DomainPlan.{DomainPlan}
+use Rattle.plan_kit.specs.declared.domains.DomainPlan.TheVariants as plan
+use Rattle.plan_kit.specs.declared.domains.RowCells.{RowCells}
+use Rattle.plan_kit.specs.declared.orders.CellOrder.{CellOrder}
+use Rattle.plan_kit.specs.declared.orders.CellOrder.TheVariants as stands
+use Rattle.plan_kit.specs.declared.orders.RowsOrder.{RowsOrder}
 use Rattle.vega_assemble.specs.Names.{unit_name, cells_name, ranks_name, cell_column, rank_column}
 use Rattle.vega_assemble.specs.Ranks.{min_code, op_of_scale, sum_code}
 use Rattle.vega_assemble.specs.Steps.{direction}

@@ -11,12 +11,12 @@ use Rattle.vega_spec.specs.declared.domains.Domain.TheVariants as domain
 use Rattle.vega_spec.specs.declared.domains.Reference.{Reference}
 use Rattle.vega_spec.specs.declared.scales.Scale.{Scale}
 use Rattle.vl_normalize.specs.declared.codes.TheConstants.{X, Y}
-use Rattle.chart_plan.specs.declared.domains.DomainPlan.{DomainPlan}
-use Rattle.chart_plan.specs.declared.domains.DomainPlan.TheVariants as plan
-use Rattle.chart_plan.specs.declared.scales.ScalePlan.{ScalePlan}
-use Rattle.chart_plan.specs.declared.selections.DragPlan.{DragPlan}
-use Rattle.chart_plan.specs.declared.selections.SelectionPlan.{SelectionPlan}
-use Rattle.chart_plan.specs.Shown.{is_among}
+use Rattle.plan_kit.specs.declared.domains.DomainPlan.{DomainPlan}
+use Rattle.plan_kit.specs.declared.domains.DomainPlan.TheVariants as plan
+use Rattle.plan_kit.specs.declared.scales.ScalePlan.{ScalePlan}
+use Rattle.plan_kit.specs.declared.selections.DragPlan.{DragPlan}
+use Rattle.plan_kit.specs.declared.selections.SelectionPlan.{SelectionPlan}
+use Rattle.plan_kit.specs.Among.{is_among}
 use Rattle.vega_assemble.specs.Domains.{reference, referred}
 use Rattle.vega_assemble.specs.Names.{scale_name, drag_name, outer_name}
 use Rattle.vega_assemble.specs.Scales.{scale_over}

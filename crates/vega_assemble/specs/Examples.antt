@@ -22,21 +22,21 @@ use Rattle.vl_normalize.specs.declared.codes.TheConstants.{X, Y}
 use Rattle.scale_infer.specs.declared.codes.TheConstants.{LINEAR, BAND, POINT}
 use Rattle.guide_kit.specs.declared.axes.AxisOf.{AxisOf}
 use Rattle.guide_kit.specs.declared.frames.Side.TheVariants as at
-use Rattle.unit_plan.specs.declared.cells.CellOf.TheVariants as shows
-use Rattle.unit_plan.specs.declared.marks.Spot.{Spot}
-use Rattle.unit_plan.specs.declared.marks.Spot.TheVariants as spot
-use Rattle.unit_plan.specs.declared.marks.SpotWay.{SpotWay}
-use Rattle.unit_plan.specs.declared.steps.Step.TheVariants as step
-use Rattle.chart_plan.specs.declared.columns.Column.{Column}
-use Rattle.chart_plan.specs.declared.domains.DomainPlan.{DomainPlan}
-use Rattle.chart_plan.specs.declared.domains.DomainPlan.TheVariants as plan
-use Rattle.chart_plan.specs.declared.grids.FacetPlan.{FacetPlan}
-use Rattle.chart_plan.specs.declared.grids.GridColumns.TheVariants as columns
-use Rattle.chart_plan.specs.declared.grids.GridPlan.{GridPlan}
-use Rattle.chart_plan.specs.declared.orders.CellOrder.TheVariants as stands
-use Rattle.chart_plan.specs.declared.ranges.RangePlan.TheVariants as given
-use Rattle.chart_plan.specs.declared.scales.ScalePlan.{ScalePlan}
-use Rattle.chart_plan.specs.declared.sizes.SizePlan.TheVariants as sized
+use Rattle.plan_kit.specs.declared.cells.CellOf.TheVariants as shows
+use Rattle.plan_kit.specs.declared.marks.Spot.{Spot}
+use Rattle.plan_kit.specs.declared.marks.Spot.TheVariants as spot
+use Rattle.plan_kit.specs.declared.marks.SpotWay.{SpotWay}
+use Rattle.plan_kit.specs.declared.steps.Step.TheVariants as step
+use Rattle.plan_kit.specs.declared.columns.Column.{Column}
+use Rattle.plan_kit.specs.declared.domains.DomainPlan.{DomainPlan}
+use Rattle.plan_kit.specs.declared.domains.DomainPlan.TheVariants as plan
+use Rattle.plan_kit.specs.declared.grids.FacetPlan.{FacetPlan}
+use Rattle.plan_kit.specs.declared.grids.GridColumns.TheVariants as columns
+use Rattle.plan_kit.specs.declared.grids.GridPlan.{GridPlan}
+use Rattle.plan_kit.specs.declared.orders.CellOrder.TheVariants as stands
+use Rattle.plan_kit.specs.declared.ranges.RangePlan.TheVariants as given
+use Rattle.plan_kit.specs.declared.scales.ScalePlan.{ScalePlan}
+use Rattle.plan_kit.specs.declared.sizes.SizePlan.TheVariants as sized
 use Rattle.vega_assemble.specs.Channels.{spot_way, bare}
 use Rattle.vega_assemble.specs.Facets.{facet_over, parts_by}
 use Rattle.vega_assemble.specs.Guides.{axis_written}

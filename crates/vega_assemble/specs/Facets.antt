@@ -10,12 +10,12 @@ use Rattle.vega_spec.specs.declared.marks.Facet.{Facet}
 use Rattle.vega_spec.specs.declared.marks.Header.{Header}
 use Rattle.vega_spec.specs.declared.marks.Header.TheVariants.{Row, Column}
 use Rattle.vega_spec.specs.declared.orders.Texts.TheVariants as texts
-use Rattle.chart_plan.specs.declared.grids.FacetField.{FacetField}
-use Rattle.chart_plan.specs.declared.grids.FacetPlan.{FacetPlan}
-use Rattle.chart_plan.specs.declared.grids.GridPlan.{GridPlan}
-use Rattle.chart_plan.specs.declared.orders.CellOrder.TheVariants as stands
-use Rattle.chart_plan.specs.declared.scales.ScalePlan.{ScalePlan}
-use Rattle.chart_plan.specs.Shown.{is_among}
+use Rattle.plan_kit.specs.declared.grids.FacetField.{FacetField}
+use Rattle.plan_kit.specs.declared.grids.FacetPlan.{FacetPlan}
+use Rattle.plan_kit.specs.declared.grids.GridPlan.{GridPlan}
+use Rattle.plan_kit.specs.declared.orders.CellOrder.TheVariants as stands
+use Rattle.plan_kit.specs.declared.scales.ScalePlan.{ScalePlan}
+use Rattle.plan_kit.specs.Among.{is_among}
 use Rattle.vega_assemble.specs.Keys.{has_keys}
 use Rattle.vega_assemble.specs.Lists.{lists_of_scale, field_names}
 use Rattle.vega_assemble.specs.Names.{unit_name, keys_name}

@@ -14,8 +14,8 @@ use Rattle.guide_kit.specs.declared.axes.AxisOf.{AxisOf}
 use Rattle.guide_kit.specs.declared.frames.Side.{Side as EdgeOf}
 use Rattle.guide_kit.specs.declared.frames.Side.TheVariants as at
 use Rattle.guide_kit.specs.declared.legends.LegendOf.{LegendOf}
-use Rattle.chart_plan.specs.declared.plots.AxisPlan.{AxisPlan}
-use Rattle.chart_plan.specs.declared.scales.ScalePlan.{ScalePlan}
+use Rattle.plan_kit.specs.declared.plots.AxisPlan.{AxisPlan}
+use Rattle.plan_kit.specs.declared.scales.ScalePlan.{ScalePlan}
 use Rattle.vega_assemble.specs.Names.{scale_name}
 use Rattle.vega_assemble.specs.Steps.{counted}
 

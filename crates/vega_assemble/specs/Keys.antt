@@ -16,14 +16,14 @@ use Rattle.vega_spec.specs.declared.groupings.Lookup.{Lookup}
 use Rattle.vega_spec.specs.declared.orders.Sort.{Sort}
 use Rattle.vega_spec.specs.declared.transforms.Transform.{Transform}
 use Rattle.vega_spec.specs.declared.transforms.Transform.TheVariants as vega
-use Rattle.unit_plan.specs.Joins.{joined, paired_times}
-use Rattle.unit_plan.specs.Literals.{whole}
-use Rattle.chart_plan.specs.declared.grids.FacetField.{FacetField}
-use Rattle.chart_plan.specs.declared.grids.FacetPlan.{FacetPlan}
-use Rattle.chart_plan.specs.declared.grids.GridPlan.{GridPlan}
-use Rattle.chart_plan.specs.declared.orders.CellOrder.{CellOrder}
-use Rattle.chart_plan.specs.declared.orders.CellOrder.TheVariants as stands
-use Rattle.chart_plan.specs.declared.orders.RowsOrder.{RowsOrder}
+use Rattle.plan_kit.specs.Joins.{joined, paired_times}
+use Rattle.plan_kit.specs.Literals.{whole}
+use Rattle.plan_kit.specs.declared.grids.FacetField.{FacetField}
+use Rattle.plan_kit.specs.declared.grids.FacetPlan.{FacetPlan}
+use Rattle.plan_kit.specs.declared.grids.GridPlan.{GridPlan}
+use Rattle.plan_kit.specs.declared.orders.CellOrder.{CellOrder}
+use Rattle.plan_kit.specs.declared.orders.CellOrder.TheVariants as stands
+use Rattle.plan_kit.specs.declared.orders.RowsOrder.{RowsOrder}
 use Rattle.vega_assemble.specs.Lists.{order_begins}
 use Rattle.vega_assemble.specs.Names.{unit_name, begun_name, keys_name, key_column, orders_name, rank_column}
 use Rattle.vega_assemble.specs.Ranked.{formula, numbers_rows, given_in, found_in}

@@ -18,12 +18,12 @@ use Rattle.vl_spec.specs.declared.marks.Align.TheVariants as align
 use Rattle.vl_spec.specs.declared.marks.Baseline.{Baseline}
 use Rattle.vl_spec.specs.declared.marks.Baseline.TheVariants as baseline
 use Rattle.vl_normalize.specs.declared.codes.TheConstants.{X, Y}
-use Rattle.unit_plan.specs.declared.marks.MarkPlan.{MarkPlan}
-use Rattle.unit_plan.specs.declared.marks.MarkShape.{MarkShape}
-use Rattle.unit_plan.specs.declared.marks.MarkShape.TheVariants as shape
-use Rattle.unit_plan.specs.declared.marks.TextLook.{TextLook}
-use Rattle.unit_plan.specs.declared.plans.UnitPlan.{UnitPlan}
-use Rattle.chart_plan.specs.declared.scales.ScalePlan.{ScalePlan}
+use Rattle.plan_kit.specs.declared.marks.MarkPlan.{MarkPlan}
+use Rattle.plan_kit.specs.declared.marks.MarkShape.{MarkShape}
+use Rattle.plan_kit.specs.declared.marks.MarkShape.TheVariants as shape
+use Rattle.plan_kit.specs.declared.marks.TextLook.{TextLook}
+use Rattle.plan_kit.specs.declared.plans.UnitPlan.{UnitPlan}
+use Rattle.plan_kit.specs.declared.scales.ScalePlan.{ScalePlan}
 use Rattle.vega_assemble.specs.Channels.{alone, end_channel, look_channel, words_channel, number_value, text_value}
 use Rattle.vega_assemble.specs.Made.{MadeMark, AMark, AGroup, NoMarks, Made, bare_object}
 use Rattle.vega_assemble.specs.Names.{unit_name, mark_name}

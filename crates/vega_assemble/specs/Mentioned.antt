@@ -15,32 +15,32 @@ use Rattle.vl_spec.specs.declared.params.ParamOf.{ParamOf}
 use Rattle.vl_spec.specs.declared.sources.SourceOf.{SourceOf}
 use Rattle.vl_spec.specs.declared.spec.VlSpec.{VlSpec}
 use Rattle.selection_events.specs.declared.selection.DragOf.{DragOf}
-use Rattle.unit_plan.specs.declared.cells.CellOf.{CellOf}
-use Rattle.unit_plan.specs.declared.cells.CellOf.TheVariants as shows
-use Rattle.unit_plan.specs.declared.marks.Along.{Along}
-use Rattle.unit_plan.specs.declared.marks.Look.{Look}
-use Rattle.unit_plan.specs.declared.marks.Look.TheVariants as look
-use Rattle.unit_plan.specs.declared.marks.LookWay.{LookWay}
-use Rattle.unit_plan.specs.declared.marks.MarkPlan.{MarkPlan}
-use Rattle.unit_plan.specs.declared.marks.Spot.{Spot}
-use Rattle.unit_plan.specs.declared.marks.Spot.TheVariants as spot
-use Rattle.unit_plan.specs.declared.marks.SpotWay.{SpotWay}
-use Rattle.unit_plan.specs.declared.marks.WordsWay.{WordsWay}
-use Rattle.unit_plan.specs.declared.plans.UnitPlan.{UnitPlan}
-use Rattle.unit_plan.specs.declared.steps.Step.{Step}
-use Rattle.unit_plan.specs.declared.steps.Step.TheVariants as step
-use Rattle.chart_plan.specs.declared.columns.Column.{Column}
-use Rattle.chart_plan.specs.declared.domains.DomainPlan.{DomainPlan}
-use Rattle.chart_plan.specs.declared.domains.DomainPlan.TheVariants as plan
-use Rattle.chart_plan.specs.declared.grids.FacetField.{FacetField}
-use Rattle.chart_plan.specs.declared.grids.FacetPlan.{FacetPlan}
-use Rattle.chart_plan.specs.declared.grids.GridPlan.{GridPlan}
-use Rattle.chart_plan.specs.declared.orders.CellOrder.{CellOrder}
-use Rattle.chart_plan.specs.declared.orders.CellOrder.TheVariants as stands
-use Rattle.chart_plan.specs.declared.orders.RowsOrder.{RowsOrder}
-use Rattle.chart_plan.specs.declared.plan.Plan.{Plan}
-use Rattle.chart_plan.specs.declared.scales.ScalePlan.{ScalePlan}
-use Rattle.chart_plan.specs.declared.selections.SelectionPlan.{SelectionPlan}
+use Rattle.plan_kit.specs.declared.cells.CellOf.{CellOf}
+use Rattle.plan_kit.specs.declared.cells.CellOf.TheVariants as shows
+use Rattle.plan_kit.specs.declared.marks.Along.{Along}
+use Rattle.plan_kit.specs.declared.marks.Look.{Look}
+use Rattle.plan_kit.specs.declared.marks.Look.TheVariants as look
+use Rattle.plan_kit.specs.declared.marks.LookWay.{LookWay}
+use Rattle.plan_kit.specs.declared.marks.MarkPlan.{MarkPlan}
+use Rattle.plan_kit.specs.declared.marks.Spot.{Spot}
+use Rattle.plan_kit.specs.declared.marks.Spot.TheVariants as spot
+use Rattle.plan_kit.specs.declared.marks.SpotWay.{SpotWay}
+use Rattle.plan_kit.specs.declared.marks.WordsWay.{WordsWay}
+use Rattle.plan_kit.specs.declared.plans.UnitPlan.{UnitPlan}
+use Rattle.plan_kit.specs.declared.steps.Step.{Step}
+use Rattle.plan_kit.specs.declared.steps.Step.TheVariants as step
+use Rattle.plan_kit.specs.declared.columns.Column.{Column}
+use Rattle.plan_kit.specs.declared.domains.DomainPlan.{DomainPlan}
+use Rattle.plan_kit.specs.declared.domains.DomainPlan.TheVariants as plan
+use Rattle.plan_kit.specs.declared.grids.FacetField.{FacetField}
+use Rattle.plan_kit.specs.declared.grids.FacetPlan.{FacetPlan}
+use Rattle.plan_kit.specs.declared.grids.GridPlan.{GridPlan}
+use Rattle.plan_kit.specs.declared.orders.CellOrder.{CellOrder}
+use Rattle.plan_kit.specs.declared.orders.CellOrder.TheVariants as stands
+use Rattle.plan_kit.specs.declared.orders.RowsOrder.{RowsOrder}
+use Rattle.plan_kit.specs.declared.plan.Plan.{Plan}
+use Rattle.plan_kit.specs.declared.scales.ScalePlan.{ScalePlan}
+use Rattle.plan_kit.specs.declared.selections.SelectionPlan.{SelectionPlan}
 
 -- names
 abbrev pub Names : Type 0

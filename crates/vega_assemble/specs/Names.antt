@@ -7,7 +7,7 @@ use Rattle.std.specs.Fmt.{decimal, digits}
 use Rattle.std.specs.List.{fold, list_any, list_all, starts_with}
 use Rattle.std.specs.Option.{option_map_or}
 use Rattle.case_table.specs.Names.{channels}
-use Rattle.chart_plan.specs.declared.scales.ScalePlan.{ScalePlan}
+use Rattle.plan_kit.specs.declared.scales.ScalePlan.{ScalePlan}
 
 -- ---- names
 

@@ -15,10 +15,10 @@ use Rattle.vega_spec.specs.declared.groupings.Lookup.{Lookup}
 use Rattle.vega_spec.specs.declared.groupings.Window.{Window}
 use Rattle.vega_spec.specs.declared.transforms.Transform.{Transform}
 use Rattle.vega_spec.specs.declared.transforms.Transform.TheVariants as vega
-use Rattle.unit_plan.specs.Joins.{joined, paired_times}
-use Rattle.unit_plan.specs.declared.cells.CellOf.{CellOf}
-use Rattle.unit_plan.specs.declared.cells.CellOf.TheVariants as shows
-use Rattle.chart_plan.specs.declared.orders.RowsOrder.{RowsOrder}
+use Rattle.plan_kit.specs.Joins.{joined, paired_times}
+use Rattle.plan_kit.specs.declared.cells.CellOf.{CellOf}
+use Rattle.plan_kit.specs.declared.cells.CellOf.TheVariants as shows
+use Rattle.plan_kit.specs.declared.orders.RowsOrder.{RowsOrder}
 use Rattle.vega_assemble.specs.Cells.{cell_expr, field_expr}
 use Rattle.vega_assemble.specs.Names.{begun_name, ranks_name, codes_name, cell_column, rank_column, key_column}
 use Rattle.vega_assemble.specs.Ranks.{over_none, counts, sum_code}

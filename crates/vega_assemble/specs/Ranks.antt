@@ -9,8 +9,8 @@ use Rattle.cell_value.specs.declared.cell.Cell.TheVariants as cell
 use Rattle.expr_syntax.specs.declared.expr.BinOp.TheVariants.{Or, And, Same}
 use Rattle.expr_syntax.specs.declared.expr.Expr.{Expr}
 use Rattle.expr_syntax.specs.declared.expr.Expr.TheVariants as expr
-use Rattle.unit_plan.specs.Joins.{joined, paired_times}
-use Rattle.unit_plan.specs.Literals.{literal, whole}
+use Rattle.plan_kit.specs.Joins.{joined, paired_times}
+use Rattle.plan_kit.specs.Literals.{literal, whole}
 
 -- ---- listed cells
 

@@ -12,16 +12,16 @@ use Rattle.vega_spec.specs.declared.scales.Range.TheVariants as range
 use Rattle.vega_spec.specs.declared.scales.Scale.{Scale}
 use Rattle.vl_normalize.specs.declared.codes.TheConstants.{X, Y}
 use Rattle.scale_infer.specs.declared.codes.TheConstants.{LINEAR, TIME, BAND, POINT, RAMP}
-use Rattle.unit_plan.specs.declared.marks.Along.{Along}
-use Rattle.unit_plan.specs.declared.marks.MarkPlan.{MarkPlan}
-use Rattle.unit_plan.specs.declared.marks.Spot.{Spot}
-use Rattle.unit_plan.specs.declared.marks.Spot.TheVariants as spot
-use Rattle.unit_plan.specs.declared.marks.SpotWay.{SpotWay}
-use Rattle.unit_plan.specs.declared.plans.UnitPlan.{UnitPlan}
+use Rattle.plan_kit.specs.declared.marks.Along.{Along}
+use Rattle.plan_kit.specs.declared.marks.MarkPlan.{MarkPlan}
+use Rattle.plan_kit.specs.declared.marks.Spot.{Spot}
+use Rattle.plan_kit.specs.declared.marks.Spot.TheVariants as spot
+use Rattle.plan_kit.specs.declared.marks.SpotWay.{SpotWay}
+use Rattle.plan_kit.specs.declared.plans.UnitPlan.{UnitPlan}
 use Rattle.guide_infer.specs.Axes.{is_continuous}
-use Rattle.chart_plan.specs.declared.ranges.RangePlan.{RangePlan}
-use Rattle.chart_plan.specs.declared.ranges.RangePlan.TheVariants as given
-use Rattle.chart_plan.specs.declared.scales.ScalePlan.{ScalePlan}
+use Rattle.plan_kit.specs.declared.ranges.RangePlan.{RangePlan}
+use Rattle.plan_kit.specs.declared.ranges.RangePlan.TheVariants as given
+use Rattle.plan_kit.specs.declared.scales.ScalePlan.{ScalePlan}
 use Rattle.vega_assemble.specs.Domains.{domain_written}
 use Rattle.vega_assemble.specs.Names.{scale_name, middle_name, foot_name}
 

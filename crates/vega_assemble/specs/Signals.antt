@@ -17,8 +17,8 @@ use Rattle.vl_spec.specs.declared.params.ParamKind.TheVariants as kind
 use Rattle.vl_spec.specs.declared.params.ParamOf.{ParamOf}
 use Rattle.vl_normalize.specs.declared.codes.TheConstants.{X, Y}
 use Rattle.selection_events.specs.declared.selection.DragOf.{DragOf}
-use Rattle.chart_plan.specs.declared.scales.ScalePlan.{ScalePlan}
-use Rattle.chart_plan.specs.declared.selections.SelectionPlan.{SelectionPlan}
+use Rattle.plan_kit.specs.declared.scales.ScalePlan.{ScalePlan}
+use Rattle.plan_kit.specs.declared.selections.SelectionPlan.{SelectionPlan}
 use Rattle.vega_assemble.specs.Drags.{dragged_name}
 use Rattle.vega_assemble.specs.Names.{mark_name}
 

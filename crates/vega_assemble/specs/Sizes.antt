@@ -8,10 +8,10 @@ use Rattle.expr_syntax.specs.declared.expr.Expr.{Expr}
 use Rattle.expr_syntax.specs.declared.expr.Expr.TheVariants as expr
 use Rattle.vega_spec.specs.declared.spec.Size.{Size}
 use Rattle.vega_spec.specs.declared.spec.Size.TheVariants as size
-use Rattle.chart_plan.specs.declared.plots.PlotPlan.{PlotPlan}
-use Rattle.chart_plan.specs.declared.scales.ScalePlan.{ScalePlan}
-use Rattle.chart_plan.specs.declared.sizes.SizePlan.{SizePlan}
-use Rattle.chart_plan.specs.declared.sizes.SizePlan.TheVariants as plan
+use Rattle.plan_kit.specs.declared.plots.PlotPlan.{PlotPlan}
+use Rattle.plan_kit.specs.declared.scales.ScalePlan.{ScalePlan}
+use Rattle.plan_kit.specs.declared.sizes.SizePlan.{SizePlan}
+use Rattle.plan_kit.specs.declared.sizes.SizePlan.TheVariants as plan
 use Rattle.vega_assemble.specs.declared.made.Extent.{Extent}
 use Rattle.vega_assemble.specs.Names.{scale_name}
 

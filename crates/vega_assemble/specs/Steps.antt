@@ -33,8 +33,8 @@ use Rattle.vega_spec.specs.declared.transforms.Stack.{Stack}
 use Rattle.vega_spec.specs.declared.transforms.TimeUnit.{TimeUnit}
 use Rattle.vega_spec.specs.declared.transforms.Transform.{Transform}
 use Rattle.vega_spec.specs.declared.transforms.Transform.TheVariants as vega
-use Rattle.unit_plan.specs.declared.steps.Step.{Step}
-use Rattle.unit_plan.specs.declared.steps.Step.TheVariants as step
+use Rattle.plan_kit.specs.declared.steps.Step.{Step}
+use Rattle.plan_kit.specs.declared.steps.Step.TheVariants as step
 use Rattle.vega_assemble.specs.Names.{none_name}
 
 -- a count as a number

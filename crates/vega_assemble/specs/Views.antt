@@ -7,15 +7,15 @@ use Rattle.std.specs.Option.{option_map_or}
 use Rattle.vega_spec.specs.declared.guides.Layout.{Layout}
 use Rattle.vega_spec.specs.declared.marks.Facet.{Facet}
 use Rattle.vega_spec.specs.declared.orders.Sort.{Sort}
-use Rattle.chart_plan.specs.declared.grids.FacetPlan.{FacetPlan}
-use Rattle.chart_plan.specs.declared.grids.GridColumns.{GridColumns}
-use Rattle.chart_plan.specs.declared.grids.GridColumns.TheVariants as columns
-use Rattle.chart_plan.specs.declared.grids.GridPlan.{GridPlan}
-use Rattle.chart_plan.specs.declared.plan.Plan.{Plan}
-use Rattle.chart_plan.specs.declared.plots.PlotPlan.{PlotPlan}
-use Rattle.chart_plan.specs.declared.scales.ScalePlan.{ScalePlan}
-use Rattle.chart_plan.specs.declared.views.ViewPlan.{ViewPlan, ViewPlan-F, fold-ViewPlan}
-use Rattle.chart_plan.specs.declared.views.ViewPlan.TheOpen as level
+use Rattle.plan_kit.specs.declared.grids.FacetPlan.{FacetPlan}
+use Rattle.plan_kit.specs.declared.grids.GridColumns.{GridColumns}
+use Rattle.plan_kit.specs.declared.grids.GridColumns.TheVariants as columns
+use Rattle.plan_kit.specs.declared.grids.GridPlan.{GridPlan}
+use Rattle.plan_kit.specs.declared.plan.Plan.{Plan}
+use Rattle.plan_kit.specs.declared.plots.PlotPlan.{PlotPlan}
+use Rattle.plan_kit.specs.declared.scales.ScalePlan.{ScalePlan}
+use Rattle.plan_kit.specs.declared.views.ViewPlan.{ViewPlan, ViewPlan-F, fold-ViewPlan}
+use Rattle.plan_kit.specs.declared.views.ViewPlan.TheOpen as level
 use Rattle.vega_assemble.specs.declared.views.Held.{Held}
 use Rattle.vega_assemble.specs.Drags.{copies_in, outer_names}
 use Rattle.vega_assemble.specs.Facets.{facet_over, parts_by, grids_inside, scales_inside}

@@ -8,7 +8,7 @@ ghost use Rattle.vega_assemble.specs.Signals.{signals_of};
 ghost use Rattle.vega_assemble.specs.Sources.{source_written};
 ghost use Rattle.vega_assemble.specs.Steps.{steps_written};
 ghost use Rattle.vega_assemble.specs.Assembled.{first_name, none_steps, none_list, unit_list, begun_list, scale_begins, is_begun, begun_lists};
-ghost use Rattle.vega_assemble.specs.Assembled.{lists_made, sets_of, written_with, written, assembled};
+ghost use Rattle.vega_assemble.specs.Assembled.{lists_made, sets_of, written_with, written};
 ghost use Rattle.vega_assemble.specs.inner.Groups.{lists_in, top_with};
 
 use crate::drags::push_all_outer;
@@ -23,11 +23,10 @@ use crate::sources::{list_made, source_written};
 use crate::stems::stem_for;
 use crate::steps::push_steps;
 use crate::views::{Holder, Opened, view_made};
-use chart_plan::{GridPlan, Plan, ScalePlan, plan_of};
 use expr_syntax::Expr;
+use plan_kit::{GridPlan, Plan, ScalePlan, UnitPlan};
 use std::alloc::Global;
 use text_kit::{OutOfMemory, Seq, Text};
-use unit_plan::UnitPlan;
 use vega_spec::{DataSet, Extent, Filter, Signal, Transform, VgSpec};
 use vl_spec::{SourceOf, VlSpec};
 
@@ -308,21 +307,13 @@ fn written_with(alloc: Global, stem: &Text, s: &VlSpec, p: &Plan) -> Result<VgSp
     top_of(alloc, stem, s, p, made)
 }
 
-// A plan written down.
-fn written(alloc: Global, s: &VlSpec, p: &Plan) -> Result<VgSpec, OutOfMemory>
+/// A plan of a specification, written down as one of Vega. Its sources and its parameters have the names of the specification, and the names that it
+/// makes besides differ from every name that the specification mentions. In time near linear in both for a given number of units; expressions are as
+/// high as the logarithm of the longest list. The one error is that memory is refused.
+pub fn written(alloc: Global, s: &VlSpec, p: &Plan) -> Result<VgSpec, OutOfMemory>
     ensures { IfOk result (λ g. g ≡ written s.now p.now) }
 {
     let names = mentioned(alloc, s, p)?;
     let stem = stem_for(alloc, names.as_slice())?;
     written_with(alloc, &stem, s, p)
-}
-
-/// The Vega specification of a Vega-Lite specification: its plan written down. Its sources and its parameters have the names of the specification,
-/// and the names that it makes besides differ from every name that the specification mentions. In time near linear in the specification for a given
-/// number of units; expressions are as high as the logarithm of the longest list. The one error is that memory is refused.
-pub fn assemble(alloc: Global, s: &VlSpec) -> Result<VgSpec, OutOfMemory>
-    ensures { IfOk result (λ g. g ≡ assembled s.now) }
-{
-    let plan = plan_of(alloc, s)?;
-    written(alloc, s, &plan)
 }

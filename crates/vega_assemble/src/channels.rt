@@ -11,12 +11,11 @@ use crate::names::{foot_name, middle_name, scale_name};
 use crate::numbers::millionths;
 use crate::several::{copied_beside, expr_beside};
 use cell_value::Cell;
-use chart_plan::ScalePlan;
 use expr_syntax::Expr;
 use fixed_num::Num;
+use plan_kit::{CellOf, Look, LookWay, ScalePlan, Spot, SpotWay, WordsWay};
 use std::alloc::Global;
 use text_kit::{Copies, OutOfMemory, Seq, Text};
-use unit_plan::{CellOf, Look, LookWay, Spot, SpotWay, WordsWay};
 use vega_spec::{Channel, ChannelValue};
 
 // ---- values

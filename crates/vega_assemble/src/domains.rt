@@ -11,10 +11,9 @@ ghost use Rattle.vega_assemble.specs.Domains.{ranked_order, order_written, if_di
 use crate::names::{cell_column, cells_name, rank_column, ranks_name, unit_name};
 use crate::ranks::{MIN, op_of_scale};
 use crate::steps::direction;
-use chart_plan::{CellOrder, Column, DomainPlan, RowCells, RowsOrder};
+use plan_kit::{CellOf, CellOrder, Column, DomainPlan, RowCells, RowsOrder};
 use std::alloc::Global;
 use text_kit::{Copies, OutOfMemory, Seq, Text};
-use unit_plan::CellOf;
 use vega_spec::{Domain, DomainOrder, FieldsDomain, Order, Reference};
 
 // ---- references

@@ -1,7 +1,7 @@
 // What drags invert.
 ghost use Rattle.std.specs.Prelude.{◌≡◌, ◌++◌, ◌∷◌, ◌==◌, [], map, flat_map, option_to_list, IfOk, OnOk, if◌then◌else◌};
 ghost use Rattle.std.specs.List.{enumerate_from, list_all};
-ghost use Rattle.chart_plan.specs.declared.domains.DomainPlan.TheVariants as plan;
+ghost use Rattle.plan_kit.specs.declared.domains.DomainPlan.TheVariants as plan;
 ghost use Rattle.vega_assemble.specs.Facets.{grids_inside, scales_inside};
 ghost use Rattle.vega_assemble.specs.Names.{drag_name};
 ghost use Rattle.vega_assemble.specs.Drags.{scales_along, differ, one_name, dragged_name, copies_along, copies, is_copied, references_of};
@@ -14,7 +14,7 @@ use crate::lists::is_among;
 use crate::names::{drag_name, outer_name, scale_name};
 use crate::scales::scale_over;
 use crate::sources::list_made;
-use chart_plan::{
+use plan_kit::{
     DomainPlan, DragPlan, FacetPlan, GridPlan, PlotPlan, RowCells, ScalePlan, SelectionPlan,
 };
 use std::alloc::Global;

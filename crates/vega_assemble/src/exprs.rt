@@ -1,13 +1,13 @@
 // Expressions that are made.
 ghost use Rattle.std.specs.Prelude.{◌≡◌, IfOk};
-ghost use Rattle.unit_plan.specs.Literals.{whole};
+ghost use Rattle.plan_kit.specs.Literals.{whole};
 ghost use Rattle.vega_assemble.specs.Cells.{cell_expr, field_expr};
 
 use crate::numbers::place_number;
 use expr_syntax::Expr;
+use plan_kit::{CellOf, literal};
 use std::alloc::Global;
 use text_kit::{OutOfMemory, Text};
-use unit_plan::{CellOf, literal};
 
 /// A cell that is shown.
 pub(crate) fn cell_expr(alloc: Global, cell: &CellOf) -> Result<Expr, OutOfMemory>

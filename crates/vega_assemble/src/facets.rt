@@ -1,7 +1,7 @@
 // Facets.
 ghost use Rattle.std.specs.Prelude.{◌≡◌, ◌++◌, map, flat_map, false, IfOk, OnOk};
 ghost use Rattle.std.specs.Option.{option_map_or};
-ghost use Rattle.chart_plan.specs.Shown.{is_among};
+ghost use Rattle.plan_kit.specs.Among.{is_among};
 ghost use Rattle.vega_spec.specs.declared.data.DataSet.{DataSet as ADataSet};
 ghost use Rattle.vega_assemble.specs.Names.{unit_name, keys_name};
 ghost use Rattle.vega_assemble.specs.Lists.{lists_of_scale};
@@ -12,7 +12,7 @@ use crate::keys::has_keys;
 use crate::lists::{field_names, is_among, push_lists};
 use crate::names::{keys_name, unit_name};
 use crate::several::copied_texts;
-use chart_plan::{FacetField, FacetPlan, GridPlan, ScalePlan};
+use plan_kit::{FacetField, FacetPlan, GridPlan, ScalePlan};
 use std::alloc::Global;
 use text_kit::{OutOfMemory, Seq, Text};
 use vega_spec::{Cross, DataSet, Facet, Header, Texts};

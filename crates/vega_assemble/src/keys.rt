@@ -19,12 +19,11 @@ use crate::several::one_of;
 use crate::sources::list_made;
 use crate::steps::sort_written;
 use cell_value::Cell;
-use chart_plan::{CellOrder, FacetField, FacetPlan, GridPlan, RowsOrder};
 use expr_syntax::{BinOp, Expr};
 use plain_rows::SortBy;
+use plan_kit::{CellOrder, FacetField, FacetPlan, GridPlan, RowsOrder, binary, joined, pair};
 use std::alloc::Global;
 use text_kit::{OutOfMemory, Seq, Text};
-use unit_plan::{binary, joined, pair};
 use vega_spec::{DataSet, Filter, Lookup, Sort, Transform};
 
 // ---- orders of fields

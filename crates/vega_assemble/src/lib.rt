@@ -27,4 +27,4 @@ mod stems;
 mod steps;
 mod views;
 
-pub use assembled::assemble;
+pub use assembled::written;

@@ -1,6 +1,6 @@
 // The lists that are there for the domain of a scale.
 ghost use Rattle.std.specs.Prelude.{◌≡◌, ◌++◌, ◌∷◌, [], map, option_to_list, IfOk, OnOk};
-ghost use Rattle.chart_plan.specs.Shown.{is_among};
+ghost use Rattle.plan_kit.specs.Among.{is_among};
 ghost use Rattle.expr_syntax.specs.declared.expr.Expr.TheVariants as expr;
 ghost use Rattle.vega_assemble.specs.Names.{cells_name, cell_column, unit_name};
 ghost use Rattle.vega_assemble.specs.Ranked.{cell_formula, rank_formula, codes_lists, column_steps};
@@ -16,13 +16,12 @@ use crate::ranks::listed_rank;
 use crate::several::{one_of, two_of};
 use crate::sources::list_made;
 use cell_value::Cell;
-use chart_plan::{
-    CellOrder, Column, DomainPlan, FacetPlan, GridPlan, RowCells, RowsOrder, ScalePlan,
-};
 use expr_syntax::Expr;
+use plan_kit::{
+    CellOf, CellOrder, Column, DomainPlan, FacetPlan, GridPlan, RowCells, RowsOrder, ScalePlan,
+};
 use std::alloc::Global;
 use text_kit::{OutOfMemory, Seq, Text};
-use unit_plan::CellOf;
 use vega_spec::{DataSet, Transform};
 
 // ---- lists that only a domain reads

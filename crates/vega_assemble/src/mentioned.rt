@@ -8,16 +8,15 @@ ghost use Rattle.vega_assemble.specs.Mentioned.{mentioned};
 ghost use Rattle.vega_assemble.specs.inner.Lent.{lent};
 
 use cell_value::SharedText;
-use chart_plan::{
-    CellOrder, Column, DomainPlan, FacetField, FacetPlan, GridPlan, Plan, RowsOrder, ScalePlan,
-    SelectionPlan,
-};
 use expr_syntax::Expr;
 use plain_rows::{BinOf, FoldOf, GroupOf, LookupOf, OpOf, SortBy, StackOf, TimeOf, WindowOf};
+use plan_kit::{
+    Along, CellOf, CellOrder, Column, DomainPlan, FacetField, FacetPlan, GridPlan, Look, LookWay,
+    MarkPlan, Plan, RowsOrder, ScalePlan, SelectionPlan, Spot, SpotWay, Step, UnitPlan, WordsWay,
+};
 use selection_events::DragOf;
 use std::alloc::Global;
 use text_kit::{OutOfMemory, Seq, Text};
-use unit_plan::{Along, CellOf, Look, LookWay, MarkPlan, Spot, SpotWay, Step, UnitPlan, WordsWay};
 use vl_spec::{ParamKind, ParamOf, SourceOf, VlSpec};
 
 // Adds a name.

@@ -3,13 +3,13 @@ ghost use Rattle.std.specs.Prelude.{◌≡◌, ◌++◌, [], option_map, slice_g
 ghost use Rattle.std.specs.Fmt.{decimal};
 ghost use Rattle.std.specs.Option.{option_map_or};
 ghost use Rattle.case_table.specs.declared.case.Case.{Case as ACase};
-ghost use Rattle.chart_plan.specs.declared.scales.ScalePlan.{ScalePlan as AScalePlan};
+ghost use Rattle.plan_kit.specs.declared.scales.ScalePlan.{ScalePlan as AScalePlan};
 ghost use Rattle.vega_assemble.specs.Names.{numbered, numbered_twice, none_name, unit_name, begun_name, cells_name, ranks_name, codes_name, outer_name};
 ghost use Rattle.vega_assemble.specs.Names.{orders_name, keys_name, cell_column, rank_column, key_column, mark_name, channel_word, scale_name};
 ghost use Rattle.vega_assemble.specs.Names.{middle_name, foot_name, drag_name};
 
 use case_table::{CHANNELS, Case};
-use chart_plan::ScalePlan;
+use plan_kit::ScalePlan;
 use std::alloc::Global;
 use text_kit::{OutOfMemory, Text};
 

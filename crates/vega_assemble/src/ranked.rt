@@ -2,7 +2,7 @@
 ghost use Rattle.std.specs.Prelude.{◌≡◌, ◌++◌, ◌∷◌, [], map, length, codes, IfOk, OnOk};
 ghost use Rattle.std.specs.List.{enumerate_from};
 ghost use Rattle.expr_syntax.specs.declared.expr.Expr.TheVariants as expr;
-ghost use Rattle.unit_plan.specs.declared.cells.CellOf.TheVariants as shows;
+ghost use Rattle.plan_kit.specs.declared.cells.CellOf.TheVariants as shows;
 ghost use Rattle.vega_spec.specs.declared.transforms.Transform.TheVariants as vega;
 ghost use Rattle.vega_assemble.specs.Cells.{field_expr};
 ghost use Rattle.vega_assemble.specs.Names.{key_column, rank_column};
@@ -16,11 +16,10 @@ use crate::ranks::{counts, over_none};
 use crate::several::{copied_text, copied_texts, one_of};
 use crate::sources::list_made;
 use cell_value::Cell;
-use chart_plan::RowsOrder;
 use expr_syntax::{BinOp, Expr};
+use plan_kit::{CellOf, RowsOrder, binary, joined};
 use std::alloc::Global;
 use text_kit::{Boxed, OutOfMemory, Seq, Text};
-use unit_plan::{CellOf, binary, joined};
 use vega_spec::{Aggregate, DataSet, Filter, Formula, Lookup, Transform, Window};
 
 /// The code of `row_number` among the operations.

@@ -2,17 +2,17 @@
 ghost use Rattle.std.specs.Prelude.{◌≡◌, ◌+◌, Some, None, IfOk};
 ghost use Rattle.expr_syntax.specs.declared.expr.Expr.TheVariants as expr;
 ghost use Rattle.expr_syntax.specs.declared.expr.BinOp.TheVariants.{Same, And, Or};
-ghost use Rattle.unit_plan.specs.Literals.{literal, whole};
-ghost use Rattle.unit_plan.specs.Joins.{joined};
+ghost use Rattle.plan_kit.specs.Literals.{literal, whole};
+ghost use Rattle.plan_kit.specs.Joins.{joined};
 ghost use Rattle.vega_assemble.specs.Ranks.{place_if, places_in, listed_rank, over_none, counts, op_of_scale};
 
 use crate::exprs::whole_place;
 use crate::numbers::millionths;
 use cell_value::Cell;
 use expr_syntax::{BinOp, Expr};
+use plan_kit::{binary, joined, literal};
 use std::alloc::Global;
 use text_kit::{OutOfMemory, Seq};
-use unit_plan::{binary, joined, literal};
 
 // The code of `sum` among the operations.
 const SUM: u16 = 4;

@@ -12,13 +12,12 @@ use crate::names::{foot_name, middle_name, scale_name};
 use crate::numbers::millionths;
 use crate::several::{expr_beside, two_of};
 use cell_value::Cell;
-use chart_plan::{RangePlan, ScalePlan};
 use fixed_num::Num;
 use guide_infer::is_continuous;
+use plan_kit::{Along, MarkPlan, RangePlan, ScalePlan, Spot, SpotWay, UnitPlan};
 use scale_infer::{BAND, LINEAR, POINT, RAMP, TIME};
 use std::alloc::Global;
 use text_kit::{Copies, OutOfMemory, Seq, Text};
-use unit_plan::{Along, MarkPlan, Spot, SpotWay, UnitPlan};
 use vega_spec::{Domain, Range, Scale};
 use vl_normalize::{X, Y};
 

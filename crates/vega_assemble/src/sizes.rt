@@ -6,12 +6,11 @@ use crate::made::Extent;
 use crate::names::scale_name;
 use crate::numbers::millionths;
 use crate::several::three_of;
-use chart_plan::{PlotPlan, ScalePlan, SizePlan};
 use expr_syntax::{BinOp, Expr};
 use fixed_num::Num;
+use plan_kit::{PlotPlan, ScalePlan, SizePlan, binary};
 use std::alloc::Global;
 use text_kit::{OutOfMemory, Text};
-use unit_plan::binary;
 use vega_spec::Size;
 
 /// The code of `bandspace` among the builtins.

@@ -15,9 +15,9 @@ use fixed_num::Num;
 use plain_rows::{
     BinOf, FoldOf, GroupOf, LookupOf, Offset as RowOffset, OpOf, SortBy, StackOf, TimeOf, WindowOf,
 };
+use plan_kit::Step;
 use std::alloc::Global;
 use text_kit::{Copies, OutOfMemory, Seq, Text};
-use unit_plan::Step;
 use vega_spec::{
     Aggregate, Bin, BinExtent, Filter, Fold, Formula, Frame, Lookup, Offset, Order, Orders, Sort,
     Stack, Texts, TimeUnit, Transform, Window,

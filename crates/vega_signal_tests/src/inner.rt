@@ -22,7 +22,9 @@ m = 1000000000000000 + 1 & a = true ? true : m; b = m -> a=true b=none\n\
 m = 1000000000000000 + 1 & m = 2; a = m -> m=2 a=2\n\
 m = 1000000000000000 + 1 & m: 2; a = m -> m=2 a=2\n\
 n = m; m = 1000000000000000 + 1 & m = n -> m=none\n\
-k: 7 & a = k + 1000000000000000 -> a=none\n";
+k: 7 & a = k + 1000000000000000 -> a=none\n\
+& a = !b; b = a; c = a; d = b; e = c -> a=true b=false c=false d=false e=false\n\
+& k: 1; k = 2; a = k; b = a; c = b; d = c -> k=1 k=2 a=1 b=1 c=1 d=1\n";
 
 // Why a line has no answer.
 #[derive(Drop)]

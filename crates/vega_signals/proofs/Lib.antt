@@ -4,3 +4,5 @@ mod RoundLemmas
 mod AgreeLemmas
 mod OrderLaw
 mod InnerLaw
+mod KnownLemmas
+mod PlaceLemmas

@@ -1,6 +1,6 @@
 -- Where signals stand in an order, they settle.
 use Rattle.std.proofs.Common.{◌≡◌, ℕ, zero, suc, ◌≤◌, Bool, true, false, cond, List, [], ◌∷◌, ◌++◌, append_assoc, ◌||◌, flat_map, length}
-use Rattle.std.proofs.Common.{All, Option, Some, None, unwrap_or, refl, sym, ap, ap₂, ◌∙◌, arith}
+use Rattle.std.proofs.Common.{All, Option, Some, None, Result, Ok, Err, IfSome, IfOk, unwrap_or, refl, sym, ap, ap₂, ◌∙◌, subst, arith}
 use Rattle.std.specs.Option.{option_map, option_map_or}
 use Rattle.std.specs.Str.{bytes_eq}
 use Rattle.std.proofs.lemmas.List.{append-nil}
@@ -8,6 +8,7 @@ use Rattle.std.proofs.lemmas.List.Folds.{list_any-append}
 use Rattle.std.specs.List.{list_any}
 use Rattle.fixed_num.specs.Ranges.{◌>>=◌}
 use Rattle.expr_syntax.proofs.Grounds.{bytes_true}
+use Rattle.text_kit.specs.declared.memory.OutOfMemory.{OutOfMemory}
 use Rattle.cell_value.specs.declared.cell.Cell.{Cell}
 use Rattle.cell_value.specs.declared.cell.Cell.TheVariants.{Null}
 use Rattle.cell_value.specs.State.{Dataset}
@@ -35,9 +36,9 @@ use Rattle.vega_lists.specs.Transforms.{transformed, transforms_of}
 use Rattle.vega_lists.specs.Lists.{begun_rows}
 use Rattle.vega_signals.specs.Extents.{Settled, update_of, is_computed, computed_here, extent_asked, extent_over, extent_here, rows_left}
 use Rattle.vega_signals.specs.Extents.{all_left, extents_in, set_extents}
-use Rattle.vega_signals.specs.Settling.{as_given, is_own, first_named, values_inside, own_names, own_after}
+use Rattle.vega_signals.specs.Settling.{as_given, is_own, first_named, values_inside, own_names, next_own, own_after}
 use Rattle.vega_signals.specs.Needs.{Need, Reads, no_reads, with_reads, extent_reads, transform_reads, all_reads, begun_reads, extent_needs}
-use Rattle.vega_signals.specs.Needs.{set_needs, computed_needs, own_needs, AreInOrder}
+use Rattle.vega_signals.specs.Needs.{set_needs, computed_needs, own_needs, IsPlaced, AreInOrder}
 use Rattle.vega_signals.specs.Laws.{SettleInOrder}
 use Rattle.vega_signals.proofs.InnerLaw.{or_else}
 use Rattle.vega_signals.proofs.AgreeLemmas.{SameNamed, AgreeOn, reading, front, back, same_value}
@@ -327,6 +328,67 @@ module _ (sources : List Dataset) (lists : Scope) (outer : Values) (given : Sett
       let lesser = (order k d lt).lesser i m below in let bounded = (order k d lt).bounded in omega (arith, lesser, bounded, e)) in
       next_is (suc n) ∙ ap (λ l. given ++ l) (sym (all_same_values outer v w (made_by v) (made_by w) needs (follow v w) each)) ∙ sym (next_is n)
 
+  -- values that a round leaves as they are
+  module _ (now : Settled) (fixed : next_own sources lists outer given signals sets now ≡ now) where
+    abbrev read_now : Values
+    read_now = values_inside now outer
+
+    now_is : now ≡ given ++ made_by read_now
+    now_is = sym fixed ∙ append_assoc given (computed_by read_now) (set_extents (reading outer read_now) sources lists sets)
+
+    -- they are what a signal has after as many rounds as its place says
+    read_so : (n : ℕ) (name : List ℕ) → place name ≤ n → SameNamed (read_at n) read_now name
+    read_so zero name le =
+        let v = read_now in
+        let none : All (λ (d : Need). d.0 ≡ name → ⊥) needs =
+        λ k d lt e. let from_one = (order k d lt).from_one in let same = ap place e in omega (arith, from_one, same, le) in
+        same_behind (read_at 0) v name [] (made_by v) (ap (λ l. values_inside l outer) (sym (append-nil given))) (ap (λ l. values_inside l outer) now_is)
+        (sym (absent outer v v name (outer.value name) (made_by v) (made_by v) needs (follow v v) none))
+        (sym (not_own outer v v name (made_by v) (made_by v) needs (follow v v) none))
+    read_so (suc n) name le =
+        let v = read_at n in
+        let w = read_now in
+        let each : All (λ (d : Need). d.0 ≡ name → AgreeOn v w d.1) needs =
+        λ k d lt e. agree v w place n (read_so n) _
+        (λ i m below. let lesser = (order k d lt).lesser i m below in let same = ap place e in omega (arith, lesser, same, le)) in
+        same_behind (read_at (suc n)) w name (made_by v) (made_by w)
+        (ap (λ l. values_inside l outer) (next_is n)) (ap (λ l. values_inside l outer) now_is)
+        (named_same outer v w name (outer.value name) (made_by v) (made_by w) needs (follow v w) each)
+        (own_same outer v w name (made_by v) (made_by w) needs (follow v w))
+
+    settled_by : (n : ℕ) → length (own_names signals sets) ≡ n → now ≡ after n
+    settled_by zero e =
+        let v = read_now in
+        let none : All (λ (d : Need). ⊥) needs =
+        λ k d lt. let from_one = (order k d lt).from_one in let bounded = (order k d lt).bounded in omega (arith, from_one, bounded, e) in
+        now_is ∙ ap (λ l. given ++ l) (no_values_there outer v v (made_by v) (made_by v) needs (follow v v) none) ∙ append-nil given
+    settled_by (suc n) e =
+        let v = read_at n in
+        let w = read_now in
+        let each : All (λ (d : Need). AgreeOn v w d.1) needs =
+        λ k d lt. agree v w place n (read_so n) _ (λ i m below.
+        let lesser = (order k d lt).lesser i m below in let bounded = (order k d lt).bounded in omega (arith, lesser, bounded, e)) in
+        now_is ∙ ap (λ l. given ++ l) (sym (all_same_values outer v w (made_by v) (made_by w) needs (follow v w) each)) ∙ sym (next_is n)
+
 pub settle_in_order : SettleInOrder
 settle_in_order sources lists outer given signals sets place order =
     by_count sources lists outer (as_given given) signals sets place order (length (own_names signals sets)) refl
+
+-- where signals stand in an order, values that a round leaves as they are are those at which they settle
+pub fixed_settled : (sources : List Dataset) (lists : Scope) (outer : Values) (given : Settled) (signals : List Signal) (sets : List DataSet)
+    (place : List ℕ → ℕ) → AreInOrder signals sets place → (now : Settled) → next_own sources lists outer given signals sets now ≡ now
+    → now ≡ own_after sources lists outer given signals sets (length (own_names signals sets))
+fixed_settled sources lists outer given signals sets place order now fixed =
+    settled_by sources lists outer given signals sets place order now fixed (length (own_names signals sets)) refl
+
+-- the same of values that may be found
+pub settled_found : (sources : List Dataset) (lists : Scope) (outer : Values) (given : Settled) (signals : List Signal) (sets : List DataSet) (most : ℕ)
+    → most ≡ length (own_names signals sets) → (place : List ℕ → ℕ) → All (IsPlaced place most) (own_needs signals sets)
+    → (result : Result (Option Settled) OutOfMemory)
+    → IfOk result (λ found. IfSome found (λ now. next_own sources lists outer given signals sets now ≡ now))
+    → IfOk result (λ found. IfSome found (λ now. now ≡ own_after sources lists outer given signals sets most))
+settled_found sources lists outer given signals sets most is place placed (Ok (Some now)) fixed =
+    let order : AreInOrder signals sets place = subst (λ (n : ℕ). All (IsPlaced place n) (own_needs signals sets)) is placed in
+    fixed_settled sources lists outer given signals sets place order now fixed ∙ ap (own_after sources lists outer given signals sets) (sym is)
+settled_found sources lists outer given signals sets most is place placed (Ok None) fixed = tt
+settled_found sources lists outer given signals sets most is place placed (Err refused) fixed = tt

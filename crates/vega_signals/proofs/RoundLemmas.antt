@@ -1,7 +1,7 @@
 -- Rounds of the values of signals.
 use Rattle.std.proofs.Common.{◌≡◌, ℕ, zero, suc, ◌+◌, ◌-◌, ◌<◌, ◌≤◌, Bool, true, false, cond, List, [], ◌∷◌, ◌++◌, take, map, filter}
 use Rattle.std.proofs.Common.{flat_map, length, get_or, Option, Some, None, length-append, append_assoc, add-one, max, Result, Ok, Err}
-use Rattle.std.proofs.Common.{IfOk, refl, sym, ap, ap₂, ◌∙◌, arith}
+use Rattle.std.proofs.Common.{IfOk, IfSome, refl, sym, ap, ap₂, ◌∙◌, subst, arith}
 use Rattle.std.specs.List.{filter_map, cons_option}
 use Rattle.std.specs.Option.{option_map_or}
 use Rattle.std.proofs.Math.Seq.{take-suc}
@@ -114,6 +114,18 @@ module _ (sources : List Dataset) (lists : Scope) (outer : Values) (params : Set
       let total : length first ≡ length params + length (own_names signals sets) = ap length e ∙ counted params in
       let more : rounds ≡ max 1 (length (own_names signals sets)) = omega arith in
       h ∙ by_count (length (own_names signals sets)) rounds refl more
+
+  -- where there are more rounds than one, there are as many as signals that aren't given
+  pub counted_rounds : (first : Settled) (rounds : ℕ) → first ≡ next_own sources lists outer params signals sets params
+      → rounds ≡ max 1 (length first - length params) → 1 < rounds → rounds ≡ length (own_names signals sets)
+  counted_rounds first rounds e is more =
+      let total : length first ≡ length params + length (own_names signals sets) = ap length e ∙ counted params in
+      omega (arith, total, is, more)
+
+-- what was found after some rounds
+pub found_as : (after : ℕ → Settled) (found : Option Settled) (now : Settled) (rounds n : ℕ) → found ≡ Some now
+    → IfSome found (λ now. now ≡ after rounds) → rounds ≡ n → now ≡ after n
+found_as after found now rounds n is holds same = subst (λ o. IfSome o (λ now. now ≡ after rounds)) is holds ∙ ap after same
 
 flat_more : {X Y : Type 0} (f : X → List Y) (xs : List X) (x : X) → flat_map f (xs ++ x ∷ []) ≡ flat_map f xs ++ f x
 flat_more f [] x = append-nil (f x)

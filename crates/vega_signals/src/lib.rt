@@ -4,11 +4,15 @@
 mod evaluation;
 mod extents;
 mod inside;
+mod known;
 mod lacking;
 mod laws;
 mod lists;
 mod lookups;
+mod needs;
+mod order;
 mod params;
+mod placed;
 mod rounds;
 mod signals;
 mod steps;

@@ -11,10 +11,10 @@ use Rattle.vl_compose.specs.declared.here.UnitHere.{UnitHere}
 use Rattle.vl_compose.specs.Rounds.{ViewAt}
 use Rattle.vl_compose.specs.Shown.{unit_shown}
 use Rattle.vl_compose.specs.Units.{UnitAt}
-use Rattle.chart_plan.specs.declared.plots.PlotPlan.{PlotPlan}
-use Rattle.chart_plan.specs.declared.scales.ScalePlan.{ScalePlan}
-use Rattle.chart_plan.specs.declared.selections.DragPlan.{DragPlan}
-use Rattle.chart_plan.specs.declared.selections.SelectionPlan.{SelectionPlan}
+use Rattle.plan_kit.specs.declared.plots.PlotPlan.{PlotPlan}
+use Rattle.plan_kit.specs.declared.scales.ScalePlan.{ScalePlan}
+use Rattle.plan_kit.specs.declared.selections.DragPlan.{DragPlan}
+use Rattle.plan_kit.specs.declared.selections.SelectionPlan.{SelectionPlan}
 use Rattle.guide_infer.specs.First.{first_given}
 use Rattle.chart_plan.specs.Plots.{number_in}
 use Rattle.chart_plan.specs.Scales.{seen_by}

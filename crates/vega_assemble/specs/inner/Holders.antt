@@ -3,8 +3,8 @@ use Rattle.std.specs.Prelude.{ℕ, Option, Some, None, List, []}
 use Rattle.vega_spec.specs.declared.marks.Facet.{Facet}
 use Rattle.vega_spec.specs.declared.orders.Sort.{Sort}
 use Rattle.vega_spec.specs.declared.spec.VgMark.{VgMark}
-use Rattle.chart_plan.specs.declared.grids.GridPlan.{GridPlan}
-use Rattle.chart_plan.specs.declared.plan.Plan.{Plan}
+use Rattle.plan_kit.specs.declared.grids.GridPlan.{GridPlan}
+use Rattle.plan_kit.specs.declared.plan.Plan.{Plan}
 use Rattle.vega_assemble.specs.declared.views.Held.{Held}
 use Rattle.vega_assemble.specs.declared.views.Holder.{Holder}
 use Rattle.vega_assemble.specs.declared.views.Holder.TheVariants as holder

@@ -1,6 +1,6 @@
 use Rattle.std.proofs.Common.{◌≡◌, List, ◌∙◌, length, refl, subst}
 use Rattle.std.specs.Prelude.{IfOk}
-use Rattle.chart_plan.specs.declared.selections.SelectionPlan.{SelectionPlan}
+use Rattle.plan_kit.specs.declared.selections.SelectionPlan.{SelectionPlan}
 use Rattle.chart_plan.proofs.MarkedLemmas.{all_same}
 use Rattle.chart_plan.proofs.selections.selections_of.Goals as goal
 

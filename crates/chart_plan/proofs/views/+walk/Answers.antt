@@ -1,7 +1,7 @@
 use Rattle.std.proofs.Common.{◌≡◌, ◌≤◌, [], ◌∷◌, ◌++◌, ap, length, map, subst, sym, ◌∙◌, arith}
 use Rattle.std.specs.Prelude.{IfOk}
 use Rattle.chart_plan.specs.declared.views.Counted.{Counted}
-use Rattle.chart_plan.specs.declared.views.ViewPlan.{ViewPlan}
+use Rattle.plan_kit.specs.declared.views.ViewPlan.{ViewPlan}
 use Rattle.chart_plan.specs.Views.{in_row, tree_of}
 use Rattle.chart_plan.proofs.ViewLemmas.{view_is, unit_is, layered_is, facet_is, join_is, faceted_made, joined_made, one_more, all_done}
 use Rattle.chart_plan.proofs.views.+walk.Goals as goal

@@ -1,7 +1,7 @@
 use Rattle.std.proofs.Common.{◌≡◌, sym, subst}
 use Rattle.std.specs.Prelude.{IfOk}
 use Rattle.chart_plan.specs.declared.views.Counted.{Counted}
-use Rattle.chart_plan.specs.declared.views.ViewPlan.{ViewPlan}
+use Rattle.plan_kit.specs.declared.views.ViewPlan.{ViewPlan}
 use Rattle.chart_plan.proofs.ViewLemmas.{layer_is}
 use Rattle.chart_plan.proofs.views.layer_tree.Goals as goal
 

@@ -1,7 +1,7 @@
 use Rattle.std.proofs.Common.{◌≡◌, drop}
 use Rattle.std.specs.List.{list_any}
 use Rattle.vega_assemble.specs.Keys.{wants_key}
-use Rattle.chart_plan.specs.declared.grids.FacetField.{FacetField}
+use Rattle.plan_kit.specs.declared.grids.FacetField.{FacetField}
 use Rattle.vega_assemble.proofs.keys.has_keys.Given as goal
 
 abbrev pub invariant-loop-field : goal.invariant-loop-field

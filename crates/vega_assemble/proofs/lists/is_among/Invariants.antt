@@ -1,5 +1,5 @@
 use Rattle.std.proofs.Common.{◌≡◌, drop}
-use Rattle.chart_plan.specs.Shown.{is_among}
+use Rattle.plan_kit.specs.Among.{is_among}
 use Rattle.vega_assemble.proofs.lists.is_among.Given as goal
 
 abbrev pub invariant-loop-number : goal.invariant-loop-number

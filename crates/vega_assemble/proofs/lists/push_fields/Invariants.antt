@@ -1,5 +1,5 @@
 use Rattle.std.proofs.Common.{◌≡◌, ◌++◌, drop, map}
-use Rattle.chart_plan.specs.declared.grids.FacetField.{FacetField}
+use Rattle.plan_kit.specs.declared.grids.FacetField.{FacetField}
 use Rattle.vega_assemble.proofs.lists.push_fields.Given as goal
 
 abbrev pub invariant-loop-field : goal.invariant-loop-field

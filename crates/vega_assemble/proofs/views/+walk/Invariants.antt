@@ -1,5 +1,5 @@
 use Rattle.std.proofs.Common.{◌≡◌, ◌+◌, ◌*◌, ◌++◌, drop, map}
-use Rattle.chart_plan.specs.declared.views.ViewPlan.{size-ViewPlan}
+use Rattle.plan_kit.specs.declared.views.ViewPlan.{size-ViewPlan}
 use Rattle.vega_assemble.specs.Made.{rolled}
 use Rattle.vega_assemble.specs.Views.{joined, view_made}
 use Rattle.vega_assemble.proofs.views.+walk.Given as goal

@@ -15,4 +15,4 @@ returns-then-are_same g c =
     let next : Settled → Settled = next_own sources lists outer object.given.now object.signals.now object.sets.now in
     let within : c.loop-round.round ≤ c.args.rounds = omega arith in
     settled_at next (own_after sources lists outer object.given.now object.signals.now object.sets.now) (λ n. refl) c.loop-round.round c.args.rounds
-    c.loop-round.now c.in_ok-next.next within c.loop-round.invariant (c.in_ok-next.ensures ∙ ap next c.as_slice.ensures) (c.are_same.ensures c.if-are_same.true)
+    c.loop-round.now c.in_ok-next.next within c.loop-round.invariant (c.in_ok-next.ensures ∙ ap next c.as_slice.ensures) (c.are_same.ensures.0 c.if-are_same.true)

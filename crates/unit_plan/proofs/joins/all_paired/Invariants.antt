@@ -1,9 +1,0 @@
-use Rattle.std.proofs.Common.{◌≡◌}
-use Rattle.unit_plan.specs.Joins.{paired_times}
-use Rattle.unit_plan.proofs.joins.all_paired.Given as goal
-
-abbrev pub invariant-loop-times : goal.invariant-loop-times
-invariant-loop-times l = paired_times l.op l.times l.left ≡ paired_times l.op 64 l.fn.es
-
-abbrev pub decreases-loop-times : goal.decreases-loop-times
-decreases-loop-times l = l.times

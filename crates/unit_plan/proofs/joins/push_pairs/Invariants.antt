@@ -1,7 +1,0 @@
-use Rattle.std.proofs.Common.{◌≡◌, ◌++◌, map}
-use Rattle.std.specs.Vec.Iter.{into_iter_items}
-use Rattle.unit_plan.specs.Joins.{pair_of}
-use Rattle.unit_plan.proofs.joins.push_pairs.Given as goal
-
-abbrev pub invariant-loop-two : goal.invariant-loop-two
-invariant-loop-two l = l.out ++ map (pair_of l.op) (into_iter_items l.two-iterator) ≡ l.initial.out ++ map (pair_of l.op) l.fn.chunks
